@@ -217,3 +217,42 @@ def test_results_of_two_days_are_not_one(
         )
     assert audited(text_of(rows), [], tmp_path) == 1
     assert "results of two days" in capsys.readouterr().err
+
+
+BOOK = "new,A,bid,10.02,300,,,,,,\nnew,B,bid,10.00,200,,,,,,\nnew,C,ask,10.00,400,,,,,,\n"
+"""At 10.02 300 trade and 100 asks are left; at 10.00, the lawful price, 400, and 100 bids."""
+
+
+def test_what_follows_from_a_wrong_price_is_told_under_it(
+    tmp_path: Path, capsys: pytest.CaptureFixture[str]
+) -> None:
+    text = BOOK + "uncross,,ask,10.02,300,100,opening,1,,,\n"
+    lines = lines_of(text + "trade,,,10.02,300,,opening,,A,C,\n", "opening", tmp_path, capsys)
+    assert "findings 1" in lines and ": price: recorded 10.02, lawful 10.00: " in lines[0]
+    assert sorted(line.strip() for line in lines[1 : lines.index("findings 1")]) == [
+        "side: recorded ask, lawful bid",
+        "trade: recorded no such trade, lawful bid B ask C: 100 at 10.00",
+        "volume: recorded 300, lawful 400",
+    ]
+
+
+def test_what_follows_from_a_wrong_volume_is_told_under_it(
+    tmp_path: Path, capsys: pytest.CaptureFixture[str]
+) -> None:
+    text = BOOK + "uncross,,bid,10.00,350,150,opening,2,,,\ntrade,,,10.00,300,,opening,,A,C,\n"
+    lines = lines_of(text + "trade,,,10.00,50,,opening,,B,C,\n", "opening", tmp_path, capsys)
+    assert "findings 1" in lines and ": volume: recorded 350, lawful 400: " in lines[0]
+    assert [line.strip() for line in lines[1:3]] == [
+        "surplus: recorded 150, lawful 100",
+        "trade: recorded bid B ask C: 50 at 10.00, lawful bid B ask C: 100 at 10.00",
+    ]
+
+
+def test_what_does_not_follow_is_a_finding_of_its_own(
+    tmp_path: Path, capsys: pytest.CaptureFixture[str]
+) -> None:
+    """Of 350 shares A has 300 before B, and not 150; 100 is the surplus of 400."""
+    text = BOOK + "uncross,,bid,10.00,350,100,opening,2,,,\ntrade,,,10.00,150,,opening,,A,C,\n"
+    lines = lines_of(text + "trade,,,10.00,200,,opening,,B,C,\n", "opening", tmp_path, capsys)
+    assert "findings 3" in lines and ": volume: recorded 350, lawful 400: " in lines[0]
+    assert lines[1].startswith("row 6, opening: ")

@@ -4,12 +4,23 @@ from collections.abc import Iterator, Sequence
 
 from callauction.verdict.comparing import Difference, Fill, Trade, keys_of
 from callauction.verdict.context import Context
+from callauction.verdict.following import following
 
 
 def grouped(context: Context, differences: Sequence[Difference]) -> list[list[Difference]]:
     """The differences of an uncross, those of trades and fills that are of one jump being one
-    group; of these, and in each, those of most shares come first, behind the published items.
+    group; of these, and in each, those of most shares come first, behind the published items. What
+    follows from a wrong price or volume is one group with it, the first.
     """
+    under = following(context, differences)
+    if under:
+        left = [it for it in differences if not any(it is each for each in under)]
+        return [under, *_by_jump(context, left)]
+    return _by_jump(context, differences)
+
+
+def _by_jump(context: Context, differences: Sequence[Difference]) -> list[list[Difference]]:
+    """The differences, those of one jump being one group."""
     movable = [it for it in differences if _is_made(it)]
     if len(movable) < 2 or context.judged.result is None:
         return [[each] for each in differences]
