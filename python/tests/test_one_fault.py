@@ -13,7 +13,7 @@ HEADER = "event,order,side,price,quantity,surplus,auction,trades,bid,ask,time\n"
 def lines_of(
     text: str, auctions: str, folder: Path, capsys: pytest.CaptureFixture[str], status: int = 4
 ) -> list[str]:
-    """What an audit of a day prints, on standard error last, its trades and results in HEADER's columns."""
+    """What an audit of a day of HEADER's columns prints, on standard error last."""
     path = folder / "day.csv"
     path.write_text(HEADER + text)
     words = ["audit", str(path), "--reference", "10", "--tick-size", "0.01", "--quantity", "open"]

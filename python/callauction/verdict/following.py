@@ -31,7 +31,8 @@ def _of_price(
     price gives it, of a surplus and a side that are left then, and of trades in the priority.
     """
     sums = [sum(shares for _, shares in _queue(context, side, at)) for side in ("bid", "ask")]
-    recorded, is_given = int(context.rows.quantity[context.judged.place]), at != context.result.price
+    recorded = int(context.rows.quantity[context.judged.place])
+    is_given = at != context.result.price
     volume = min(sums) if recorded < 0 or is_given else recorded
     if is_given and recorded not in (volume, -1):
         return

@@ -2,6 +2,7 @@
 of them shows alone is in doubt.
 """
 import dataclasses
+import functools
 from collections.abc import Callable, Sequence
 
 import numpy
@@ -24,16 +25,22 @@ def standing(first: Judgement, day: Day, changes: Sequence[Change]) -> Judgement
     what the first judgement shows too; all else of both is in doubt. The first one where no reading
     has fewer certain differences. Raises ProgramError.
     """
-    late = _placed(day[0], first)
-    others = [*changes, *([(lambda it: (late, it[1]), LATE)] if late is not None else [])]
-    best = first
-    for change, why in others:
+    late, best = _placed(day[0], first), first
+    those: list[Change] = [*changes]
+    if late is not None:
+        those.append((functools.partial(_with_rows, late), LATE))
+    for change, why in those:
         rows, rules = change(day)
         if rows.labels is day[0].labels and _certain(best) > 1:
             found = _merged(first, Judge(rows, rules).judge(), day[0], why)
             if 0 < _certain(found) < _certain(best):
                 best = found
     return best
+
+
+def _with_rows(rows: Rows, day: Day) -> Day:
+    """The day with other rows."""
+    return rows, day[1]
 
 
 def _certain(judgement: Judgement) -> int:
