@@ -269,7 +269,7 @@ def test_insecure_says_what_it_means(tmp_path: pathlib.Path) -> None:
 
 def test_tls(tmp_path: pathlib.Path) -> None:
     cert, key = tmp_path / "cert.pem", tmp_path / "key.pem"
-    words = "openssl req -x509 -newkey ec -pkeyopt ec_paramgen_curve:prime256v1 -nodes -days 2"
+    words = "openssl req -x509 -newkey ec -pkeyopt ec_paramgen_curve:prime256v1 -nodes -days 30"
     files = ["-subj", "/CN=venue", "-keyout", str(key), "-out", str(cert)]
     named = ["-addext", "subjectAltName=IP:127.0.0.1"]
     subprocess.run([*words.split(), *files, *named], check=True, capture_output=True)
