@@ -573,6 +573,10 @@ def test_the_packages_config_for_cmake(release: pathlib.Path, tmp_path: pathlib.
     use_by_cmake(tmp_path / "a root/usr", tmp_path)
 
 
+WITH_PROC = 'mount --rbind /proc "$0/proc" && exec chroot "$0" "$@"'
+"""Runs a command in a root that has /proc, without which no journal is opened."""
+
+
 @contextlib.contextmanager
 def fresh_root(folder: pathlib.Path, packages: str) -> Iterator[pathlib.Path | None]:
     """A fresh root of Debian 12 with these packages; None where there can be none."""
@@ -621,10 +625,11 @@ def test_debians_packages(
         assert "libcallauction.so.1" in done(*in_root, "ldd", "/tmp/user")
         assert (root / "usr/share/man/man1").is_dir()
         assert "callboard:" in (root / "etc/passwd").read_text()
+        with_proc = ("unshare", "--mount", "sh", "-c", WITH_PROC, root)
         checked = ("python3", "-P", "-m", "callauction.venue", "--check", "--folder", "/tmp/venue")
-        assert "/tmp/venue: not there yet\n" in done(*in_root, *checked)
+        assert "/tmp/venue: not there yet\n" in done(*with_proc, *checked)
         (root / "tmp/fix.toml").write_text('[fix]\n[fix.sessions]\nALICE = "Alice"\n')
-        assert ", 1 sessions\n" in done(*in_root, *checked, "--day", "/tmp/fix.toml")
+        assert ", 1 sessions\n" in done(*with_proc, *checked, "--day", "/tmp/fix.toml")
         done(*in_root, "dpkg", "--purge", *reversed(DEBIAN))
         assert files_of(root) - before <= OF_A_USER
 

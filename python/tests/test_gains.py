@@ -7,7 +7,7 @@ import pytest
 from callauction import RecordedAuction, Side
 from callauction.gains import GAINED, GAINS, gains_of, most_possible
 from days import EXAMPLES, day_of
-from hypothesis import given, strategies
+from hypothesis import given, settings, strategies
 
 BID, ASK = Side.BID, Side.ASK
 
@@ -85,6 +85,7 @@ SIDES = strategies.lists(
 )
 
 
+@settings(deadline=None)
 @given(SIDES, SIDES)
 def test_the_most_that_was_possible(
     bids: list[tuple[int, int]], asks: list[tuple[int, int]]
