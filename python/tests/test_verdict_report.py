@@ -204,7 +204,8 @@ def test_many_findings_are_below_the_verdict() -> None:
     assert len(verdict.findings) > page.MOST_FIRST
     text = page.html_of(verdict, "day")
     links = re.findall(r'<a href="#part-', text[: text.index("<main>")])
-    assert len(links) == len(sections(text)) == 7
+    assert len(links) == len(sections(text)) == 8
+    assert sections(text)[-1] == "Notes"  # no column has restrictions
     assert text.count('<h3 id="finding-') == min(len(verdict.findings), page.MOST_EXPLAINED)
     assert {cells[6] for cells in cells_of(text, "queue-1-table")} == {"10.00"}
 
