@@ -91,22 +91,27 @@ def overtaken(folder: pathlib.Path, venue: served.Served, peer: Peer) -> None:
     assert '"a2"' not in (folder / held.LOG).read_text("utf-8")
 
 
+WRONG = ("", "3", "")
+"""The Reject of what QuickFIX finds wrong."""
+EACH_ONCE = [
+    WRONG,
+    ("a1", "8", "0"),
+    ("a2", "8", "0"),
+    ("a3", "8", "0"),
+    ("f1", "9", "8"),
+    ("last", "8", "0"),
+    ("none", "8", "8"),
+]
+"""An answer to each message: its ClOrdID, its type, and what it says of the order."""
+
+
 def test_an_answer_overtakes_orders(tmp_path: pathlib.Path) -> None:
     """They are asked for again, and what came after them isn't done once more; what QuickFIX finds
     wrong it says again.
     """
     peer, asked, journal = killed(tmp_path, overtaken)
     assert asked == 3
-    assert told(peer) == sorted([
-        ("", "3", ""),
-        ("", "3", ""),
-        ("a1", "8", "0"),
-        ("a2", "8", "0"),
-        ("a3", "8", "0"),
-        ("f1", "9", "8"),
-        ("last", "8", "0"),
-        ("none", "8", "8"),
-    ])
+    assert told(peer) == sorted([*EACH_ONCE, WRONG])
     assert entered(journal) == 4
 
 
@@ -127,15 +132,7 @@ def test_an_answer_is_behind_orders(tmp_path: pathlib.Path) -> None:
     """What it answers is asked for again, and the orders aren't done once more."""
     peer, asked, journal = killed(tmp_path, left_behind)
     assert asked == 3
-    assert told(peer) == sorted([
-        ("", "3", ""),
-        ("a1", "8", "0"),
-        ("a2", "8", "0"),
-        ("a3", "8", "0"),
-        ("f1", "9", "8"),
-        ("last", "8", "0"),
-        ("none", "8", "8"),
-    ])
+    assert told(peer) == sorted(EACH_ONCE)
     assert entered(journal) == 4
 
 
