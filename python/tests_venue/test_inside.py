@@ -284,6 +284,26 @@ async def test_what_the_operator_wants_as_the_log_fails_is_answered(inside: Venu
     assert not inside.members.is_open and '"kind":"door"' in log.read_text()
 
 
+async def test_who_is_let_in_as_the_log_fails_is_answered(inside: Venue) -> None:
+    """A member of a FIX session, who is one once it goes on; and the next round, which isn't begun.
+    """
+    log, other = inside.folder / "venue.log", inside.folder / "moved"
+    await inside.log.written()
+    log.rename(other)
+    async with asyncio.timeout(served.SECONDS):
+        with pytest.raises(MessageError) as found:
+            await inside.admit("Bank", "a token")
+        assert (found.value.code, found.value.text) == ("halted", LATER)
+        with pytest.raises(MessageError) as found:
+            await inside.next_round(2, inside.day.treatment(2))
+        assert found.value.text == "the venue has halted; nothing was done"
+    other.rename(log)
+    await inside.resume()
+    assert inside.members.named("Bank") is not None and inside.round.number == 1
+    await inside.next_round(2, inside.day.treatment(2))
+    assert inside.round.number == 2
+
+
 async def test_a_clock_that_is_set_is_said(
     inside: Venue, monkeypatch: pytest.MonkeyPatch, caplog: pytest.LogCaptureFixture
 ) -> None:

@@ -509,14 +509,14 @@ class Venue(Audience):
 
     async def admit(self, name: str, token: str) -> Member:
         """The member of this name; where there is none, a new one with this token. Raises
-        MessageError.
+        MessageError, also where the log can't be written now: it is a member once it can.
         """
         if found := self.members.named(name):
             return found
         member = self.members.admit(name, token)
         await self.place([member])
-        await self.log.written()
-        self.show_members()
+        self.log.append("", self.show_members)
+        await self.noted()
         return member
 
     async def remove(self, members: list[Member]) -> Removal:
@@ -720,8 +720,11 @@ class Venue(Audience):
 
     async def next_round(self, number: int, treatment: Treatment) -> None:
         """Ends this round and begins the one of this number, for the same members. Raises
-        PhaseError and MessageError.
+        PhaseError and MessageError, also where the log can't be written now.
         """
+        with contextlib.suppress(OSError):  # which halts the venue
+            await self.log.check_written()
+        self.check_running()
         async with self._changing:
             if number != self.round.number + 1:
                 raise PhaseError(f"the round is {self.round.number}")
@@ -740,8 +743,8 @@ class Venue(Audience):
                 await self._open_board(board)
             self.rounds.append(found)
             self._deal_round()
-        await self.log.written()
-        self.show_all()
+        self.log.append("", self.show_all)
+        await self.noted()
 
     def _deal_round(self) -> None:
         """Deals the members to the groups of a new round where those of the last one don't do, and
