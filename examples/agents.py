@@ -5,7 +5,7 @@
 Each agent has a value of a share; half of them buy, and half sell. On each day it enters one order
 whose limit is drawn at random, but never at a loss: a buyer's is at most the value, a seller's at
 least. What isn't executed gets another limit before the next of the day's three auctions. Members
-are 0 to 255, so the agents share one: the order's id says whose it is.
+are 0 to 255, so the agents share one: the client of an order is the number of its agent.
 """
 import dataclasses
 import sys
@@ -70,10 +70,9 @@ class Day:
         self.gains: list[int] = []
         auction.reset()
         limits = limits_of(values, IS_BUYER, dice)
-        orders = commands(member=MEMBER, side=SIDES, quantity=SHARES, limit=limits)
-        ids = auction.apply_many(orders)["id"]
-        self.agent_of = numpy.zeros(ids.max() + 1, int)
-        self.agent_of[ids] = numpy.arange(AGENTS)
+        agents = numpy.arange(AGENTS)
+        orders = commands(member=MEMBER, side=SIDES, quantity=SHARES, limit=limits, client=agents)
+        auction.apply_many(orders)
         self.curves = Curves.of(*auction.ladder())
         self.uncross()
         for _ in range(len(AuctionKind) - 1):
@@ -83,7 +82,7 @@ class Day:
     def change_limits(self) -> None:
         """Another limit for each order that is open."""
         left = self.auction.orders()
-        agents = self.agent_of[left["id"]]
+        agents = left["client"]
         limits = limits_of(self.values[agents], IS_BUYER[agents], self.dice)
         self.auction.apply_many(
             commands(
@@ -94,14 +93,11 @@ class Day:
 
     def uncross(self) -> None:
         """The next auction of the day, and what it brought."""
-        seen = len(self.auction.trades())
-        reply = self.auction.uncross()
+        reply, done = self.auction.uncross_orders()
         assert isinstance(reply, Uncrossed)
         self.prices.append(numpy.nan if reply.price is None else reply.price.tick)
-        trades = self.auction.trades(seen)
-        buyers, sellers = self.agent_of[trades["bid"]], self.agent_of[trades["ask"]]
-        gains = trades["quantity"].astype(int) * (self.values[buyers] - self.values[sellers])
-        self.gains.append(int(gains.sum()))
+        gains = (self.values[done["client"]] - done["tick"]) * done["filled"].astype(int)
+        self.gains.append(int(numpy.where(done["side"] == Side.BID, gains, -gains).sum()))
 
 
 def most_possible(values: Any) -> int:

@@ -80,6 +80,7 @@ typedef enum callauction_error {
 /* Begin with one of zeros: callauction_handle handle = {0}; */
 typedef struct callauction_handle {
     void *boxed_;
+    void *clients_;
     uint32_t reserve_;
     bool is_open_;
     uint8_t busy_;
@@ -88,6 +89,7 @@ typedef struct callauction_handle {
 /* A member of a board. Begin with zeros: callauction_member members[8] = {{0}}; */
 typedef struct callauction_member {
     void *boxed_;
+    void *clients_;
     uint32_t reserve_;
     bool is_open_;
     uint8_t busy_;
@@ -107,7 +109,8 @@ typedef struct callauction_config {
 /* The tags of a command, with the fields that each needs; no other is read. Each needs member, but for a board's call,
  * whose member is the handle's. */
 typedef enum callauction_command_tag {
-    CALLAUCTION_COMMAND_ENTER = 1,        /* side, restriction, has_limit and limit, quantity, has_peak and peak */
+    CALLAUCTION_COMMAND_ENTER = 1,        /* side, restriction, has_limit and limit, quantity, has_peak and peak;
+                                             client too */
     CALLAUCTION_COMMAND_CHANGE = 2,       /* id, has_limit and limit, quantity */
     CALLAUCTION_COMMAND_DELETE = 3,       /* id */
     CALLAUCTION_COMMAND_ORDER_STATUS = 4, /* id */
@@ -132,6 +135,8 @@ typedef enum callauction_restriction {
 typedef struct callauction_command {
     uint64_t quantity;   /* shares */
     uint64_t peak;       /* the most shares that an iceberg order shows; 0 where has_peak is 0 */
+    uint64_t client;     /* any number of the caller's own, as of an agent: it is kept with the order, given back where
+                            that is listed, and read by nothing else */
     uint32_t id;         /* of an order, or the number of a trade */
     uint32_t limit;      /* a tick; 0 where has_limit is 0, which makes a market order */
     uint8_t member;      /* 0 to 255 */
@@ -203,6 +208,7 @@ typedef struct callauction_order {
     uint64_t visible;    /* those that are shown: the lesser of peak and open shares */
     uint64_t filled;     /* those that the day's trades executed of it */
     uint64_t peak;       /* the most shares that it shows; 0 where has_peak is 0 */
+    uint64_t client;     /* of the command that entered it */
     uint32_t id;
     uint32_t limit;      /* a tick; 0 where has_limit is 0, of a market order */
     uint8_t member;
@@ -216,6 +222,7 @@ typedef struct callauction_order {
 typedef struct callauction_outcome {
     uint64_t filled; /* the shares that it executed of the order, as its trades say */
     uint64_t left;   /* those that it left: they are open, unless expired is 1 */
+    uint64_t client; /* of the command that entered the order */
     uint32_t id;
     uint32_t tick;   /* the auction price; 0 where there was none */
     uint8_t member;
@@ -254,7 +261,7 @@ typedef struct callauction_shown {
     uint32_t calls;
 } callauction_shown;
 
-/* A call of a board's history, with its reply. */
+/* A call of a board's history, with its reply: a command has its client where it entered an order, else 0. */
 typedef struct callauction_entry {
     callauction_command command;
     callauction_reply reply;
@@ -494,16 +501,18 @@ static inline callauction_error callauction_board_apply_many_waiting(pthread_mut
 #define CALLAUCTION_AT(type, field, offset) \
     CALLAUCTION_ASSERT(offsetof(callauction_##type, field) == (offset), #type "." #field)
 
-CALLAUCTION_SIZE(handle, 16);
+CALLAUCTION_SIZE(handle, 24);
 CALLAUCTION_AT(handle, boxed_, 0);
-CALLAUCTION_AT(handle, reserve_, 8);
-CALLAUCTION_AT(handle, is_open_, 12);
-CALLAUCTION_AT(handle, busy_, 13);
-CALLAUCTION_SIZE(member, 16);
+CALLAUCTION_AT(handle, clients_, 8);
+CALLAUCTION_AT(handle, reserve_, 16);
+CALLAUCTION_AT(handle, is_open_, 20);
+CALLAUCTION_AT(handle, busy_, 21);
+CALLAUCTION_SIZE(member, 24);
 CALLAUCTION_AT(member, boxed_, 0);
-CALLAUCTION_AT(member, reserve_, 8);
-CALLAUCTION_AT(member, is_open_, 12);
-CALLAUCTION_AT(member, busy_, 13);
+CALLAUCTION_AT(member, clients_, 8);
+CALLAUCTION_AT(member, reserve_, 16);
+CALLAUCTION_AT(member, is_open_, 20);
+CALLAUCTION_AT(member, busy_, 21);
 CALLAUCTION_SIZE(config, 36);
 CALLAUCTION_AT(config, low, 0);
 CALLAUCTION_AT(config, high, 4);
@@ -514,17 +523,18 @@ CALLAUCTION_AT(config, has_range, 20);
 CALLAUCTION_AT(config, range, 24);
 CALLAUCTION_AT(config, has_reserve, 28);
 CALLAUCTION_AT(config, reserve, 32);
-CALLAUCTION_SIZE(command, 32);
+CALLAUCTION_SIZE(command, 40);
 CALLAUCTION_AT(command, quantity, 0);
 CALLAUCTION_AT(command, peak, 8);
-CALLAUCTION_AT(command, id, 16);
-CALLAUCTION_AT(command, limit, 20);
-CALLAUCTION_AT(command, member, 24);
-CALLAUCTION_AT(command, tag, 25);
-CALLAUCTION_AT(command, side, 26);
-CALLAUCTION_AT(command, restriction, 27);
-CALLAUCTION_AT(command, has_limit, 28);
-CALLAUCTION_AT(command, has_peak, 29);
+CALLAUCTION_AT(command, client, 16);
+CALLAUCTION_AT(command, id, 24);
+CALLAUCTION_AT(command, limit, 28);
+CALLAUCTION_AT(command, member, 32);
+CALLAUCTION_AT(command, tag, 33);
+CALLAUCTION_AT(command, side, 34);
+CALLAUCTION_AT(command, restriction, 35);
+CALLAUCTION_AT(command, has_limit, 36);
+CALLAUCTION_AT(command, has_peak, 37);
 CALLAUCTION_SIZE(reply, 64);
 CALLAUCTION_AT(reply, quantity, 0);
 CALLAUCTION_AT(reply, visible, 8);
@@ -549,26 +559,28 @@ CALLAUCTION_AT(trade, quantity, 0);
 CALLAUCTION_AT(trade, bid, 8);
 CALLAUCTION_AT(trade, ask, 12);
 CALLAUCTION_AT(trade, tick, 16);
-CALLAUCTION_SIZE(order, 48);
+CALLAUCTION_SIZE(order, 56);
 CALLAUCTION_AT(order, quantity, 0);
 CALLAUCTION_AT(order, visible, 8);
 CALLAUCTION_AT(order, filled, 16);
 CALLAUCTION_AT(order, peak, 24);
-CALLAUCTION_AT(order, id, 32);
-CALLAUCTION_AT(order, limit, 36);
-CALLAUCTION_AT(order, member, 40);
-CALLAUCTION_AT(order, side, 41);
-CALLAUCTION_AT(order, restriction, 42);
-CALLAUCTION_AT(order, has_limit, 43);
-CALLAUCTION_AT(order, has_peak, 44);
-CALLAUCTION_SIZE(outcome, 32);
+CALLAUCTION_AT(order, client, 32);
+CALLAUCTION_AT(order, id, 40);
+CALLAUCTION_AT(order, limit, 44);
+CALLAUCTION_AT(order, member, 48);
+CALLAUCTION_AT(order, side, 49);
+CALLAUCTION_AT(order, restriction, 50);
+CALLAUCTION_AT(order, has_limit, 51);
+CALLAUCTION_AT(order, has_peak, 52);
+CALLAUCTION_SIZE(outcome, 40);
 CALLAUCTION_AT(outcome, filled, 0);
 CALLAUCTION_AT(outcome, left, 8);
-CALLAUCTION_AT(outcome, id, 16);
-CALLAUCTION_AT(outcome, tick, 20);
-CALLAUCTION_AT(outcome, member, 24);
-CALLAUCTION_AT(outcome, side, 25);
-CALLAUCTION_AT(outcome, expired, 26);
+CALLAUCTION_AT(outcome, client, 16);
+CALLAUCTION_AT(outcome, id, 24);
+CALLAUCTION_AT(outcome, tick, 28);
+CALLAUCTION_AT(outcome, member, 32);
+CALLAUCTION_AT(outcome, side, 33);
+CALLAUCTION_AT(outcome, expired, 34);
 CALLAUCTION_SIZE(day_state, 20);
 CALLAUCTION_AT(day_state, reference, 0);
 CALLAUCTION_AT(day_state, calls, 4);
@@ -586,9 +598,9 @@ CALLAUCTION_AT(receipt, number, 64);
 CALLAUCTION_SIZE(shown, 72);
 CALLAUCTION_AT(shown, display, 0);
 CALLAUCTION_AT(shown, calls, 64);
-CALLAUCTION_SIZE(entry, 96);
+CALLAUCTION_SIZE(entry, 104);
 CALLAUCTION_AT(entry, command, 0);
-CALLAUCTION_AT(entry, reply, 32);
+CALLAUCTION_AT(entry, reply, 40);
 
 #undef CALLAUCTION_AT
 #undef CALLAUCTION_SIZE

@@ -71,6 +71,21 @@ private:
     std::int64_t number_;
 };
 
+// A number of the caller's own, as of an agent, which an order keeps: any std::uint64_t. One below 0 fits no order.
+class Client {
+public:
+    template <typename T, std::enable_if_t<detail::is_integer<T>, int> = 0>
+    constexpr Client(T number) : number_(static_cast<std::uint64_t>(number)), fits_(number == T{0} || number > T{0}) {}
+    template <typename T, std::enable_if_t<!detail::is_integer<T>, int> = 0> Client(T) = delete;
+
+    constexpr std::uint64_t number() const { return number_; }
+    constexpr bool fits() const { return fits_; }
+
+private:
+    std::uint64_t number_;
+    bool fits_;
+};
+
 enum class Error : std::uint32_t {
     bad_bounds = CALLAUCTION_ERROR_BAD_BOUNDS,
     bad_reference = CALLAUCTION_ERROR_BAD_REFERENCE,
@@ -271,13 +286,15 @@ struct Config {
     std::optional<Whole> reserve = {};  // last calls that are the operator's: else none of an auction, 16 of a board
 };
 
-// An order without a limit is a market order, one with a peak an iceberg order.
+// An order without a limit is a market order, one with a peak an iceberg order. Its client is given back where the
+// order is listed, and read by nothing else.
 struct Enter {
     Side side;
     Whole quantity;
     std::optional<Whole> limit = {};
     std::optional<Whole> peak = {};
     Restriction restriction = Restriction::none;
+    Client client = 0;
 };
 
 struct Change {
@@ -382,8 +399,9 @@ struct Filling {
         to.tag = CALLAUCTION_COMMAND_ENTER;
         to.side = static_cast<std::uint8_t>(from.side);
         to.restriction = static_cast<std::uint8_t>(from.restriction);
+        to.client = from.client.number();
         return fits(from.quantity, to.quantity) && fits(from.limit, to.has_limit, to.limit)
-            && fits(from.peak, to.has_peak, to.peak);
+            && fits(from.peak, to.has_peak, to.peak) && from.client.fits();
     }
     bool operator()(const Change &from) const {
         to.tag = CALLAUCTION_COMMAND_CHANGE;
@@ -553,6 +571,7 @@ inline callauction_command entering(const callauction_order &order) {
     made.has_limit = order.has_limit;
     made.peak = order.has_peak ? order.visible : 0;
     made.has_peak = order.has_peak;
+    made.client = order.client;
     return made;
 }
 

@@ -1,10 +1,12 @@
 /* The door of libcallauction: each call of callauction.h finds here whether another call has its handle, and goes on to
  * the proved call of the same name. The texts of errors and refusals are here too. Nothing here is proved. The proved
- * calls want one call at a time on a handle, and an identity of its own for each board; this file sees to both.
+ * calls want one call at a time on a handle, and an identity of its own for each board; this file sees to both. The
+ * proved calls don't read the callers' own numbers of orders, and write 0 for them: clients.c keeps them.
  *
  * library/build renames the proved calls to proved_*, and links this file before them.
  */
 #include "callauction.h"
+#include "clients.h"
 
 /* ---- the proved calls ---- */
 
@@ -82,26 +84,63 @@ static void gives_all_back(callauction_member *members, size_t count) {
 
 /* ---- an auction of one thread ---- */
 
+/* The handle, which has just been opened, gets a table of clients, or is closed again where memory is refused. */
+static callauction_error gets_clients(callauction_handle *handle, uint32_t max_calls) {
+    handle->clients_ = clients_new(max_calls, 1);
+    if (handle->clients_) return CALLAUCTION_DONE;
+    const callauction_error closed = proved_callauction_close(handle);
+    handle->reserve_ = 0;
+    return closed == CALLAUCTION_DONE ? CALLAUCTION_ERROR_NO_MEMORY : closed;
+}
+
+static callauction_error opens(callauction_handle *handle, const callauction_config *config) {
+    const callauction_error answer = proved_callauction_open(handle, config);
+    return answer == CALLAUCTION_DONE ? gets_clients(handle, config->max_calls) : answer;
+}
+
 callauction_error callauction_open(callauction_handle *handle, const callauction_config *config) {
-    THROUGH(handle, proved_callauction_open(handle, config));
+    THROUGH(handle, opens(handle, config));
+}
+
+static callauction_error applies(callauction_handle *handle, const callauction_command *command,
+                                 callauction_reply *reply) {
+    const callauction_error answer = proved_callauction_apply(handle, command, reply);
+    if (answer == CALLAUCTION_DONE) clients_keep(handle->clients_, command, reply);
+    return answer;
 }
 
 callauction_error callauction_apply(callauction_handle *handle, const callauction_command *command,
                                     callauction_reply *reply) {
-    THROUGH(handle, proved_callauction_apply(handle, command, reply));
+    THROUGH(handle, applies(handle, command, reply));
+}
+
+static callauction_error applies_many(callauction_handle *handle, const callauction_command *commands,
+                                      size_t command_count, callauction_reply *replies, size_t reply_count,
+                                      size_t *applied) {
+    const callauction_error answer =
+        proved_callauction_apply_many(handle, commands, command_count, replies, reply_count, applied);
+    for (size_t i = 0; i < *applied; i++) clients_keep(handle->clients_, &commands[i], &replies[i]);
+    return answer;
 }
 
 callauction_error callauction_apply_many(callauction_handle *handle, const callauction_command *commands,
                                          size_t command_count, callauction_reply *replies, size_t reply_count,
                                          size_t *applied) {
     *applied = 0;
-    THROUGH(handle, proved_callauction_apply_many(handle, commands, command_count, replies, reply_count, applied));
+    THROUGH(handle, applies_many(handle, commands, command_count, replies, reply_count, applied));
+}
+
+static callauction_error uncrosses(callauction_handle *handle, callauction_reply *reply,
+                                   callauction_outcome *outcomes, size_t outcome_count, size_t *copied) {
+    const callauction_error answer = proved_callauction_uncross(handle, reply, outcomes, outcome_count, copied);
+    if (answer == CALLAUCTION_DONE) clients_of_outcomes(handle->clients_, outcomes, *copied);
+    return answer;
 }
 
 callauction_error callauction_uncross(callauction_handle *handle, callauction_reply *reply,
                                       callauction_outcome *outcomes, size_t outcome_count, size_t *copied) {
     *copied = 0;
-    THROUGH(handle, proved_callauction_uncross(handle, reply, outcomes, outcome_count, copied));
+    THROUGH(handle, uncrosses(handle, reply, outcomes, outcome_count, copied));
 }
 
 callauction_error callauction_display(const callauction_handle *handle, callauction_reply *shown) {
@@ -122,18 +161,32 @@ callauction_error callauction_trades(const callauction_handle *handle, size_t se
     THROUGH(own, proved_callauction_trades(own, seen, trades, trade_count, copied));
 }
 
+static callauction_error lists_orders(callauction_handle *handle, uint32_t member, callauction_order *orders,
+                                      size_t order_count, size_t *copied) {
+    const callauction_error answer = proved_callauction_orders(handle, member, orders, order_count, copied);
+    if (answer == CALLAUCTION_DONE) clients_of_orders(handle->clients_, orders, *copied);
+    return answer;
+}
+
 callauction_error callauction_orders(const callauction_handle *handle, uint32_t member, callauction_order *orders,
                                      size_t order_count, size_t *copied) {
     *copied = 0;
     callauction_handle *own = (callauction_handle *)handle;
-    THROUGH(own, proved_callauction_orders(own, member, orders, order_count, copied));
+    THROUGH(own, lists_orders(own, member, orders, order_count, copied));
+}
+
+static callauction_error lists_expiring(callauction_handle *handle, callauction_order *orders, size_t order_count,
+                                        size_t *copied) {
+    const callauction_error answer = proved_callauction_expiring(handle, orders, order_count, copied);
+    if (answer == CALLAUCTION_DONE) clients_of_orders(handle->clients_, orders, *copied);
+    return answer;
 }
 
 callauction_error callauction_expiring(const callauction_handle *handle, callauction_order *orders,
                                        size_t order_count, size_t *copied) {
     *copied = 0;
     callauction_handle *own = (callauction_handle *)handle;
-    THROUGH(own, proved_callauction_expiring(own, orders, order_count, copied));
+    THROUGH(own, lists_expiring(own, orders, order_count, copied));
 }
 
 callauction_error callauction_calls(const callauction_handle *handle, uint32_t *calls) {
@@ -151,10 +204,30 @@ callauction_error callauction_config_of(const callauction_handle *handle, callau
     THROUGH(own, proved_callauction_config_of(own, config));
 }
 
-callauction_error callauction_reset(callauction_handle *handle) { THROUGH(handle, proved_callauction_reset(handle)); }
+static callauction_error resets(callauction_handle *handle) {
+    const callauction_error answer = proved_callauction_reset(handle);
+    if (answer == CALLAUCTION_DONE) clients_clear(handle->clients_);
+    return answer;
+}
+
+callauction_error callauction_reset(callauction_handle *handle) { THROUGH(handle, resets(handle)); }
+
+/* The other handle, which has just become a copy, gets a copy of these clients of an auction with as many calls. */
+static callauction_error copies_clients(const clients *from, callauction_handle *other) {
+    callauction_config config;
+    callauction_error answer = proved_callauction_config_of(other, &config);
+    if (answer == CALLAUCTION_DONE && !other->clients_) answer = gets_clients(other, config.max_calls);
+    if (answer == CALLAUCTION_DONE) clients_copy(from, other->clients_);
+    return answer;
+}
+
+static callauction_error copies(callauction_handle *handle, callauction_handle *other) {
+    const callauction_error answer = proved_callauction_clone(handle, other);
+    return answer == CALLAUCTION_DONE ? copies_clients(handle->clients_, other) : answer;
+}
 
 static callauction_error clones(callauction_handle *handle, callauction_handle *other) {
-    THROUGH(other, proved_callauction_clone(handle, other));
+    THROUGH(other, copies(handle, other));
 }
 
 callauction_error callauction_clone(const callauction_handle *handle, callauction_handle *other) {
@@ -162,7 +235,15 @@ callauction_error callauction_clone(const callauction_handle *handle, callauctio
     THROUGH(own, clones(own, other));
 }
 
-callauction_error callauction_close(callauction_handle *handle) { THROUGH(handle, proved_callauction_close(handle)); }
+static callauction_error closes(callauction_handle *handle) {
+    const callauction_error answer = proved_callauction_close(handle);
+    if (answer != CALLAUCTION_DONE) return answer;
+    clients_leave(handle->clients_);
+    handle->clients_ = NULL;
+    return answer;
+}
+
+callauction_error callauction_close(callauction_handle *handle) { THROUGH(handle, closes(handle)); }
 
 /* ---- a board ---- */
 
@@ -172,25 +253,63 @@ static uint64_t next_identity(void) {
     return __atomic_add_fetch(&last, 1, __ATOMIC_RELAXED);
 }
 
+static callauction_error opens_board(callauction_member *members, size_t member_count,
+                                     const callauction_config *config) {
+    const callauction_error answer = proved_callauction_board_open(members, member_count, config, next_identity());
+    if (answer != CALLAUCTION_DONE) return answer;
+    clients *const table = clients_new(config->max_calls, (uint32_t)member_count);
+    for (size_t i = 0; i < member_count; i++) {
+        members[i].clients_ = table;
+        if (table) continue;
+        proved_callauction_board_leave(&members[i]);
+        members[i].reserve_ = 0;
+    }
+    return table ? CALLAUCTION_DONE : CALLAUCTION_ERROR_NO_MEMORY;
+}
+
 callauction_error callauction_board_open(callauction_member *members, size_t member_count,
                                          const callauction_config *config) {
     if (!takes_all(members, member_count)) return CALLAUCTION_ERROR_MISUSED;
-    const callauction_error answer = proved_callauction_board_open(members, member_count, config, next_identity());
+    const callauction_error answer = opens_board(members, member_count, config);
     gives_all_back(members, member_count);
+    return answer;
+}
+
+/* Calls without a client go by the table. */
+static callauction_error calls_board(callauction_member *member, const callauction_command *command,
+                                     callauction_receipt *receipt) {
+    clients *const table = clients_has(command) ? member->clients_ : NULL;
+    if (!clients_take(table)) return CALLAUCTION_ERROR_BUSY;
+    const callauction_error answer = proved_callauction_board_call(member, command, receipt);
+    if (table && answer == CALLAUCTION_DONE) clients_keep(table, command, &receipt->reply);
+    clients_give_back(table);
     return answer;
 }
 
 callauction_error callauction_board_call(callauction_member *member, const callauction_command *command,
                                          callauction_receipt *receipt) {
-    THROUGH(member, proved_callauction_board_call(member, command, receipt));
+    THROUGH(member, calls_board(member, command, receipt));
+}
+
+static callauction_error calls_board_many(callauction_member *member, const callauction_command *commands,
+                                          size_t command_count, callauction_receipt *receipts, size_t receipt_count,
+                                          size_t *applied) {
+    clients *table = NULL;
+    for (size_t i = 0; i < command_count && !table; i++)
+        if (clients_has(&commands[i])) table = member->clients_;
+    if (!clients_take(table)) return CALLAUCTION_ERROR_BUSY;
+    const callauction_error answer =
+        proved_callauction_board_apply_many(member, commands, command_count, receipts, receipt_count, applied);
+    for (size_t i = 0; table && i < *applied; i++) clients_keep(table, &commands[i], &receipts[i].reply);
+    clients_give_back(table);
+    return answer;
 }
 
 callauction_error callauction_board_apply_many(callauction_member *member, const callauction_command *commands,
                                                size_t command_count, callauction_receipt *receipts,
                                                size_t receipt_count, size_t *applied) {
     *applied = 0;
-    THROUGH(member, proved_callauction_board_apply_many(member, commands, command_count, receipts, receipt_count,
-                                                        applied));
+    THROUGH(member, calls_board_many(member, commands, command_count, receipts, receipt_count, applied));
 }
 
 callauction_error callauction_board_look(callauction_member *member, callauction_shown *shown) {
@@ -209,30 +328,69 @@ callauction_error callauction_board_trades(callauction_member *member, size_t se
     THROUGH(member, proved_callauction_board_trades(member, seen, trades, trade_count, copied, calls));
 }
 
+static callauction_error lists_board_orders(callauction_member *member, uint32_t of, callauction_order *orders,
+                                            size_t order_count, size_t *copied, uint32_t *calls) {
+    clients *const table = member->clients_;
+    if (!clients_take(table)) return CALLAUCTION_ERROR_BUSY;
+    const callauction_error answer = proved_callauction_board_orders(member, of, orders, order_count, copied, calls);
+    if (answer == CALLAUCTION_DONE) clients_of_orders(table, orders, *copied);
+    clients_give_back(table);
+    return answer;
+}
+
 callauction_error callauction_board_orders(callauction_member *member, uint32_t of, callauction_order *orders,
                                            size_t order_count, size_t *copied, uint32_t *calls) {
     *copied = 0;
-    THROUGH(member, proved_callauction_board_orders(member, of, orders, order_count, copied, calls));
+    THROUGH(member, lists_board_orders(member, of, orders, order_count, copied, calls));
+}
+
+static callauction_error lists_board_expiring(callauction_member *member, callauction_order *orders,
+                                              size_t order_count, size_t *copied, uint32_t *calls) {
+    clients *const table = member->clients_;
+    if (!clients_take(table)) return CALLAUCTION_ERROR_BUSY;
+    const callauction_error answer = proved_callauction_board_expiring(member, orders, order_count, copied, calls);
+    if (answer == CALLAUCTION_DONE) clients_of_orders(table, orders, *copied);
+    clients_give_back(table);
+    return answer;
 }
 
 callauction_error callauction_board_expiring(callauction_member *member, callauction_order *orders,
                                              size_t order_count, size_t *copied, uint32_t *calls) {
     *copied = 0;
-    THROUGH(member, proved_callauction_board_expiring(member, orders, order_count, copied, calls));
+    THROUGH(member, lists_board_expiring(member, orders, order_count, copied, calls));
 }
 
 callauction_error callauction_board_state(callauction_member *member, callauction_day_state *state) {
     THROUGH(member, proved_callauction_board_state(member, state));
 }
 
+static callauction_error copies_history(callauction_member *member, size_t seen, callauction_entry *entries,
+                                        size_t entry_count, size_t *copied) {
+    clients *const table = member->clients_;
+    if (!clients_take(table)) return CALLAUCTION_ERROR_BUSY;
+    const callauction_error answer = proved_callauction_board_history(member, seen, entries, entry_count, copied);
+    if (answer == CALLAUCTION_DONE) clients_of_entries(table, entries, *copied);
+    clients_give_back(table);
+    return answer;
+}
+
 callauction_error callauction_board_history(callauction_member *member, size_t seen, callauction_entry *entries,
                                             size_t entry_count, size_t *copied) {
     *copied = 0;
-    THROUGH(member, proved_callauction_board_history(member, seen, entries, entry_count, copied));
+    THROUGH(member, copies_history(member, seen, entries, entry_count, copied));
+}
+
+static callauction_error copies_board(callauction_member *member, callauction_handle *other) {
+    clients *const table = member->clients_;
+    if (!clients_take(table)) return CALLAUCTION_ERROR_BUSY;
+    callauction_error answer = proved_callauction_board_clone(member, other);
+    if (answer == CALLAUCTION_DONE) answer = copies_clients(table, other);
+    clients_give_back(table);
+    return answer;
 }
 
 static callauction_error clones_board(callauction_member *member, callauction_handle *other) {
-    THROUGH(other, proved_callauction_board_clone(member, other));
+    THROUGH(other, copies_board(member, other));
 }
 
 callauction_error callauction_board_clone(callauction_member *member, callauction_handle *other) {
@@ -256,13 +414,20 @@ callauction_error callauction_board_close(callauction_member *members, size_t me
     if (!takes_all(members, member_count)) return CALLAUCTION_ERROR_MISUSED;
     const callauction_error answer =
         proved_callauction_board_close(members, member_count, entries, entry_count, counts, count_count, written);
+    if (answer == CALLAUCTION_DONE) clients_of_entries(members[0].clients_, entries, *written);
     gives_all_back(members, member_count);
     return answer;
 }
 
-callauction_error callauction_board_leave(callauction_member *member) {
-    THROUGH(member, proved_callauction_board_leave(member));
+static callauction_error leaves(callauction_member *member) {
+    const callauction_error answer = proved_callauction_board_leave(member);
+    if (answer != CALLAUCTION_DONE) return answer;
+    clients_leave(member->clients_);
+    member->clients_ = NULL;
+    return answer;
 }
+
+callauction_error callauction_board_leave(callauction_member *member) { THROUGH(member, leaves(member)); }
 
 /* ---- texts ---- */
 

@@ -15,6 +15,7 @@
 #include <unistd.h>
 
 extern void *__libc_malloc(size_t size);
+extern void *__libc_calloc(size_t count, size_t size);
 extern void *__libc_realloc(void *block, size_t size);
 extern void __libc_free(void *block);
 
@@ -67,6 +68,14 @@ void *malloc(size_t size) {
     int counts = is_program(__builtin_return_address(0));
     if (counts && ++requests == refused) return NULL;
     void *block = __libc_malloc(size);
+    if (counts && block) taken++;
+    return block;
+}
+
+void *calloc(size_t count, size_t size) {
+    int counts = is_program(__builtin_return_address(0));
+    if (counts && ++requests == refused) return NULL;
+    void *block = __libc_calloc(count, size);
     if (counts && block) taken++;
     return block;
 }

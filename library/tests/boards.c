@@ -57,6 +57,7 @@ static callauction_command drawn_command(work *of) {
         command.side = (uint8_t)(1 + drawn(&of->seed, 2));
         command.has_limit = drawn(&of->seed, 8) != 0;
         if (command.has_limit) command.limit = 150 + drawn(&of->seed, 100);
+        if (drawn(&of->seed, 3) != 0) command.client = of->seed;
         return command;
     }
     uint32_t at = drawn(&of->seed, of->open);
@@ -326,7 +327,8 @@ static void lists_alike(callauction_member *member, const callauction_handle *pl
         WANT(calls == length && copied == copied_too && (copied > 0) == (whose[i] != 200));
         for (size_t k = 0; k < copied; k++)
             WANT(orders[k].id == orders_too[k].id && orders[k].quantity == orders_too[k].quantity &&
-                 orders[k].filled == orders_too[k].filled && orders[k].member == orders_too[k].member);
+                 orders[k].filled == orders_too[k].filled && orders[k].member == orders_too[k].member &&
+                 orders[k].client == orders_too[k].client);
     }
     WANT(callauction_board_expiring(member, orders, ROOM, &copied, &calls) == CALLAUCTION_DONE && calls == length);
     WANT(callauction_expiring(plain, orders_too, ROOM, &copied_too) == CALLAUCTION_DONE && copied == copied_too);
@@ -378,6 +380,46 @@ static void shows_alike(callauction_member *member, const callauction_handle *pl
     for (size_t i = 0; i < copied; i++)
         WANT(trades[i].bid == trades_too[i].bid && trades[i].ask == trades_too[i].ask &&
              trades[i].tick == trades_too[i].tick && trades[i].quantity == trades_too[i].quantity);
+}
+
+/* An order's client is what it was entered with, wherever a member is told of it, and in the history and copies; of
+ * what entered no order it is 0. */
+static void clients_are_kept(void) {
+    callauction_config config = {1, 1000, 200, 8, 12, 0, 0, 1, 0};
+    callauction_member two[2] = {{0}};
+    callauction_handle copy = {0}, over = {0};
+    callauction_command enter = {.tag = CALLAUCTION_COMMAND_ENTER, .side = CALLAUCTION_SIDE_BID, .quantity = 5};
+    callauction_command plain = enter, refused = enter, status = {.tag = CALLAUCTION_COMMAND_ORDER_STATUS, .id = 1};
+    callauction_receipt receipt, receipts[3];
+    callauction_order orders[8];
+    callauction_entry entries[12];
+    uint32_t calls = 0, counts[2];
+    size_t count = 7;
+    enter.client = UINT64_MAX;
+    refused.client = status.client = 9;
+    refused.quantity = 0;
+    const callauction_command three[] = {refused, status, enter};
+    WANT(callauction_board_open(two, 2, &config) == CALLAUCTION_DONE && callauction_open(&over, &config) == 0);
+    WANT(callauction_board_call(&two[1], &plain, &receipt) == CALLAUCTION_DONE);
+    WANT(callauction_board_call(&two[1], &enter, &receipt) == CALLAUCTION_DONE && receipt.reply.id == 2);
+    WANT(callauction_board_apply_many(&two[0], three, 3, receipts, 3, &count) == CALLAUCTION_DONE && count == 3);
+    WANT(callauction_board_orders(&two[0], CALLAUCTION_ALL_MEMBERS, orders, 8, &count, &calls) == CALLAUCTION_DONE);
+    WANT(count == 3 && orders[0].client == 0 && orders[1].client == UINT64_MAX && orders[2].client == UINT64_MAX);
+    WANT(callauction_board_clone(&two[0], &copy) == CALLAUCTION_DONE);
+    WANT(callauction_board_clone(&two[0], &over) == CALLAUCTION_DONE);
+    for (int i = 0; i < 2; i++) {
+        WANT(callauction_orders(i ? &over : &copy, 1, orders, 8, &count) == CALLAUCTION_DONE && count == 2);
+        WANT(orders[0].client == 0 && orders[1].client == UINT64_MAX);
+        WANT(callauction_close(i ? &over : &copy) == CALLAUCTION_DONE);
+    }
+    WANT(callauction_board_history(&two[1], 1, entries, 12, &count) == CALLAUCTION_DONE && count == 4);
+    WANT(entries[0].command.client == UINT64_MAX && entries[1].command.client == 0);
+    WANT(entries[2].command.client == 0 && entries[3].command.client == UINT64_MAX);
+    WANT(callauction_board_close(two, 2, entries, 12, counts, 2, &count) == CALLAUCTION_DONE && count == 5);
+    WANT(entries[0].command.client == 0 && entries[1].command.client == UINT64_MAX);
+    WANT(callauction_board_call(&two[1], &enter, &receipt) == CALLAUCTION_ERROR_CLOSED);
+    for (int i = 0; i < 2; i++) WANT(callauction_board_leave(&two[i]) == CALLAUCTION_DONE);
+    WANT(callauction_board_call(&two[1], &enter, &receipt) == CALLAUCTION_ERROR_NO_MEMBER);
 }
 
 static void day(uint32_t threads, uint32_t calls, uint32_t looks, uint64_t seed) {
@@ -463,6 +505,8 @@ static void day(uint32_t threads, uint32_t calls, uint32_t looks, uint64_t seed)
             number = receipt->number;
             WANT(entries[number - 1].command.member == t);
             WANT(memcmp(&entries[number - 1].reply, &receipt->reply, sizeof receipt->reply) == 0);
+            const bool is_entered = receipt->reply.tag == CALLAUCTION_REPLY_ENTERED;
+            WANT(entries[number - 1].command.client == (is_entered ? works[t].commands[i].client : 0));
             for (uint32_t k = 0; k < looks; k++) {
                 const callauction_shown *shown = &works[t].shown[i * looks + k];
                 WANT(shown->calls >= seen && shown->calls >= number && shown->calls <= length);
@@ -488,6 +532,7 @@ int main(int count, char **words) {
     for (uint32_t calls = 0; calls < 3; calls++) mixed(calls);
     looks_show_all(false);
     looks_show_all(true);
+    clients_are_kept();
     day(threads, calls, looks, count > 4 ? strtoull(words[4], NULL, 10) : 1);
     return 0;
 }

@@ -577,6 +577,64 @@ static void a_reset(void) {
     WANT(callauction_close(&auction) == CALLAUCTION_DONE);
 }
 
+static callauction_command order_of(uint64_t client, uint8_t side, uint32_t tick, uint64_t quantity) {
+    callauction_command command = order(1, side, tick, quantity);
+    command.client = client;
+    return command;
+}
+
+static bool has_clients(const callauction_handle *auction, const uint64_t *wanted, size_t count) {
+    callauction_order orders[8];
+    size_t copied = 77;
+    WANT(callauction_orders(auction, CALLAUCTION_ALL_MEMBERS, orders, 8, &copied) == CALLAUCTION_DONE);
+    for (size_t i = 0; i < copied && i < count; i++)
+        if (orders[i].client != wanted[i]) return false;
+    return copied == count;
+}
+
+/* An order keeps the client that it was entered with, also where it is changed; no other command gives it another. */
+static void the_clients(void) {
+    static const uint64_t both[] = {UINT64_MAX, 0, 7}, left[] = {0, 7}, again[] = {0};
+    callauction_handle auction = {0}, copy = {0}, over = {0};
+    callauction_command many[3] = {order_of(5, CALLAUCTION_SIDE_BID, 211, 5), order_of(7, CALLAUCTION_SIDE_ASK, 200, 9),
+                                   other(1, CALLAUCTION_COMMAND_ORDER_STATUS, 1)};
+    callauction_command change = order_of(9, 0, 205, 3);
+    callauction_outcome outcomes[8];
+    callauction_order leaving;
+    callauction_reply replies[3];
+    size_t copied = 77;
+    many[1].restriction = CALLAUCTION_RESTRICTION_OPENING_ONLY;
+    many[2].client = 8;
+    change.tag = CALLAUCTION_COMMAND_CHANGE;
+    change.id = 1;
+    opened(&auction), opened(&over);
+    applied(&auction, order_of(UINT64_MAX, CALLAUCTION_SIDE_BID, 201, 3));
+    applied(&auction, order(1, CALLAUCTION_SIDE_BID, 199, 5));
+    WANT(callauction_apply_many(&auction, many, 3, replies, 3, &copied) == CALLAUCTION_DONE && copied == 3);
+    WANT(replies[0].refusal == CALLAUCTION_REFUSAL_BAD_LIMIT && replies[1].id == 3);
+    WANT(applied(&auction, change).tag == CALLAUCTION_REPLY_CHANGED && has_clients(&auction, both, 3));
+    WANT(callauction_expiring(&auction, &leaving, 1, &copied) == CALLAUCTION_DONE && copied == 1);
+    WANT(leaving.id == 3 && leaving.client == 7 && leaving.quantity == 6);
+    applied(&over, order_of(77, CALLAUCTION_SIDE_BID, 201, 3));
+    WANT(callauction_clone(&auction, &copy) == CALLAUCTION_DONE && has_clients(&copy, both, 3));
+    WANT(callauction_uncross(&auction, &replies[0], outcomes, 8, &copied) == CALLAUCTION_DONE && copied == 2);
+    WANT(outcomes[0].id == 1 && outcomes[0].client == UINT64_MAX && outcomes[1].id == 3 && outcomes[1].client == 7);
+    applied(&auction, order_of(7, CALLAUCTION_SIDE_ASK, 208, 5));
+    WANT(has_clients(&auction, left, 2) && has_clients(&copy, both, 3));
+    WANT(callauction_clone(&auction, &over) == CALLAUCTION_DONE && has_clients(&over, left, 2));
+    WANT(callauction_clone(&copy, &over) == CALLAUCTION_DONE && has_clients(&over, both, 3));
+    for (int i = 0; i < 2; i++) applied(&copy, order_of(6, CALLAUCTION_SIDE_ASK, 210, 5));
+    WANT(has_clients(&over, both, 3));
+    WANT(callauction_reset(&copy) == CALLAUCTION_DONE && has_clients(&copy, NULL, 0));
+    applied(&copy, order(1, CALLAUCTION_SIDE_BID, 199, 5));
+    WANT(has_clients(&copy, again, 1));
+    WANT(callauction_close(&auction) == CALLAUCTION_DONE && callauction_close(&copy) == CALLAUCTION_DONE);
+    WANT(callauction_close(&over) == CALLAUCTION_DONE);
+    opened(&auction);
+    applied(&auction, order(1, CALLAUCTION_SIDE_BID, 199, 5));
+    WANT(has_clients(&auction, again, 1) && callauction_close(&auction) == CALLAUCTION_DONE);
+}
+
 /* A count is 0 after each error, also where another call has the handle, and where the handle holds nothing. */
 static void counts_at_errors(void) {
     callauction_handle busy = {.busy_ = 1}, none = {0};
@@ -621,6 +679,7 @@ int main(void) {
     the_outcomes();
     the_state();
     a_reset();
+    the_clients();
     puts("calls: as worked out");
     return 0;
 }

@@ -169,6 +169,29 @@ void a_day_is_carried_over() {
     WANT(next.orders()->at(2).quantity == 60 && next.orders()->at(2).peak == 20 && next.state()->reference == 490);
 }
 
+// A client is kept with its order and given back; a negative one fits no order.
+void clients_are_given_back() {
+    auto auction = opened(day);
+    const auto most = std::numeric_limits<std::uint64_t>::max();
+    reply<ca::Entered>(auction.apply(1, ca::Enter{ca::Side::bid, 30, 510, {}, ca::Restriction::none, most}));
+    reply<ca::Entered>(auction.apply(2, ca::Enter{ca::Side::ask, 20, 505, {}, ca::Restriction::none, 7}));
+    WANT(auction.apply(1, ca::Enter{ca::Side::bid, 30, 510, {}, ca::Restriction::none, -1}).error()
+        == ca::Error::no_command);
+    WANT(auction.orders()->at(0).client == most && auction.orders()->at(1).client == 7);
+    auto copy = auction.clone();
+    WANT(copy && copy->orders()->at(0).client == most);
+    const auto done = auction.uncross_orders();
+    WANT(done && done->orders[0].client == most && done->orders[1].client == 7);
+    WANT(auction.carried_over()->commands.at(0).client == most);
+    auto board = ca::Board::open(2, day);
+    auto trading = board->member(1);
+    WANT(trading.call(ca::Enter{ca::Side::bid, 30, 510, {}, ca::Restriction::none, 41}));
+    WANT(trading.orders()->at(0).client == 41 && trading.auction()->orders()->at(0).client == 41);
+    WANT(board->member(0).call(ca::Enter{ca::Side::ask, 30, 510}) && board->member(0).call(ca::Uncross{}));
+    WANT(trading.uncrossed_orders(ca::AuctionKind::opening)->at(0).client == 41);
+    WANT(board->close()->entries.at(0).command.client == 41);
+}
+
 // The last calls are the operator's: none of an auction, 16 of a board, or as many as the config says.
 void a_reserve_is_the_operators() {
     auto auction = opened({1, 1000, 500, 10, 3, {}, 2});
@@ -276,6 +299,7 @@ int main() {
     owners_are_moved();
     an_uncross_says_what_it_did();
     a_day_is_carried_over();
+    clients_are_given_back();
     a_reserve_is_the_operators();
     a_board_says_what_an_uncross_did();
     a_board_is_closed();

@@ -58,9 +58,10 @@ static callauction_receipt receipt_of_member(python_board *own, size_t number, c
 }
 
 int64_t python_board_enter(python_board *own, size_t number, uint32_t quantity, uint32_t limit, uint32_t peak,
-                           uint8_t side, uint8_t restriction, uint8_t has) {
+                           uint64_t client, uint8_t side, uint8_t restriction, uint8_t has) {
     callauction_command command = {.tag = CALLAUCTION_COMMAND_ENTER, .quantity = quantity, .limit = limit};
     command.peak = peak;
+    command.client = client;
     command.side = side;
     command.restriction = restriction;
     command.has_limit = (has & PYTHON_HAS_LIMIT) != 0;

@@ -17,7 +17,7 @@ uint32_t python_board_open(python_board *own, size_t count, const callauction_co
  * receipt; its number is 0 at an error, which is then the id of its reply. `has` is as of python_enter. */
 enum { PYTHON_REFUSED = 1 << 30 };
 int64_t python_board_enter(python_board *own, size_t number, uint32_t quantity, uint32_t limit, uint32_t peak,
-                           uint8_t side, uint8_t restriction, uint8_t has);
+                           uint64_t client, uint8_t side, uint8_t restriction, uint8_t has);
 callauction_receipt python_board_change(python_board *own, size_t number, uint32_t id, uint32_t quantity,
                                         uint32_t limit, uint8_t has);
 callauction_receipt python_board_call(python_board *own, size_t number, uint8_t tag, uint32_t id);

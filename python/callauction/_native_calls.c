@@ -32,10 +32,11 @@ static callauction_reply reply_to(python_auction *own, callauction_command comma
 }
 
 int64_t python_enter(python_auction *own, uint8_t member, uint64_t quantity, uint32_t limit, uint64_t peak,
-                     uint8_t side, uint8_t restriction, uint8_t has) {
+                     uint64_t client, uint8_t side, uint8_t restriction, uint8_t has) {
     callauction_command command = {.tag = CALLAUCTION_COMMAND_ENTER, .member = member, .quantity = quantity};
     command.limit = limit;
     command.peak = peak;
+    command.client = client;
     command.side = side;
     command.restriction = restriction;
     command.has_limit = (has & PYTHON_HAS_LIMIT) != 0;

@@ -27,7 +27,7 @@ enum { PYTHON_HAS_LIMIT = 1, PYTHON_HAS_PEAK = 2 };
  * e. */
 enum { PYTHON_ERROR = 100 };
 int64_t python_enter(python_auction *own, uint8_t member, uint64_t quantity, uint32_t limit, uint64_t peak,
-                     uint8_t side, uint8_t restriction, uint8_t has);
+                     uint64_t client, uint8_t side, uint8_t restriction, uint8_t has);
 
 callauction_reply python_change(python_auction *own, uint8_t member, uint32_t id, uint64_t quantity, uint32_t limit,
                                 uint8_t has);

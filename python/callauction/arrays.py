@@ -14,6 +14,7 @@ COMMAND = numpy.dtype(
     [
         ("quantity", "u8"),
         ("peak", "u8"),
+        ("client", "u8"),
         ("id", "u4"),
         ("limit", "u4"),
         ("member", "u1"),
@@ -25,7 +26,9 @@ COMMAND = numpy.dtype(
     ],
     align=True,
 )
-"""A command of 32 bytes; its tag is a CommandTag, its side a Side, `restriction` a Restriction."""
+"""A command of 40 bytes; its tag is a CommandTag, its side a Side, `restriction` a Restriction; an
+order's `client` is any number of the caller's own.
+"""
 
 REPLY = numpy.dtype(
     [
@@ -61,6 +64,7 @@ ORDER = numpy.dtype(
         ("visible", "u8"),
         ("filled", "u8"),
         ("peak", "u8"),
+        ("client", "u8"),
         ("id", "u4"),
         ("limit", "u4"),
         ("member", "u1"),
@@ -71,14 +75,15 @@ ORDER = numpy.dtype(
     ],
     align=True,
 )
-"""An open order of 48 bytes: its open, visible and executed shares, and its peak; `side` is a Side,
-`restriction` a Restriction, and a market order has no limit.
+"""An open order of 56 bytes: its open, visible and executed shares, its peak, and the `client` that
+it was entered with; `side` is a Side, `restriction` a Restriction, and a market order has no limit.
 """
 
 OUTCOME = numpy.dtype(
     [
         ("filled", "u8"),
         ("left", "u8"),
+        ("client", "u8"),
         ("id", "u4"),
         ("tick", "u4"),
         ("member", "u1"),
@@ -87,15 +92,17 @@ OUTCOME = numpy.dtype(
     ],
     align=True,
 )
-"""What an uncross did to an order, in 32 bytes: the shares that it executed at the price `tick`,
-and those that it left, which were taken out where `expired` is 1.
+"""What an uncross did to an order, in 40 bytes: the shares that it executed at the price `tick`,
+and those that it left, which were taken out where `expired` is 1. `client` is that of the order.
 """
 
 RECEIPT = numpy.dtype([("reply", REPLY), ("number", "u4")], align=True)
 """A receipt of 72 bytes: the reply to a call on a board, and its number there."""
 
 ENTRY = numpy.dtype([("command", COMMAND), ("reply", REPLY)], align=True)
-"""An entry of a board's history of 96 bytes: a call with its reply."""
+"""An entry of a board's history of 104 bytes: a call with its reply; a command has its `client`
+where it entered an order, else 0.
+"""
 
 
 _FLAGGED = {CommandTag.ENTER: ("limit", "peak"), CommandTag.CHANGE: ("limit",)}

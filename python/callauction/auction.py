@@ -37,7 +37,7 @@ from callauction.reading import (
 )
 from callauction.words import Command, Config, MarketOrders, Reply, ReplyTag, Restriction, Side
 
-_TERMS = ("member", "quantity", "limit", "peak")
+_TERMS = ("member", "quantity", "limit", "peak", "client")
 _CHANGE = ("member", "id", "quantity", "limit", "has")
 _ID, _NUMBER, _MEMBER = ("member", "id"), ("member", "number"), ("member",)
 """The numbers of each command, in the order in which the library takes them."""
@@ -190,12 +190,14 @@ class Auction:
         limit: int | None = None,
         peak: int | None = None,
         restriction: Restriction = Restriction.NONE,
+        client: int = 0,
         *,
         check: bool = False,
     ) -> words.Entered | words.Refused:
         """Enters an order of `quantity` shares: a market order without a limit (a tick), an iceberg
-        order with a peak, the most shares that it shows. Raises TypeError or ValueError for a side
-        that isn't Side.BID or Side.ASK.
+        order with a peak, the most shares that it shows. `client` is any number of your own, as of
+        an agent, which is given back where the order is listed. Raises TypeError or ValueError for
+        a side that isn't Side.BID or Side.ASK.
         """
         if side is not _BID and side is not _ASK:
             member_of("side", side, Side)
@@ -206,12 +208,15 @@ class Auction:
         shown = 0
         if peak is not None:
             shown, has = peak, has | _HAS_PEAK
-        if not type(member) is type(quantity) is type(tick) is type(shown) is int:
-            member, quantity, tick, shown = numbers(_TERMS, (member, quantity, tick, shown))
+        if not type(member) is type(quantity) is type(tick) is type(shown) is type(client) is int:
+            terms = numbers(_TERMS, (member, quantity, tick, shown, client))
+            member, quantity, tick, shown, client = terms
         try:
-            answer = _enter(self._own, member, quantity, tick, shown, side, restriction, has)
+            answer = _enter(
+                self._own, member, quantity, tick, shown, client, side, restriction, has
+            )
         except OverflowError:
-            raise fault_of(_TERMS, (member, quantity, tick, shown)) from None
+            raise fault_of(_TERMS, (member, quantity, tick, shown, client)) from None
         return entered(answer) if answer > 0 else not_entered(answer, check)
 
     def change(
@@ -292,8 +297,9 @@ class Auction:
     def apply(self, member: int, command: Command, *, check: bool = False) -> Reply:
         """Applies a command. Raises TypeError where it is none of Command."""
         match command:
-            case words.Enter(side, quantity, limit, peak, restriction):
-                return self.enter(member, side, quantity, limit, peak, restriction, check=check)
+            case words.Enter(side, quantity, limit, peak, restriction, client):
+                terms = side, quantity, limit, peak, restriction, client
+                return self.enter(member, *terms, check=check)
             case words.Change(id, quantity, limit):
                 return self.change(member, id, quantity, limit, check=check)
             case words.Delete(id):

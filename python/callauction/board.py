@@ -22,7 +22,7 @@ from callauction.arrays import (
 from callauction.auction import ALL_MEMBERS, Auction, config_of, config_struct, copy_over
 from callauction.errors import AuctionError, NotAppliedError
 from callauction.library import ffi, lib
-from callauction.limits import MOST_MEMBERS, MOST_NUMBER
+from callauction.limits import MOST_CLIENT, MOST_MEMBERS, MOST_NUMBER
 from callauction.reading import (
     board_error_of,
     entered,
@@ -51,7 +51,7 @@ if TYPE_CHECKING:
 _MOST_SEEN = (1 << 63) - 1
 _AT_ONCE = 1024
 """How many trades or entries are copied by one call of the library."""
-_TERMS, _CHANGE = ("quantity", "limit", "peak"), ("id", "quantity", "limit")
+_TERMS, _CHANGE = ("quantity", "limit", "peak", "client"), ("id", "quantity", "limit")
 """The numbers of commands, in the order in which the library takes them."""
 _BID, _ASK = Side.BID, Side.ASK
 _HAS_LIMIT, _HAS_PEAK = int(lib.PYTHON_HAS_LIMIT), int(lib.PYTHON_HAS_PEAK)
@@ -118,8 +118,8 @@ class Member:
         command, and with `check` RefusedError where the auction refuses it.
         """
         match command:
-            case words.Enter(side, quantity, limit, peak, restriction):
-                return self.enter(side, quantity, limit, peak, restriction, check=check)
+            case words.Enter(side, quantity, limit, peak, restriction, client):
+                return self.enter(side, quantity, limit, peak, restriction, client, check=check)
             case words.Change(id, quantity, limit):
                 return self.change(id, quantity, limit, check=check)
             case words.Delete(id):
@@ -141,6 +141,7 @@ class Member:
         limit: int | None = None,
         peak: int | None = None,
         restriction: Restriction = Restriction.NONE,
+        client: int = 0,
         *,
         check: bool = False,
     ) -> Receipt:
@@ -154,14 +155,14 @@ class Member:
         shown = 0
         if peak is not None:
             shown, has = peak, has | _HAS_PEAK
-        if not type(quantity) is type(tick) is type(shown) is int:
-            quantity, tick, shown = _numbers(_TERMS, (quantity, tick, shown))
+        if not type(quantity) is type(tick) is type(shown) is type(client) is int:
+            quantity, tick, shown, client = _numbers(_TERMS, (quantity, tick, shown, client))
         try:
             answer = _enter(
-                self._own, self._number, quantity, tick, shown, side, restriction, has
+                self._own, self._number, quantity, tick, shown, client, side, restriction, has
             )
         except OverflowError:
-            raise _fault_of(_TERMS, (quantity, tick, shown)) from None
+            raise _fault_of(_TERMS, (quantity, tick, shown, client)) from None
         if answer < 0:
             raise board_error_of(-answer)
         said = answer & _LOW
@@ -495,9 +496,10 @@ os.register_at_fork(after_in_child=_keep_busy)
 
 def _numbers(names: tuple[str, ...], values: tuple[object, ...]) -> tuple[int, ...]:
     """The integers that the values of these arguments are. Raises TypeError or ValueError for the
-    first that is none, or that no journal has.
+    first that is none, that no journal has, or of a client that no order has.
     """
-    return tuple(number(name, value, MOST_NUMBER) for name, value in zip(names, values))
+    most = {"client": MOST_CLIENT}
+    return tuple(number(name, it, most.get(name, MOST_NUMBER)) for name, it in zip(names, values))
 
 
 def _fault_of(names: tuple[str, ...], values: tuple[object, ...]) -> Exception:

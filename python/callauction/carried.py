@@ -34,7 +34,7 @@ def carried_over(orders: Structs, reference: int) -> CarriedOver:
     left = left[left["restriction"] == Restriction.NONE]
     commands = numpy.zeros(len(left), COMMAND)
     commands["tag"] = CommandTag.ENTER
-    for name in ("member", "side", "quantity", "limit", "has_limit", "has_peak"):
+    for name in ("member", "side", "quantity", "limit", "has_limit", "has_peak", "client"):
         commands[name] = left[name]
     commands["peak"] = numpy.where(left["has_peak"], left["visible"], 0)
     return CarriedOver(commands, left["id"].copy(), reference)

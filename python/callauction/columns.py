@@ -14,7 +14,7 @@ if TYPE_CHECKING:
 
 Column: TypeAlias = "int | Sequence[object] | NDArray[Any] | pandas.Series | None"
 """One number for all commands, or a number for each."""
-NAMES = ("tag", "member", "side", "quantity", "limit", "peak", "id", "restriction")
+NAMES = ("tag", "member", "side", "quantity", "limit", "peak", "id", "restriction", "client")
 """The columns that commands may have: the fields of COMMAND, whose flags follow from them."""
 DEFAULTS = {"tag": CommandTag.ENTER, "member": 1, "restriction": Restriction.NONE}
 _OF_ID = (CommandTag.CHANGE, CommandTag.DELETE, CommandTag.ORDER_STATUS, CommandTag.READ_TRADE)
@@ -60,6 +60,7 @@ def commands(
     peak: Column = None,
     id: Column = None,
     restriction: Column = None,
+    client: Column = None,
 ) -> Structs:
     """An array of COMMAND for `apply_many`, of columns or of a frame with these columns: orders of
     member 1, where neither a `tag` (CommandTag) nor a `member` is given.
@@ -67,13 +68,14 @@ def commands(
     A column is one number for all commands, or a list, an array or a Series of a number for each;
     sides may be the words `bid` and `ask`. Columns of several numbers have one length. An order
     without a limit (None, or `<NA>`) is a market order, one without a peak no iceberg order.
-    READ_TRADE has its number as `id`.
+    READ_TRADE has its number as `id`. An order's `client` is any number of your own, 0 to 2^64 - 1.
 
     Nothing is cut or rounded: raises TypeError for what is no number or is a bool, and ValueError
     for a fraction, NaN, a number that its field can't hold or a masked one, a number that a command
     needs and hasn't, and columns of several lengths. The text begins with the column's name.
     """
-    keywords = zip(NAMES, (tag, member, side, quantity, limit, peak, id, restriction))
+    values = (tag, member, side, quantity, limit, peak, id, restriction, client)
+    keywords = zip(NAMES, values)
     given = _given(frame, {name: column for name, column in keywords if column is not None})
     columns = {name: _Column(name, value) for name, value in (DEFAULTS | given).items()}
     count = _length(columns)

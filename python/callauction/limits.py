@@ -11,3 +11,5 @@ MOST_MEMBERS = 64
 """The members of a journal and of a board, numbered from 0."""
 MOST_NUMBER = 4_294_967_295
 """Any number of a file, and the library's numbers of 32 bits."""
+MOST_CLIENT = (1 << 64) - 1
+"""The caller's own number of an order."""

@@ -217,7 +217,8 @@ def state_of(found: Any) -> State:
 
 # ---- the numbers of a command
 
-BITS = {"quantity": 64, "peak": 64, "id": 32, "number": 32, "limit": 32, "member": 8, "has": 8}
+BITS = {"quantity": 64, "peak": 64, "client": 64, "id": 32, "number": 32, "limit": 32}
+BITS |= {"member": 8, "has": 8}
 """The numbers of a command that the library takes, with their sizes."""
 
 

@@ -77,11 +77,13 @@ class RecordedAuction(DayTables):
         limit: int | None = None,
         peak: int | None = None,
         restriction: Restriction = Restriction.NONE,
+        client: int = 0,
         *,
         check: bool = False,
     ) -> words.Entered | words.Refused:
         """As Auction.enter."""
-        reply = self._applied(member, words.Enter(side, quantity, limit, peak, restriction), check)
+        order = words.Enter(side, quantity, limit, peak, restriction, client)
+        reply = self._applied(member, order, check)
         return cast("words.Entered | words.Refused", reply)
 
     def change(

@@ -95,13 +95,16 @@ class Config:
 
 @dataclasses.dataclass(frozen=True, slots=True)
 class Enter:
-    """A new order; with a peak it is an iceberg order, which shows at most `peak` shares."""
+    """A new order; with a peak it is an iceberg order, which shows at most `peak` shares. `client`
+    is any number of the caller's own, which is given back where the order is listed.
+    """
 
     side: Side
     quantity: int
     limit: int | None = None
     peak: int | None = None
     restriction: Restriction = Restriction.NONE
+    client: int = 0
 
 
 @dataclasses.dataclass(frozen=True, slots=True)

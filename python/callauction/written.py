@@ -21,11 +21,11 @@ def _limit(limit: int | None) -> str:
 
 
 def fields_of(command: Command) -> str:
-    """The fields of a command after its member, parted by commas. Raises TypeError where it is
-    none of Command.
+    """The fields of a command after its member, parted by commas: no file has a `client`. Raises
+    TypeError where it is none of Command.
     """
     match command:
-        case words.Enter(side, quantity, limit, peak, restriction):
+        case words.Enter(side, quantity, limit, peak, restriction, _):
             fields = f"enter,{side.name.lower()},{index(quantity)},{_limit(limit)}"
             shown = "" if peak is None else f",{index(peak)}"
             if not restriction:
@@ -59,7 +59,8 @@ def command_of(record: numpy.void) -> Command:
         case CommandTag.ENTER:
             peak = int(record["peak"]) if record["has_peak"] else None
             restriction = Restriction(record["restriction"])
-            return words.Enter(Side(record["side"]), quantity, limit, peak, restriction)
+            terms = Side(record["side"]), quantity, limit, peak, restriction
+            return words.Enter(*terms, int(record["client"]))
         case CommandTag.CHANGE:
             return words.Change(id, quantity, limit)
         case CommandTag.DELETE:

@@ -20,7 +20,7 @@ def array_of(commands: list[tuple[int, words.Command]]) -> Structs:
     found = numpy.zeros(len(commands), words.COMMAND)
     for row, (member, command) in zip(found, commands):
         row["member"], row["tag"] = member, TAGS[type(command)]
-        for name in ("side", "quantity", "id", "restriction"):
+        for name in ("side", "quantity", "id", "restriction", "client"):
             row[name] = getattr(command, name, 0)
         for name in ("limit", "peak"):
             value = getattr(command, name, None)

@@ -32,6 +32,7 @@ CALLS: list[tuple[str, int, Call]] = [
     ("quantity", 2**64, lambda a, value: a.enter(1, BID, value)),
     ("limit", 2**32, lambda a, value: a.enter(1, BID, 1, value)),
     ("peak", 2**64, lambda a, value: a.enter(1, BID, 1, 1, value)),
+    ("client", 2**64, lambda a, value: a.enter(1, BID, 1, client=value)),
     ("member", 2**8, lambda a, value: a.change(value, 1, 1)),
     ("id", 2**32, lambda a, value: a.change(1, value, 1)),
     ("quantity", 2**64, lambda a, value: a.change(1, 1, value)),

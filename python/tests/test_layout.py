@@ -5,14 +5,21 @@ from typing import Any
 import callauction
 import numpy
 import pytest
-from callauction import COMMAND, ORDER, REPLY, TRADE
+from callauction import COMMAND, ORDER, OUTCOME, REPLY, TRADE
 from callauction import AuctionKind, CommandTag, Refusal, ReplyTag, Restriction, Side
 from callauction._native import ffi, lib
 from callauction.reading import BITS
 
 
 @pytest.mark.parametrize(
-    "name, dtype", [("command", COMMAND), ("reply", REPLY), ("trade", TRADE), ("order", ORDER)]
+    "name, dtype",
+    [
+        ("command", COMMAND),
+        ("reply", REPLY),
+        ("trade", TRADE),
+        ("order", ORDER),
+        ("outcome", OUTCOME),
+    ],
 )
 def test_each_dtype_is_the_struct(name: str, dtype: "numpy.dtype[Any]") -> None:
     fields: Any = dtype.fields

@@ -248,6 +248,7 @@ def test_garbage_does_what_it_stands_for(given: bytes) -> None:
 FIELDS = strategies.tuples(
     strategies.sampled_from([0, 1, 2, 3, 10, 20, 10**9, 10**9 + 1, 2**64 - 1]),
     strategies.sampled_from([0, 1, 5, 2**64 - 1]),
+    strategies.sampled_from([0, 1, 2**64 - 1]),
     strategies.sampled_from([0, 1, 2, 3, 2**32 - 1]),
     strategies.sampled_from([0, 1, 199, 200, 201, 205, 1000, 1001, 2**32 - 1]),
     strategies.sampled_from([0, 0, 1, 255]),

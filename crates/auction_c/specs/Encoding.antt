@@ -118,6 +118,7 @@ order_out listed = record {
   visible = listed.visible;
   filled = listed.filled;
   peak = unwrap_or listed.order.peak 0;
+  client = 0;
   id = listed.order.id;
   limit = unwrap_or (tick_of listed.order.limit) 0;
   member = listed.order.member;
@@ -169,6 +170,7 @@ abbrev pub command_tagged : ℕ → ℕ → ℕ → AuctionCommand
 command_tagged member tag id = record {
   quantity = 0;
   peak = 0;
+  client = 0;
   id = id;
   limit = 0;
   member = member;

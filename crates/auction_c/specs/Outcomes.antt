@@ -83,6 +83,7 @@ abbrev pub outcome_with : Reply → ℕ → Order → AuctionOutcome
 outcome_with reply filled order = record {
   filled = filled;
   left = order.quantity - filled;
+  client = 0;
   id = order.id;
   tick = executed_tick reply;
   member = order.member;

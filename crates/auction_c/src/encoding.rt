@@ -186,6 +186,7 @@ pub(crate) fn order_out(listed: OpenOrder) -> AuctionOrder
         visible: listed.visible,
         filled: listed.filled,
         peak: order.peak.unwrap_or(0),
+        client: 0,
         id: order.id,
         limit: tick.unwrap_or(0),
         member: order.member,

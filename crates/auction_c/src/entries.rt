@@ -33,6 +33,7 @@ fn command_tagged(member: u8, tag: u8, id: u32) -> AuctionCommand
     AuctionCommand {
         quantity: 0,
         peak: 0,
+        client: 0,
         id,
         limit: 0,
         member,

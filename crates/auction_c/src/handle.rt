@@ -12,6 +12,8 @@ use std::alloc::Global;
 #[derive(Drop)]
 pub struct AuctionHandle {
     pub(crate) boxed: AuctionBox,
+    /// What the callers' numbers of orders are kept in, an address that isn't read here.
+    pub(crate) clients: u64,
     /// How many of the day's last calls are the operator's.
     pub(crate) reserve: u32,
     pub(crate) is_open: bool,
@@ -42,6 +44,7 @@ impl AuctionHandle {
     {
         *self = AuctionHandle {
             boxed: AuctionBox::of(made),
+            clients: self.clients,
             reserve,
             is_open: true,
         };

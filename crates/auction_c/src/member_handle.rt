@@ -11,6 +11,8 @@ use std::alloc::Global;
 #[derive(Drop)]
 pub struct AuctionMember {
     pub(crate) boxed: MemberBox,
+    /// What the callers' numbers of orders are kept in, an address that isn't read here.
+    pub(crate) clients: u64,
     /// How many of the day's last calls are the operator's: the same at each handle of a board.
     pub(crate) reserve: u32,
     pub(crate) is_open: bool,
@@ -24,6 +26,7 @@ impl AuctionMember {
     {
         AuctionMember {
             boxed: MemberBox::of(member),
+            clients: 0,
             reserve,
             is_open: true,
         }

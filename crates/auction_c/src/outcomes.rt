@@ -52,6 +52,7 @@ impl Uncrossing {
         AuctionOutcome {
             filled,
             left: order.quantity - filled,
+            client: 0,
             id: order.id,
             tick: executed_tick(&self.reply),
             member: order.member,

@@ -32,6 +32,8 @@ pub struct AuctionCommand {
     pub quantity: u64,
     /// The most shares that an entered order shows, where `has_peak` is 1; else 0.
     pub peak: u64,
+    /// The caller's own number of an entered order: it isn't read here, and 0 in what is written.
+    pub client: u64,
     /// The id of an order, or the number of a trade.
     pub id: u32,
     /// A tick, where `has_limit` is 1; else 0, of a market order.
@@ -108,6 +110,8 @@ pub struct AuctionOrder {
     pub filled: u64,
     /// The most shares that it shows, where `has_peak` is 1; else 0.
     pub peak: u64,
+    /// 0: whoever keeps the callers' own numbers of orders writes it.
+    pub client: u64,
     pub id: u32,
     /// A tick, where `has_limit` is 1; else 0, of a market order.
     pub limit: u32,
@@ -127,6 +131,8 @@ pub struct AuctionOutcome {
     /// Shares that the uncross executed of it, and those that it left.
     pub filled: u64,
     pub left: u64,
+    /// 0, as of a listed order.
+    pub client: u64,
     pub id: u32,
     /// The auction price; 0 where there is none.
     pub tick: u32,
