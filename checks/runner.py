@@ -94,7 +94,7 @@ OF_VENUES = (
     "pytest_rerunfailures selenium"
 )
 LAYOUT = f"{PYTEST} checks/parts/test_layout.py"
-RUNNER = f"{PYTEST} checks/parts/test_runner.py"
+RUNNER = f"{PYTEST} checks/parts/test_runner.py checks/parts/test_costs.py"
 REPORT = f"checks/report {LIBRARY} {PROGRAM}"
 BENCH = f"{PYTEST} checks/parts/test_bench.py"
 BENCH += f" --program {PROGRAM} --clock {CLOCK} --library {LIBRARY}"

@@ -1,5 +1,5 @@
-"""The caller's own number of an order: it is kept, given back where the order is told of, and nothing
-else reads it.
+"""The caller's own number of an order: it is kept, given back where the order is listed, and
+nothing else reads it.
 """
 import pathlib
 
