@@ -22,7 +22,7 @@ def newest_source() -> float:
     """When a file that the program or the library is built from was last changed, in seconds since
     1970.
     """
-    files = [TOP / "crates.txt", TOP / "library/build", TOP / "library/callauction.h"]
+    files = [TOP / "crates.txt", TOP / "library/build", *(TOP / "library").glob("*.[ch]*")]
     for part in ("src", "specs", "proofs"):
         files += (TOP / "crates").glob(f"*/{part}/**/*")
     return max(file.stat().st_mtime for file in files if file.is_file())
