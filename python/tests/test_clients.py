@@ -1,8 +1,6 @@
 """The caller's own number of an order: it is kept, given back where the order is listed, and
 nothing else reads it.
 """
-import pathlib
-
 import numpy
 import pytest
 from callauction import (
@@ -80,12 +78,11 @@ def test_a_board_keeps_clients() -> None:
     assert entries["command"]["client"].tolist() == [MOST, 7, 8, 0, 0, 0]
 
 
-def test_a_recorded_day_takes_clients_and_no_journal_has_them(tmp_path: pathlib.Path) -> None:
+def test_a_recorded_day_takes_clients_and_no_journal_has_them() -> None:
     with RecordedAuction() as recorded:
         recorded.enter(1, BID, 50, 201, client=5)
         day = recorded.day()
-    day.save(tmp_path / "day.csv")
-    assert (tmp_path / "day.csv").read_text().splitlines()[1] == "1,enter,bid,50,201,entered 1"
+    assert day.content.splitlines()[1:] == [b"1,enter,bid,50,201,entered 1"]
 
 
 def test_a_struct_is_its_command() -> None:

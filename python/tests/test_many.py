@@ -117,7 +117,7 @@ def test_a_full_auction_ends_it() -> None:
 
 
 def test_arrays_of_another_kind() -> None:
-    unaligned = numpy.zeros(3 * 32 + 1, "u1")[1:].view(COMMAND)
+    unaligned = numpy.zeros(3 * COMMAND.itemsize + 1, "u1")[1:].view(COMMAND)
     packed = numpy.dtype([(name, COMMAND[name]) for name in COMMAND.names or ()])
     swapped = COMMAND.newbyteorder()
     fixed = numpy.zeros(3, REPLY)
@@ -149,16 +149,17 @@ def test_arrays_of_another_kind() -> None:
             assert auction.calls == 0
 
 
-@pytest.mark.parametrize("begin", [0, 32, 64])
+@pytest.mark.parametrize("begin", [0, 40, 80])
 def test_arrays_that_share_memory(begin: int) -> None:
-    memory = numpy.zeros(192, "u1")
-    memory[begin : begin + 64].view(COMMAND)[:] = some(2)
-    replies = memory[:128].view(REPLY)
+    read, written = 2 * COMMAND.itemsize, 2 * REPLY.itemsize
+    memory = numpy.zeros(written + read, "u1")
+    memory[begin : begin + read].view(COMMAND)[:] = some(2)
+    replies = memory[:written].view(REPLY)
     with Auction() as auction:
         with pytest.raises(ValueError, match="^replies must share no memory"):
-            auction.apply_many(memory[begin : begin + 64].view(COMMAND), replies)
+            auction.apply_many(memory[begin : begin + read].view(COMMAND), replies)
         assert auction.calls == 0
-        apart = memory[128:].view(COMMAND)
+        apart = memory[written:].view(COMMAND)
         apart[:] = some(2)
         assert auction.apply_many(apart, replies)["id"].tolist() == [1, 2]
 

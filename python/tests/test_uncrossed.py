@@ -27,8 +27,11 @@ from checks.model.day import opened as opened_by_the_rules
 from checks.model.files import FileFault, order_file
 
 BID, ASK = Side.BID, Side.ASK
-Row = tuple[int, int, int, int, int, int, int]
-"""An order as an uncross left it: its filled and left shares, id, tick, member, side, expired."""
+NO_CLIENT = 0
+Row = tuple[int, int, int, int, int, int, int, int]
+"""An order as an uncross left it: its filled and left shares, client, id, tick, member, side, and
+whether it expired.
+"""
 
 
 def rows_by_the_rules(before: Day, after: Day, interrupted: bool) -> list[Row]:
@@ -48,7 +51,8 @@ def rows_by_the_rules(before: Day, after: Day, interrupted: bool) -> list[Row]:
             assert not expired or order.only == kind
             if filled or expired:
                 number = int(BID if side == "bid" else ASK)
-                found.append((filled, left, order.id, tick, order.member, number, int(expired)))
+                of_order = order.id, tick, order.member, number, int(expired)
+                found.append((filled, left, NO_CLIENT, *of_order))
     return found
 
 
@@ -100,7 +104,7 @@ def test_an_uncross_that_does_nothing_says_nothing() -> None:
         answer, found = auction.uncross_orders()
         assert isinstance(answer, Interrupted) and found.tolist() == []
         _, found = auction.uncross_orders()
-        assert found.tolist() == [(5, 0, 1, 300, 1, BID, 0), (5, 4, 2, 300, 2, ASK, 1)]
+        assert found.tolist() == [(5, 0, 0, 1, 300, 1, BID, 0), (5, 4, 0, 2, 300, 2, ASK, 1)]
         answer, found = auction.uncross_orders()
         assert isinstance(answer, Refused) and found.tolist() == []
         auction.uncross()
