@@ -256,3 +256,74 @@ def test_what_does_not_follow_is_a_finding_of_its_own(
     lines = lines_of(text + "trade,,,10.00,200,,opening,,B,C,\n", "opening", tmp_path, capsys)
     assert "findings 3" in lines and ": volume: recorded 350, lawful 400: " in lines[0]
     assert lines[1].startswith("row 6, opening: ")
+
+
+PAIRED = """event,order,member,side,price,quantity,surplus,auction,trades,of,time
+new,A1,ADLER,bid,10.00,100,,,,,08:50:00
+new,A2,BIRK,bid,10.00,100,,,,,08:52:00
+new,B1,XENO,ask,10.00,60,,,,,08:53:00
+new,B2,YVES,ask,10.00,60,,,,,08:54:00
+uncross,,,bid,10.00,120,80,opening,3,,09:00:00
+"""
+
+
+def paired(is_mirrored: bool, asks_first: bool, member: str) -> str:
+    """The day with A2's shares for A1 and both rows of each trade, A1's with a member."""
+    text, owner = PAIRED, {"A1": member, "A2": "BIRK", "B1": "XENO", "B2": "YVES"}
+    for number, (bid, ask, shares) in enumerate([("A2", "B1", 60), ("A2", "B2", 40),
+                                                 ("A1", "B2", 20)]):
+        rows = [f"trade,{order},{owner[order]},{side},10.00,{shares},,opening,,T{number},09:00:00\n"
+                for order, side in ((bid, "bid"), (ask, "ask"))]
+        text += "".join(rows[::-1] if asks_first else rows)
+    return text.translate(str.maketrans("AB", "BA")).replace("bid", "?").replace(
+        "ask", "bid").replace("?", "ask") if is_mirrored else text
+
+
+@pytest.mark.parametrize("is_mirrored", [False, True])
+@pytest.mark.parametrize("asks_first", [False, True])
+def test_no_order_is_lent_the_member_of_its_trades_other_side(
+    asks_first: bool, is_mirrored: bool, tmp_path: Path, capsys: pytest.CaptureFixture[str]
+) -> None:
+    """Of a trade that is told as an order's shares, in whichever row of both the order is."""
+    path = tmp_path / "day.csv"
+    path.write_text(paired(is_mirrored, asks_first, "ADLER"))
+    words = ["audit", str(path), "--reference", "10", "--tick-size", "0.01", "--pair", "of"]
+    assert main([*words, "--auctions", "opening"]) == 4
+    lines = capsys.readouterr().out.splitlines()
+    one = "B" if is_mirrored else "A"
+    assert "findings 1" in lines and ": fill: recorded" in lines[0] and "(" not in lines[0]
+    said = f": {one}1 entered 08:50:00 stands before {one}2 entered 08:52:00 at 10.00"
+    assert lines[0].endswith(said)
+
+
+@pytest.mark.parametrize("asks_first", [False, True])
+@pytest.mark.parametrize("member, said", [
+    ("ZENZ", "A1 entered 08:50:00 stands before A2 entered 08:52:00 at 10.00"),
+    ("XENO", "A1 is an order of ADLER, not of XENO."),
+])  # fmt: skip
+def test_the_member_of_an_orders_own_side_is_told(
+    member: str, said: str, asks_first: bool, tmp_path: Path, capsys: pytest.CaptureFixture[str]
+) -> None:
+    """One that no order has may stand for any."""
+    path = tmp_path / "day.csv"
+    path.write_text(paired(False, asks_first, member))
+    words = ["audit", str(path), "--reference", "10", "--tick-size", "0.01", "--pair", "of"]
+    assert main([*words, "--auctions", "opening"]) == 4
+    assert capsys.readouterr().out.splitlines()[0].endswith(f": {said}")
+
+
+def test_names_of_others_in_both_rows_of_each_trade_are_in_doubt(
+    tmp_path: Path, capsys: pytest.CaptureFixture[str]
+) -> None:
+    """The rows' own members are none of orders."""
+    path = tmp_path / "day.csv"
+    rows = paired(False, False, "ADLER").splitlines(keepends=True)
+    names = {"A1,ADLER": "A2,N1", "A2,BIRK": "A1,N2", "XENO": "N3", "YVES": "N4"}
+    made = rows[6:]
+    for name, other in names.items():
+        made = [row.replace(name, other) for row in made]
+    path.write_text("".join([*rows[:6], *made]))
+    words = ["audit", str(path), "--reference", "10", "--tick-size", "0.01", "--pair", "of"]
+    assert main([*words, "--auctions", "opening"]) == 5
+    said = "no member of a trade is one of orders: the names may be others'"
+    assert capsys.readouterr().out.splitlines()[0].endswith(said)

@@ -118,6 +118,11 @@ class Context:
         return dict(zip(self.rows.key[news].tolist(), news.tolist()))
 
     @functools.cached_property
+    def owners(self) -> frozenset[int]:
+        """The numbers of the members that orders have."""
+        return frozenset(self.rows.member[self.rows.of(NEW)].tolist())
+
+    @functools.cached_property
     def _renamed(self) -> dict[int, int]:
         """By its key the last new id of an order before the uncross."""
         rows = self.rows

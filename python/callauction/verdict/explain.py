@@ -4,9 +4,7 @@ and in the extract's ids, members, times and prices. The first sentence says mos
 from collections.abc import Iterator
 
 from callauction.reasons import explain as explain_book
-from callauction.verdict.comparing import (
-    FILL, PRIORITY, Difference, Fill, Trade, keys_of, members_of,
-)  # fmt: skip
+from callauction.verdict.comparing import FILL, PRIORITY, Difference, Fill, Trade, keys_of
 from callauction.verdict.context import Context, RestingOrder
 from callauction.verdict.rows import (
     CANCEL, INTERRUPTED, MARKET, MISSING, OWN, RESTRICTIONS, SIDES,
@@ -246,21 +244,40 @@ def _a(side: str) -> str:
     return "a bid" if side == "bid" else "an ask"
 
 
-def recorded_member(context: Context, difference: Difference, column: str) -> str:
-    """The member that the rows of a trade or a fill have in a column, empty for none."""
-    numbers = getattr(context.rows, column)
-    place = next((it for it in difference.places if numbers[it] != MISSING), None)
-    if place is None:
-        return ""
-    return context.rows.names.recorded(place, column, int(numbers[place]))
+def recorded_members(context: Context, difference: Difference) -> tuple[str, ...]:
+    """The members that the rows of a recorded trade have of its bid and its ask, or those of a fill
+    of its order; empty for none.
+    """
+    made = difference.recorded
+    if not isinstance(made, Trade | Fill):
+        return "", ""
+    columns = ("bid", "ask") if isinstance(made, Trade) else ("",)
+    both = zip(keys_of(made), columns)
+    return tuple(_recorded_member(context, difference.places, key, side) for key, side in both)
+
+
+def _recorded_member(context: Context, places: tuple[int, ...], key: int, side: str) -> str:
+    """The member of an order in the first of these rows that has one. In a trade that is told as an
+    order's shares it is that of the order's side, as far as any order has it.
+    """
+    rows = context.rows
+    for place in places:
+        own = side or next((it for it in SIDES[1:] if getattr(rows, it)[place] == key), "")
+        keys, column = (getattr(rows, own), f"{own}_member") if own else (rows.key, "member")
+        number = int(getattr(rows, column)[place])
+        is_known = own == side or number in context.owners
+        if keys[place] == key and number != MISSING and is_known:
+            return rows.names.recorded(place, column, number)
+    return ""
 
 
 def _of_members(
     context: Context, difference: Difference, recorded: Trade | Fill, lawful: Trade | Fill
 ) -> Iterator[str]:
     """Whose the orders are, where another member was recorded."""
-    for one, key, column in zip(keys_of(recorded), keys_of(lawful), members_of(recorded)):
-        name, owner = recorded_member(context, difference, column), context.member(key)
+    names = recorded_members(context, difference)
+    for one, key, name in zip(keys_of(recorded), keys_of(lawful), names):
+        owner = context.member(key)
         if one == key and name and owner and name != owner:
             yield f"{context.order(key)} is an order of {owner}, not of {name}."
 

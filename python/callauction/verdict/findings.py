@@ -8,11 +8,11 @@ import pandas
 from callauction import statuses
 from callauction.reasons import Explanation
 from callauction.verdict import jumps
-from callauction.verdict.comparing import Difference, Fill, Trade, Value, members_of
+from callauction.verdict.comparing import Difference, Fill, Trade, Value
 from callauction.verdict.context import Context
 from callauction.verdict.coverage import Coverage, coverage_of
 from callauction.verdict.explain import (
-    book_sentences, effect_of, recorded_member, rule_of, sentences_of,
+    book_sentences, effect_of, recorded_members, rule_of, sentences_of,
 )  # fmt: skip
 from callauction.verdict.judged import Judged, Judgement, Rules
 from callauction.verdict.orders import orders_of
@@ -281,7 +281,7 @@ def _at(context: Context, price: int) -> str:
 
 def _fill(context: Context, fill: Fill, difference: Difference) -> str:
     """A fill in the extract's names, with its member where another one was recorded."""
-    member, owner = recorded_member(context, difference, "member"), context.member(fill.order)
+    member, owner = recorded_members(context, difference)[0], context.member(fill.order)
     name = owner if fill is difference.lawful else member
     shown = f" ({name})" if member and owner not in ("", member) else ""
     return f"{context.order(fill.order)}{shown} {fill.quantity:,}{_at(context, fill.price)}"
@@ -289,10 +289,9 @@ def _fill(context: Context, fill: Fill, difference: Difference) -> str:
 
 def _trade(context: Context, trade: Trade, difference: Difference) -> str:
     """A trade in the extract's names, with its members where these were recorded."""
-    recorded = [recorded_member(context, difference, it) for it in members_of(trade)]
-    members = recorded
-    if trade is difference.lawful and any(recorded):
-        members = [context.member(trade.bid), context.member(trade.ask)]
+    members = recorded_members(context, difference)
+    if trade is difference.lawful and any(members):
+        members = context.member(trade.bid), context.member(trade.ask)
     names = [
         f"{side} {context.order(key)}" + (f" ({member})" if member else "")
         for side, key, member in zip(("bid", "ask"), (trade.bid, trade.ask), members)

@@ -43,13 +43,17 @@ def join_sides(rows: Rows, codes: Codes | None, instrument: Codes) -> None:
 
 
 def _join(rows: Rows, bids: Ints, asks: Ints) -> None:
-    """Makes a trade or a bust of each of these bids and its ask, in the row that is first."""
+    """Makes a trade or a bust of each of these bids and its ask, in the row that is first; each
+    side has its own member.
+    """
     first, second = numpy.minimum(bids, asks), numpy.maximum(bids, asks)
     for side, those in zip(SIDES[1:], (bids, asks)):
         for name, own in ((side, rows.key), (f"{side}_member", rows.member)):
             array = getattr(rows, name).copy()
             array[first] = own[those]
             setattr(rows, name, array)
+    rows.member = rows.member.copy()
+    rows.member[numpy.concatenate([bids, asks])] = MISSING
     rows.kind[second] = BAD
 
 
