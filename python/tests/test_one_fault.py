@@ -93,6 +93,45 @@ def test_an_order_that_was_executed_before(
     assert "A isn't open in this auction: it was executed in row 5." in lines[0]
 
 
+FOR_ONE_AUCTION = """event,order,side,price,quantity,restriction,surplus,auction,trades,bid,ask
+new,A,bid,10.00,100,opening,,,,,
+new,S,ask,{limit},40,,,,,,
+uncross,,{side},{price},{volume},,{left},opening,,,
+{made}
+new,B,bid,10.00,50,,,,,,
+new,T,ask,10.00,50,,,,,,
+uncross,,none,10.00,50,,0,intraday,1,,
+trade,,,10.00,50,,,intraday,,A,T
+"""
+
+
+@pytest.mark.parametrize("limit, quantity, cancel, said", [
+    ("10.00", 100, "", "A is for the opening alone, which is over."),
+    ("10.01", 100, "", "A is for the opening alone, which is over."),
+    ("10.00", 40, "", "A isn't open in this auction: it was executed in row 5."),
+    ("10.00", 100, "cancel,A,bid,,,,,,,,\n", "A isn't open in this auction: it was cancelled in "
+     "row 6."),
+])  # fmt: skip
+def test_an_order_for_an_auction_that_is_over(
+    limit: str, quantity: int, cancel: str, said: str, tmp_path: Path,
+    capsys: pytest.CaptureFixture[str],
+) -> None:  # fmt: skip
+    """40 shares of one for the opening alone are executed there, or none."""
+    path, left = tmp_path / "day.csv", quantity - 40
+    item = {"side": "bid" if left else "none", "price": limit, "volume": 40, "left": left}
+    made = "trade,,,10.00,40,,,opening,,A,S"
+    if limit != "10.00":
+        item, made = {"side": "", "price": "", "volume": 0, "left": ""}, "cancel,S,ask,,,,,,,,"
+    text = FOR_ONE_AUCTION.replace("10.00,100", f"10.00,{quantity}")
+    text = text.format(limit=limit, made=made, **item)
+    path.write_text(text.replace("new,B", f"{cancel}new,B"))
+    words = ["audit", str(path), "--reference", "10", "--tick-size", "0.01", "--quantity", "open"]
+    assert main([*words, "--auctions", "opening,intraday"]) == 4
+    lines = capsys.readouterr().out.splitlines()
+    assert "findings 1" in lines and ": trade: recorded bid A ask T: 50 at 10.00, " in lines[0]
+    assert lines[0].endswith(f": {said}")
+
+
 def test_orders_on_the_other_sides_are_one_finding(
     tmp_path: Path, capsys: pytest.CaptureFixture[str]
 ) -> None:

@@ -16,7 +16,7 @@ from callauction.verdict.judged import Judged, Rules
 from callauction.verdict.phases import Result, Uncross, recorded_sums
 from callauction.verdict.ranges import Range
 from callauction.verdict.rows import (
-    CANCEL, FILL, MARKET, NEW, REPLACE, SIDES, TRADE, Rows,
+    CANCEL, FILL, MARKET, NEW, OWN, REPLACE, SIDES, TRADE, Rows,
 )  # fmt: skip
 from callauction.words import AUCTIONS
 
@@ -50,11 +50,14 @@ class RestingOrder:
 
 @dataclasses.dataclass(frozen=True)
 class Context:
-    """What a finding is explained from: its uncross, the rows of its day, and the rules."""
+    """What a finding is explained from: its uncross, the rows of its day, the rules, and the
+    uncrosses before it.
+    """
 
     judged: Judged
     rows: Rows
     rules: Rules
+    earlier: tuple[Judged, ...] = ()
 
     @property
     def auction(self) -> str:
@@ -151,6 +154,21 @@ class Context:
         own = numpy.concatenate([self.judged.traded, self.judged.filled])
         these = these[(these < self.judged.place) & ~numpy.isin(these, own)]
         return int(these[-1]) if len(these) else None
+
+    def lapsed(self, key: int) -> str:
+        """The auction before this one that an entered order is for alone, empty for none, and where
+        that executed all of it or a row cancels it.
+        """
+        only = int(self.rows.only[self.entered[key]])
+        own = OWN.index(only) if only > 0 else len(OWN)
+        last = self.closed_by(key)
+        if own >= self.judged.auction or last is not None and self.rows.kind[last] == CANCEL:
+            return ""
+        for each in self.earlier:
+            open_shares = each.book.quantity[each.book.key == key].sum()
+            if each.is_ended and 0 < open_shares <= each.fills.by_key().get(key, 0):
+                return ""
+        return AUCTIONS[own]
 
     @functools.cached_property
     def at(self) -> dict[int, int]:

@@ -194,13 +194,17 @@ def _of_closed(context: Context, key: int) -> Iterator[str]:
     elif key not in context.entered:
         yield f"{context.order(key)} is the id of no order."
     else:
-        place = context.entered[key]
-        is_later = place > context.judged.place
-        label = context.rows.labels[place]
-        when = f"is entered in row {label}, behind this uncross" if is_later else (
-            f"isn't open in this auction: it was {_closing(context, key)}"
-        )
-        yield f"{context.order(key)} {when}."
+        yield f"{context.order(key)} {_why_closed(context, key)}."
+
+
+def _why_closed(context: Context, key: int) -> str:
+    """Why an entered order isn't open in the auction."""
+    place, lapsed = context.entered[key], context.lapsed(key)
+    if place > context.judged.place:
+        return f"is entered in row {context.rows.labels[place]}, behind this uncross"
+    if lapsed:
+        return f"is for the {lapsed} alone, which is over"
+    return f"isn't open in this auction: it was {_closing(context, key)}"
 
 
 def _closing(context: Context, key: int) -> str:

@@ -214,8 +214,8 @@ def verdict_of(judgement: Judgement, rows: Rows, rules: Rules) -> Verdict:
 def _findings(judgement: Judgement, rows: Rows, rules: Rules) -> Iterator[Finding]:
     """The findings in the order of their uncrosses, numbered among those of their kind."""
     numbers: collections.Counter[bool] = collections.Counter()
-    for judged in judgement.uncrosses:
-        context = Context(judged, rows, rules)
+    for number, judged in enumerate(judgement.uncrosses):
+        context = Context(judged, rows, rules, judgement.uncrosses[:number])
         for those in jumps.grouped(context, judged.differences):
             is_certain = not those[0].doubt
             numbers[is_certain] += 1
