@@ -366,3 +366,42 @@ def test_names_of_others_in_both_rows_of_each_trade_are_in_doubt(
     assert main([*words, "--auctions", "opening"]) == 5
     said = "no member of a trade is one of orders: the names may be others'"
     assert capsys.readouterr().out.splitlines()[0].endswith(said)
+
+
+NAMED = """event,order,{name},side,price,quantity,surplus,auction
+new,A1,{ids[0]},bid,10.00,100,,
+new,A2,{ids[1]},bid,10.00,100,,
+new,B1,{ids[2]},ask,10.00,60,,
+new,B2,{ids[3]},ask,10.00,60,,
+uncross,,,bid,10.00,120,80,opening
+fill,A1,{ids[4]},bid,10.00,60,,opening
+fill,B1,{ids[5]},ask,10.00,60,,opening
+fill,A1,{ids[6]},bid,10.00,40,,opening
+fill,B2,{ids[7]},ask,10.00,40,,opening
+fill,A2,{ids[8]},bid,10.00,21,,opening
+fill,B2,{ids[9]},ask,10.00,21,,opening
+"""
+
+
+@pytest.mark.parametrize("name, ids, doubtful", [
+    ("ClOrdID", "c1 c2 c3 c4 c1 c3 c1 c4 c2 c4", []),
+    ("SecurityID", "X X X X X X X X X X", []),
+    ("SessionID", "- - - - 2 2 2 2 2 2", []),
+    ("TradeID", "- - - - T1 T1 T2 T2 T3 T3", []),
+    ("TradeID", "- - - - T1 T1 T2 T3 T3 T3", ["B2"]),
+])  # fmt: skip
+def test_fills_of_one_order_correct_one_another_by_ids_of_trades_alone(
+    name: str, ids: str, doubtful: list[str], tmp_path: Path, capsys: pytest.CaptureFixture[str]
+) -> None:
+    """21 shares of A2 and B2 are one too many; an order's id is on each of its fills."""
+    path = tmp_path / "day.csv"
+    path.write_text(NAMED.format(name=name, ids=ids.replace("-", "").split(" ")))
+    words = ["audit", str(path), "--reference", "10", "--tick-size", "0.01", "--ignore", name]
+    assert main([*words, "--auctions", "opening"]) == 4
+    lines = capsys.readouterr().out.splitlines()
+    why = f": rows 10 and 12 have one {name}: is the later right?"
+    fills = [line for line in lines if ": fill: " in line]
+    assert [it.split("recorded ")[1][:2] for it in fills if why in it] == doubtful
+    certain = [line for line in lines if line.startswith("row ")]
+    assert [line.split("recorded ")[1][:5] for line in certain] == ["A2 21", "B2 61"][
+        : 2 - len(doubtful)]

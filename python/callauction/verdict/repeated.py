@@ -2,10 +2,12 @@
 import numpy
 import pandas
 
-from callauction.verdict.cells import Ints
+from callauction.verdict.cells import Ints, Mask
 from callauction.verdict.columns import is_id, is_trade_id
 from callauction.verdict.judged import Judgement
-from callauction.verdict.rows import BAD, CANCEL, FILL, OUTSIDE, TAKEN, TRADE, Doubt, Rows
+from callauction.verdict.rows import (
+    BAD, CANCEL, FILL, OF_ORDERS, OUTSIDE, TAKEN, TRADE, Doubt, Rows,
+)  # fmt: skip
 
 NONE = numpy.zeros(0, "i8")
 
@@ -51,7 +53,7 @@ def copies(rows: Rows, judgement: Judgement) -> Ints:
 
 def amended(rows: Rows) -> tuple[Ints, str]:
     """The rows of trades and fills which a later one may correct, and why: it has their orders, and
-    their id in a column that isn't read.
+    their id in a column that isn't read and isn't of their orders.
     """
     made = rows.of(TRADE, FILL)
     for name in filter(is_id, rows.names.unread):
@@ -59,8 +61,35 @@ def amended(rows: Rows) -> tuple[Ints, str]:
         keys = {name: getattr(rows, name)[made] for name in ("bid", "ask", "key")}
         frame = pandas.DataFrame({**keys, "id": codes})
         again = frame.duplicated(keep="last").to_numpy()
-        if again.any() and codes.min() >= 0:
-            first = numpy.flatnonzero((frame == frame[again].iloc[0]).all(axis=1))[[0, -1]]
-            one, other = rows.labels[made[first]]
-            return made[again], f"rows {one} and {other} have one {name}: is the later right?"
+        if not again.any() or codes.min() < 0 or _is_of_orders(rows, made[again], name):
+            continue
+        again &= _are_of_two(frame)
+        if again.any():
+            groups = frame[again].drop_duplicates()
+            first = numpy.flatnonzero((frame == groups.iloc[0]).all(axis=1))[[0, -1]]
+            both = "rows {} and {}".format(*rows.labels[made[first]])
+            those = both if len(groups) == 1 else f"rows, such as {both},"
+            return made[again], f"{those} have one {name}: is the later right?"
     return NONE, ""
+
+
+def _are_of_two(frame: "pandas.DataFrame") -> Mask:
+    """Which rows have an id that no more than two orders have, as a trade has two."""
+    parts = [frame[["id", name]].set_axis(["id", "key"], axis=1) for name in ("bid", "ask", "key")]
+    whole = pandas.concat(parts)
+    orders = whole[whole["key"] >= 0].drop_duplicates()["id"].value_counts()
+    found: Mask = (frame["id"].map(orders) <= 2).to_numpy()
+    return found
+
+
+def _is_of_orders(rows: Rows, these: Ints, name: str) -> bool:
+    """Whether a column has an order's id, its member's or its instrument's, and none of trades: one
+    of these trades or fills has what a row of its own order has.
+    """
+    keys = [getattr(rows, each)[these] for each in ("key", "bid", "ask")]
+    orders = rows.of(*OF_ORDERS)
+    orders = orders[numpy.isin(rows.key[orders], numpy.concatenate(keys))]
+    codes = rows.names.codes(numpy.concatenate([these, orders]), name)
+    own = {*zip(rows.key[orders].tolist(), codes[len(these) :].tolist())}
+    made = codes[: len(these)].tolist()
+    return any(not own.isdisjoint(zip(each.tolist(), made)) for each in keys)
