@@ -368,6 +368,27 @@ def test_names_of_others_in_both_rows_of_each_trade_are_in_doubt(
     assert capsys.readouterr().out.splitlines()[0].endswith(said)
 
 
+@pytest.mark.parametrize("is_mirrored", [False, True])
+def test_one_share_too_many_is_of_the_order_that_has_not_so_many(
+    is_mirrored: bool, tmp_path: Path, capsys: pytest.CaptureFixture[str]
+) -> None:
+    """D has 21 shares of B where 20 are lawful; both trade with others too, and D has some left."""
+    text = new("A", "bid", 100) + new("D", "bid", 100) + new("B", "ask", 120) + new("C", "ask", 60)
+    text += uncross("opening", 180, 20, "bid", 3) + trade("opening", "A", "B", 100)
+    text += trade("opening", "D", "B", 21) + trade("opening", "D", "C", 60)
+    if is_mirrored:
+        text = text.replace("bid", "?").replace("ask", "bid").replace("?", "ask")
+        rows = [row.split(",") for row in text.splitlines()]
+        text = "".join(",".join([*row[:8], row[9], row[8], row[10]]) + "\n" for row in rows)
+    lines = lines_of(text, "opening", tmp_path, capsys)
+    said = "B has 120 open, and 121 are recorded of it."
+    assert "findings 1" in lines and lines[0].endswith(f": {said}")
+    words = ["audit", str(tmp_path / "day.csv"), "--reference", "10", "--tick-size", "0.01"]
+    assert main([*words, "--auctions", "opening", "--explain"]) == 4
+    said = "80 to it, which has 100 open, and 81 are recorded of it."
+    assert said in capsys.readouterr().out
+
+
 NAMED = """event,order,{name},side,price,quantity,surplus,auction
 new,A1,{ids[0]},bid,10.00,100,,
 new,A2,{ids[1]},bid,10.00,100,,

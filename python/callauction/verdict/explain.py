@@ -180,11 +180,17 @@ def _of_trade(context: Context, difference: Difference) -> Iterator[str]:
 
 
 def _of_open(context: Context, recorded: Trade | Fill) -> Iterator[str]:
-    """Which order of a trade or a fill has fewer shares open than were recorded."""
+    """Which order of a trade or a fill has fewer shares open than were recorded, there or in all.
+    """
     for key in keys_of(recorded):
-        if key in context.at and context.open_order(context.at[key]).quantity < recorded.quantity:
-            order = context.open_order(context.at[key])
+        order = context.open_order(context.at[key]) if key in context.at else None
+        if order is None:
+            continue
+        if order.quantity < recorded.quantity:
             yield f"{order.order} has {order.quantity:,} open, and no {recorded.quantity:,}."
+        elif order.quantity < context.recorded.get(key, 0):
+            total = context.recorded[key]
+            yield f"{order.order} has {order.quantity:,} open, and {total:,} are recorded of it."
 
 
 def _of_closed(context: Context, key: int) -> Iterator[str]:
@@ -308,8 +314,10 @@ def _of_queue(context: Context, difference: Difference) -> Iterator[str]:
             if places[early] < places[late]:
                 orders = (context.open_order(context.at[key]) for key in (early, late))
                 yield _before(context, *orders)
+    told = difference.recorded
+    told_shares = told.quantity if isinstance(told, Trade | Fill) else 0
     for _, key in sorted(shares, key=lambda it: it[0]):
-        yield _share(context, context.open_order(context.at[key]))
+        yield _share(context, context.open_order(context.at[key]), told_shares)
 
 
 def _before(context: Context, early: RestingOrder, late: RestingOrder) -> str:
@@ -330,13 +338,17 @@ def _entered(order: RestingOrder) -> str:
     return f"{order.order} {order.event} {order.since or f'in row {order.row}'}"
 
 
-def _share(context: Context, order: RestingOrder) -> str:
-    """How much of the volume falls to an order, and how much to those before it."""
+def _share(context: Context, order: RestingOrder, told: int) -> str:
+    """How much of the volume falls to an order, and how much to those before it; and what was
+    recorded of it in all, where that is neither lawful nor as many shares as are told.
+    """
     place, count = context.places[order.key][1] + 1, len(context.queues[order.side])
+    due, made = context.fills.get(order.key, 0), context.recorded.get(order.key, 0)
+    got = f", and {made:,} are recorded of it" if made not in (due, told) else ""
     return (
         f"{order.order} is number {place:,} of {count:,} in the queue of {order.side}s: of the "
         f"volume, {context.result.volume:,}, {context.ahead[order.key]:,} fall to those before "
-        f"it, and {context.fills.get(order.key, 0):,} to it, which has {order.quantity:,} open."
+        f"it, and {due:,} to it, which has {order.quantity:,} open{got}."
     )
 
 
