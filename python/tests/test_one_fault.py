@@ -105,6 +105,7 @@ trade,,,10.00,50,,,intraday,,A,T
 """
 
 
+@pytest.mark.parametrize("is_mirrored", [False, True])
 @pytest.mark.parametrize("limit, quantity, cancel, said", [
     ("10.00", 100, "", "A is for the opening alone, which is over."),
     ("10.01", 100, "", "A is for the opening alone, which is over."),
@@ -113,7 +114,7 @@ trade,,,10.00,50,,,intraday,,A,T
      "row 6."),
 ])  # fmt: skip
 def test_an_order_for_an_auction_that_is_over(
-    limit: str, quantity: int, cancel: str, said: str, tmp_path: Path,
+    limit: str, quantity: int, cancel: str, said: str, is_mirrored: bool, tmp_path: Path,
     capsys: pytest.CaptureFixture[str],
 ) -> None:  # fmt: skip
     """40 shares of one for the opening alone are executed there, or none."""
@@ -124,12 +125,53 @@ def test_an_order_for_an_auction_that_is_over(
         item, made = {"side": "", "price": "", "volume": 0, "left": ""}, "cancel,S,ask,,,,,,,,"
     text = FOR_ONE_AUCTION.replace("10.00,100", f"10.00,{quantity}")
     text = text.format(limit=limit, made=made, **item)
-    path.write_text(text.replace("new,B", f"{cancel}new,B"))
+    text = text.replace("new,B", f"{cancel}new,B")
+    path.write_text(mirrored(text) if is_mirrored else text)
     words = ["audit", str(path), "--reference", "10", "--tick-size", "0.01", "--quantity", "open"]
     assert main([*words, "--auctions", "opening,intraday"]) == 4
     lines = capsys.readouterr().out.splitlines()
-    assert "findings 1" in lines and ": trade: recorded bid A ask T: 50 at 10.00, " in lines[0]
+    both = "bid T ask A" if is_mirrored else "bid A ask T"
+    assert "findings 1" in lines and f": trade: recorded {both}: 50 at 10.00, " in lines[0]
     assert lines[0].endswith(f": {said}")
+
+
+def mirrored(text: str) -> str:
+    """A day whose bids are asks, and whose asks are bids."""
+    rows = [row.split(",") for row in text.splitlines()]
+    other = {"bid": "ask", "ask": "bid", "10.01": "9.99"}
+    found = [[other.get(cell, cell) for cell in row] for row in rows[1:]]
+    return "".join(f"{','.join(row)}\n" for row in [rows[0], *(
+        [*row[:-2], row[-1], row[-2]] for row in found)])
+
+
+@pytest.mark.parametrize("is_mirrored", [False, True])
+@pytest.mark.parametrize("only, cancel, said", [
+    ("opening", "", "A is for the opening alone, which is over."),
+    ("closing", "", "A is for the closing alone."),
+    ("", "cancel,A,bid,,,,,,,,\n", "A isn't open in this auction: it was cancelled in row 6."),
+])  # fmt: skip
+@pytest.mark.parametrize("left", [60, 61])
+def test_what_follows_from_an_order_that_was_not_open_is_told_under_it(
+    left: int, only: str, cancel: str, said: str, is_mirrored: bool, tmp_path: Path,
+    capsys: pytest.CaptureFixture[str],
+) -> None:  # fmt: skip
+    """With A's 60 shares, which are left, 60 are left of it and B; 61 are another fault."""
+    closing = only == "closing"
+    item = {"side": "", "price": "", "volume": 0, "left": ""} if closing else {
+        "side": "bid", "price": "10.00", "volume": 40, "left": 60}
+    made = "cancel,S,ask,,,,,,,," if closing else "trade,,,10.00,40,,,opening,,A,S"
+    text = FOR_ONE_AUCTION.format(limit="10.01" if closing else "10.00", made=made, **item)
+    text = text.replace(",opening,,,,,\n", f",{only},,,,,\n", 1).replace("new,B", f"{cancel}new,B")
+    text = text.replace("none,10.00,50,,0", f"bid,10.00,50,,{left}")
+    text = text.replace("10.00,100", "10.00,60") if closing else text
+    path = tmp_path / "day.csv"
+    path.write_text(mirrored(text) if is_mirrored else text)
+    words = ["audit", str(path), "--reference", "10", "--tick-size", "0.01", "--quantity", "open"]
+    assert main([*words, "--auctions", "opening,intraday,closing"]) == 4
+    lines = capsys.readouterr().out.splitlines()
+    assert lines[0].endswith(f": {said}")
+    assert ("    surplus: recorded 60, lawful 0" in lines) == (left == 60)
+    assert f"findings {left - 59}" in lines
 
 
 def test_orders_on_the_other_sides_are_one_finding(

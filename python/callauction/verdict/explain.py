@@ -162,7 +162,7 @@ def _of_trade(context: Context, difference: Difference) -> Iterator[str]:
     if isinstance(recorded, Trade | Fill):
         sides = " ".join(_of_sides(context, recorded))
         yield from [sides] * bool(sides)
-        for key in keys_of(recorded):
+        for key in sorted(keys_of(recorded), key=context.at.__contains__):
             yield from _of_closed(context, key)
         if isinstance(lawful, Trade | Fill):
             yield from _of_members(context, difference, recorded, lawful)

@@ -2,6 +2,7 @@
 import dataclasses
 from collections.abc import Iterator, Sequence
 
+from callauction.verdict.absent import of_absent
 from callauction.verdict.comparing import Difference, Fill, Trade, keys_of
 from callauction.verdict.context import Context
 from callauction.verdict.following import following
@@ -10,13 +11,15 @@ from callauction.verdict.following import following
 def grouped(context: Context, differences: Sequence[Difference]) -> list[list[Difference]]:
     """The differences of an uncross, those of trades and fills that are of one jump being one
     group; of these, and in each, those of most shares come first, behind the published items. What
-    follows from a wrong price or volume is one group with it, the first.
+    follows from an order that wasn't open, or from a wrong price or volume, is one group with it,
+    the first.
     """
-    under = following(context, differences)
-    if under:
-        left = [it for it in differences if not any(it is each for each in under)]
-        return [under, *_by_jump(context, left)]
-    return _by_jump(context, differences)
+    found, left = list[list[Difference]](), differences
+    for under in (of_absent, following):
+        those = under(context, left)
+        found += [those] * bool(those)
+        left = [it for it in left if not any(it is each for each in those)]
+    return [*found, *_by_jump(context, left)]
 
 
 def _by_jump(context: Context, differences: Sequence[Difference]) -> list[list[Difference]]:
