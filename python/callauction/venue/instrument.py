@@ -37,6 +37,10 @@ LEAST_PAUSE = 0.1
 """Seconds between two looks at the program."""
 TICK = 0.1
 """Seconds between two looks at the clock."""
+GRACE_SECONDS = 30
+"""How long a call goes on whose end passed while nobody could change an order, and after which it
+is uncrossed by itself; a shorter one as long as it is.
+"""
 BUSY_SHARE = 4
 """How often the time that a look took passes before the next one."""
 CODES_SECONDS = 1.0
@@ -135,6 +139,7 @@ class Instrument:
         self.wants_ladder: Callable[[], bool] = lambda: False
         self.on_shown: Callable[[frozenset[str], bool], None] = lambda members, traded: None
         self.on_entry: Callable[[Message, Entry | None], None] = lambda message, entry: None
+        self.has_venue_halted: Callable[[], bool] = lambda: False
         self._stale: set[str] = set()
         self._wakes, self._looking = asyncio.Event(), asyncio.Lock()
         self._random = random.SystemRandom()
@@ -145,7 +150,9 @@ class Instrument:
 
     async def begin(self) -> None:
         """Looks at the program, before `run`. Raises ProcessError."""
-        self.keep_time(clock.now())
+        now = clock.now()
+        self._give_time(now)
+        self.keep_time(now)
         try:
             await self.look()
         except ProcessError as fault:
@@ -503,13 +510,36 @@ class Instrument:
         if self.state.is_due(now):
             self._enter(self.state.ended())
 
+    def _give_time(self, now: float) -> None:
+        """A call whose end passed while nobody could change an order goes on for a while, where it
+        would be uncrossed by itself.
+        """
+        if self.plan.is_automatic and self.state.is_due(now):
+            is_extended = self.state.phase is Phase.EXTENDED
+            length = self.plan.extension if is_extended else self.plan.call
+            self._enter(self.state.goes_on(now, min(GRACE_SECONDS, length or GRACE_SECONDS)))
+
+    @property
+    def _stands_still(self) -> bool:
+        """Whether its clock does nothing now: it has halted, or the venue has, where a call would
+        be uncrossed by itself.
+        """
+        has_halted = self.engine.halted is not None
+        return has_halted or (self.plan.is_automatic and self.has_venue_halted())
+
     async def run_clock(self) -> None:
         """Ends calls when they are due, and uncrosses them where the plan says so."""
+        has_stood = False
         while True:
             await asyncio.sleep(TICK)
-            if self.engine.halted is not None or self._is_uncrossing:
+            has_stood |= self._stands_still
+            if self._stands_still or self._is_uncrossing:
                 continue
-            self.keep_time(clock.now())
+            now = clock.now()
+            if has_stood:
+                self._give_time(now)
+            has_stood = False
+            self.keep_time(now)
             if self.plan.is_automatic and self.state.phase is Phase.ENDED:
                 with contextlib.suppress(MessageError, PhaseError):
                     await self.uncross()

@@ -86,6 +86,10 @@ class State:
         later = max(0.0, now - self.frozen)
         return dataclasses.replace(self, frozen=None)._later(later)
 
+    def goes_on(self, now: float, seconds: int) -> Self:
+        """A call whose end has passed, and that goes on for as many seconds, at least one."""
+        return self._with_end(self.phase, now, seconds, 0, 0.0)
+
     def set_back(self, seconds: float) -> Self:
         """The same by a clock that was set back by as much."""
         frozen = None if self.frozen is None else self.frozen - seconds

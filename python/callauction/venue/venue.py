@@ -132,6 +132,7 @@ class Venue(Audience):
             instrument.on_shown = functools.partial(self.show_news, instrument)
             instrument.on_entry = functools.partial(self._heard, instrument)
             instrument.codes = functools.partial(self._codes_of, instrument)
+            instrument.has_venue_halted = lambda: self.halted is not None
             round_.boards[board.name] = instrument
             added.append(instrument)
         return added
