@@ -372,10 +372,17 @@ def test_a_day_that_runs_is_checked_as_it_is_at_one_moment(tmp_path: pathlib.Pat
 # ---- certificates
 
 
-def certificate(folder: pathlib.Path, name: str, days: int = 30) -> list[str]:
+ECDSA = "ec -pkeyopt ec_paramgen_curve:prime256v1"
+RSA = "rsa:2048"
+"""Kinds of keys, as openssl names them."""
+
+
+def certificate(
+    folder: pathlib.Path, name: str, days: int = 30, kind: str = ECDSA
+) -> list[str]:
     """A certificate and its key, as words of a venue."""
     cert, key = folder / "cert.pem", folder / "key.pem"
-    words = "openssl req -x509 -newkey ec -pkeyopt ec_paramgen_curve:prime256v1 -nodes"
+    words = f"openssl req -x509 -newkey {kind} -nodes"
     files = ["-subj", f"/CN={name}", "-keyout", str(key), "-out", str(cert), "-days", str(days)]
     named = ["-addext", "subjectAltName=IP:127.0.0.1"]
     subprocess.run([*words.split(), *files, *named], check=True, capture_output=True)
@@ -481,6 +488,42 @@ def test_a_certificate_is_taken_anew(tmp_path: pathlib.Path) -> None:
         assert len(found) == len(SPOILED), found
         for text, what in zip(found, SPOILED):
             assert what in text, (what, text)
+
+
+def certificates_at(port: int) -> list[bytes]:
+    """The certificates by which a port is reached by who takes any, and by who takes but RSA, or
+    but ECDSA; none where it has none of that kind.
+    """
+    found = []
+    for ciphers in ("ALL", "aRSA", "aECDSA"):
+        context = ssl.SSLContext(ssl.PROTOCOL_TLS_CLIENT)
+        context.check_hostname, context.verify_mode = False, ssl.CERT_NONE
+        context.maximum_version = ssl.TLSVersion.TLSv1_2
+        context.set_ciphers(ciphers)
+        with contextlib.suppress(ssl.SSLError), socket.create_connection(("127.0.0.1", port)) as it:
+            with context.wrap_socket(it) as secured:
+                found.append(secured.getpeercert(True) or b"")
+    return found
+
+
+def test_a_certificate_of_another_kind_is_taken_anew(tmp_path: pathlib.Path) -> None:
+    """Nobody is given the one before it any more, at the pages' port or at that of FIX."""
+    fix = served.free_port()
+    words = certificate(tmp_path, "first")
+    day = f'{FAST}[fix]\naddress = "127.0.0.1:{fix}"\n[fix.sessions]\nALICE = "Alice"\n'
+    with served.served(tmp_path, day, *words) as venue:
+        ports = [int(venue.url.rpartition(":")[2].rstrip("/")), fix]
+        for name, kind in (("second", RSA), ("third", ECDSA), ("fourth", RSA)):
+            certificate(tmp_path, name, kind=kind)
+            own = ssl.PEM_cert_to_DER_cert((tmp_path / "cert.pem").read_text())
+            venue.child.send_signal(signal.SIGHUP)
+            last = time.monotonic() + served.SECONDS / 10
+            while (found := [certificates_at(it) for it in ports]) != [[own, own]] * 2:
+                assert time.monotonic() < last, (name, found)
+                time.sleep(0.2)
+        venue.child.terminate()
+        venue.child.communicate(timeout=served.SECONDS)
+        assert venue.child.returncode == 0
 
 
 def test_a_hangup_without_a_certificate(tmp_path: pathlib.Path) -> None:

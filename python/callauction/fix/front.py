@@ -10,7 +10,6 @@ import logging
 import pathlib
 import re
 import socket
-import ssl
 import tempfile
 from collections.abc import AsyncIterator, Callable, Container, Coroutine, Iterator
 from typing import Any
@@ -142,7 +141,7 @@ class Front:
     # ---- begin and end
 
     @contextlib.asynccontextmanager
-    async def served(self, context: ssl.SSLContext | None) -> AsyncIterator[str]:
+    async def served(self, tls: gates.Tls | None) -> AsyncIterator[str]:
         """Listens, with this TLS: the line that says where. Raises AddressError."""
         with self._taking_address():
             sockets = gates.bound(self._terms.host, self._terms.port)
@@ -164,7 +163,7 @@ class Front:
         self._sockets = sockets
         with self._taking_address():
             gates.listen(sockets)
-        self._start(self._listen(context))
+        self._start(self._listen(tls))
         try:
             yield f"fix      {named(self._terms.host)}:{sockets[0].getsockname()[1]}"
         finally:
@@ -180,7 +179,7 @@ class Front:
             text = gates.why_not(*where, fault, "another `address`")
             raise AddressError(f"fix: {text}") from None
 
-    async def _listen(self, context: ssl.SSLContext | None) -> None:
+    async def _listen(self, tls: gates.Tls | None) -> None:
         """Takes connections, which wait for a while where a session owes reports, as it can't begin
         before they are made again.
         """
@@ -188,7 +187,7 @@ class Front:
         last = loop.time() + OWED_SECONDS
         while any(it.owed for it in self._seats.values()) and loop.time() < last:
             await asyncio.sleep(OWED_PAUSE)
-        self._listener = gates.Listener(self.gates, self._sockets, lambda: Wire(self), context)
+        self._listener = gates.Listener(self.gates, self._sockets, lambda: Wire(self), tls)
 
     def _begin_of(self, comp_id: str) -> str:
         """How the messages of a session begin."""

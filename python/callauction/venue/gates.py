@@ -442,6 +442,14 @@ class Secured(sslproto.SSLProtocol):
         return True
 
 
+@dataclasses.dataclass
+class Tls:
+    """By what connections begin TLS; another context may take its place, for those that come then.
+    """
+
+    context: ssl.SSLContext
+
+
 class Listener:
     """Takes connections at sockets that listen, and serves them by protocols."""
 
@@ -450,7 +458,7 @@ class Listener:
         gates: Gates,
         sockets: list[socket.socket],
         protocol: Callable[[], asyncio.Protocol],
-        tls: ssl.SSLContext | None,
+        tls: Tls | None,
     ) -> None:
         self._gates, self._sockets, self._protocol, self._tls = gates, sockets, protocol, tls
         sslproto.SSLProtocol.max_size = MOST_READ
@@ -514,7 +522,7 @@ class Listener:
             await loop.connect_accepted_socket(lambda: inner, gate.socket)
             return
         done: asyncio.Future[None] = loop.create_future()
-        secured = Secured(self._gates, gate, inner, self._tls, done)
+        secured = Secured(self._gates, gate, inner, self._tls.context, done)
         transport, _ = await loop.connect_accepted_socket(lambda: secured, gate.socket)
         try:
             await done

@@ -100,24 +100,17 @@ class Address:
             raise AddressError(text)
 
     def context(self) -> ssl.SSLContext | None:
-        """TLS, where there is a certificate. Raises AddressError."""
+        """TLS by the certificate and its key as the files are now, where there is a certificate. A
+        new one takes no other's place: OpenSSL keeps one for each kind of key. Raises AddressError.
+        """
         if not self.cert:
             return None
         found = ssl.create_default_context(ssl.Purpose.CLIENT_AUTH)
-        self.load(found)
-        return found
-
-    def load(self, context: ssl.SSLContext) -> None:
-        """Takes the certificate and its key as the files are now. Raises AddressError, and then
-        those before are kept.
-        """
-        tried = ssl.create_default_context(ssl.Purpose.CLIENT_AUTH)
         try:
-            cert = owned.whole(pathlib.Path(self.cert or ""), MOST_PEM)
+            cert = owned.whole(pathlib.Path(self.cert), MOST_PEM)
             key = owned.whole(pathlib.Path(self.key or ""), MOST_PEM, judge=owned.check_key)
-            tried.load_cert_chain(self.cert or "", self.key, refuse_to_ask)
-            check_time(self.cert or "")
-            context.load_cert_chain(self.cert or "", self.key, refuse_to_ask)
+            found.load_cert_chain(self.cert, self.key, refuse_to_ask)
+            check_time(self.cert)
         except owned.OwnerError as fault:
             raise AddressError(str(fault)) from None
         except ssl.SSLError as fault:
@@ -127,6 +120,7 @@ class Address:
             named = fault.filename or f"{self.cert} or its key {self.key}"
             why = f"{named} can't be read: {fault.strerror}"
             raise AddressError(f"{why}: put a PEM file there that its user may read") from None
+        return found
 
     def _unusable(self, cert: bytes, key: bytes) -> str:
         """Which of these contents of the certificate and its key is none, or that they can't be
@@ -218,7 +212,7 @@ class Front(Protocol):
     files: int
 
     def served(
-        self, context: ssl.SSLContext | None
+        self, tls: gates.Tls | None
     ) -> contextlib.AbstractAsyncContextManager[str]:
         """Listens, with this TLS: the line that says where. Raises AddressError."""
 
@@ -304,7 +298,7 @@ async def served(
     found: gates.Gates,
     host: str,
     port: int,
-    context: ssl.SSLContext | None = None,
+    tls: gates.Tls | None = None,
 ) -> AsyncIterator[int]:
     """Serves pages at an address: the port. Raises AddressError."""
     runner = web.AppRunner(application)
@@ -316,7 +310,7 @@ async def served(
             raise AddressError(gates.why_not(host, port, fault)) from None
         assert runner.server is not None
         handler = functools.partial(Handler, runner.server)
-        listener = gates.Listener(found, sockets, handler, context)
+        listener = gates.Listener(found, sockets, handler, tls)
         try:
             yield int(sockets[0].getsockname()[1])
         finally:
@@ -332,7 +326,7 @@ async def listen(
     program: str,
     address: Address,
     entries: int,
-    context: ssl.SSLContext | None,
+    tls: gates.Tls | None,
     stopped: asyncio.Event,
     fronts: Sequence[Front] = (),
 ) -> None:
@@ -347,10 +341,10 @@ async def listen(
             few = gates.Gates(MOST_OF_METRICS, MOST_OF_METRICS)
             looked = await stack.enter_async_context(served(pages, few, *address.metrics))
             others.append(f"metrics  {url_of_metrics(address, looked)}")
-        where = address.host, address.port, context
+        where = address.host, address.port, tls
         port = await stack.enter_async_context(served(site.application(), own, *where))
         venue.urls = functools.partial(address.urls, port)
-        others += [await stack.enter_async_context(it.served(context)) for it in fronts]
+        others += [await stack.enter_async_context(it.served(tls)) for it in fronts]
         collect_rarely()
         print("\n".join([*begin, *lines_of_address(venue, address, others)]), flush=True)
         NOTICES.info("serving at port %s, %s entries so far", port, entries)
@@ -394,13 +388,13 @@ def take(venue: Venue, address: Address) -> None:
         NOTICES.warning(text)
 
 
-def reload(venue: Venue, address: Address, context: ssl.SSLContext | None) -> None:
+def reload(venue: Venue, address: Address, tls: gates.Tls | None) -> None:
     """Takes the certificate anew, for connections from now on."""
-    if context is None:
+    if tls is None:
         NOTICES.warning("there is no certificate that could be taken anew")
         return
     try:
-        address.load(context)
+        tls.context = address.context() or tls.context
         take(venue, address)
         ends = time.strftime("%Y-%m-%d", time.gmtime(venue.certificate_ends))
         NOTICES.warning("the certificate was taken anew: it ends on %s", ends)
@@ -423,6 +417,7 @@ async def serve(
     and a terminal has ended, ends too. Raises AddressError, and what Venue.open and close raise.
     """
     context = address.context()
+    tls = gates.Tls(context) if context else None
     take(venue, address)
     stopped = asyncio.Event()
 
@@ -432,8 +427,8 @@ async def serve(
             end_in_time()
 
     acts = dict.fromkeys(ENDING, stop)
-    if context is not None or sys.stdin is None or not sys.stdin.isatty():
-        acts[signal.SIGHUP] = functools.partial(reload, venue, address, context)
+    if tls is not None or sys.stdin is None or not sys.stdin.isatty():
+        acts[signal.SIGHUP] = functools.partial(reload, venue, address, tls)
     for number, act in acts.items():
         on_signal(number, act)
     counting = asyncio.create_task(notices.write_counts())
@@ -441,7 +436,7 @@ async def serve(
         entries = await opened(venue, stopped)
         if entries is None:
             return
-        await listen(venue, program, address, entries, context, stopped, fronts)
+        await listen(venue, program, address, entries, tls, stopped, fronts)
     finally:
         try:
             await venue.close()
