@@ -56,6 +56,24 @@ def test_the_door(venue: Served, tmp_path: pathlib.Path) -> None:
         assert sees(again, "beamer")["code"] == code
 
 
+def test_a_door_that_the_file_has_closed(tmp_path: pathlib.Path) -> None:
+    """The operator's door counts, also after a restart; until then there is no code."""
+    day = FAST.replace("[members]", "[members]\nopen = false\nnames = ['Anna']")
+    with served.served(tmp_path, day) as venue:
+        assert venue.code == "" and not sees(venue, "members")["open"]
+        assert joins(venue, "Bert", "GUESS1") == "bad_code"
+        venue.do("door", open=True)
+        code = sees(venue, "members")["codes"][""]
+        assert sees(venue, "beamer")["code"] == code
+        assert joins(venue, "Bert", code) == ""
+        venue.child.kill()
+        venue.child.wait()
+    with served.served(tmp_path, day) as again:
+        assert again.code == code and joins(again, "Carl", code) == ""
+        again.do("door", open=False)
+        assert joins(again, "Dora", code) == "joining_closed"
+
+
 def test_a_member_is_removed_and_comes_again(venue: Served, tmp_path: pathlib.Path) -> None:
     anna, bert = venue.join("Anna"), venue.join("Bert")
     venue.do("start")

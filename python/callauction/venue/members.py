@@ -79,7 +79,7 @@ class Members:
         self._former: set[str] = set()
         self.codes: dict[str, str] = {}
         self._code_of_file = ""
-        self.is_open = True
+        self.is_open = terms.is_open
 
     @property
     def everybody(self) -> list[Member]:
@@ -143,8 +143,10 @@ class Members:
         return code
 
     def open_door(self, is_open: bool) -> None:
-        """Lets new members join, or no more."""
+        """Lets new members join, by a code that there is from then on, or no more."""
         self.is_open = is_open
+        if is_open and "" not in self.codes:
+            self.set_code("", self._terms.code or tokens.new_code())
         self._log.note(kind="door", open=is_open)
 
     # ---- joining
@@ -157,7 +159,7 @@ class Members:
         for own, kept in self.codes.items():
             if own and tokens.is_same(typed, kept):
                 return self._come_again(own)
-        if not self._terms.is_open or not tokens.is_same(typed, self.codes.get("", "")):
+        if "" not in self.codes or not tokens.is_same(typed, self.codes[""]):
             raise MessageError("bad_code")
         if not self.is_open:
             raise MessageError("joining_closed")

@@ -146,7 +146,8 @@ class Venue(Audience):
         here = [it.name for it in there if it.group == board.board.group]
         later = [name for name, it in members.items() if it is None]
         names = [*here, *later][: config.MOST_TRADERS]
-        return [*[shares.CLASS] * self.day.members.is_open, *names]
+        has_class = self.day.members.is_open or "" in self.members.codes
+        return [*[shares.CLASS] * has_class, *names]
 
     def _heard(self, board: Instrument, message: Message, entry: Entry | None) -> None:
         """A message of a board has its entry, or never had one."""
