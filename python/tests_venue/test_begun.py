@@ -82,6 +82,18 @@ def test_another_instrument_is_refused(begun: pathlib.Path) -> None:
     assert status == 200 and found["instruments"][0]["tick_size"] == "0.01"
 
 
+@pytest.mark.parametrize("words", [[], ["--check"]])
+def test_a_folder_without_the_file_of_its_day(begun: pathlib.Path, words: list[str]) -> None:
+    """It says that the file is to be given again."""
+    named = ["--folder", begun / "venue", "--port", served.free_port(), *words]
+    ran = subprocess.run(
+        served.words_of(*named), env=served.environment(), capture_output=True, text=True
+    )
+    why = "was begun with another day: low of XYZ was 0.05, and is 0.01"
+    told = f"{why}; --day FILE goes on with the day's file, --folder NEW begins anew"
+    assert (ran.returncode, ran.stderr) == (2, f"venue: {begun / 'venue'} {told}\n")
+
+
 def test_what_else_changed_is_said_once(begun: pathlib.Path) -> None:
     """Another round or payoff may be wanted, another day's file hardly: both are named."""
     said = printed(begun, DAY)

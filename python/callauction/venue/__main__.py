@@ -14,6 +14,7 @@ from callauction.venue import notices, owned, tried
 tried.check_start()  # before what needs aiohttp as it is inside
 
 from callauction.venue import remedies  # noqa: E402
+from callauction.venue.begun import OtherDayError, OtherTermsError  # noqa: E402
 from callauction.venue.checking import checked  # noqa: E402
 from callauction.venue.config import DayTerms  # noqa: E402
 from callauction.venue.serving import Address, AddressError, Front, serve  # noqa: E402
@@ -111,6 +112,19 @@ def folder_of(asked: argparse.Namespace) -> pathlib.Path:
     return found
 
 
+def run_asked(asked: argparse.Namespace, address: Address, program: str) -> None:
+    """Runs, and says where the file of a day is missing with which its folder was begun. Raises
+    what `run` raises.
+    """
+    try:
+        run(asked, address, program)
+    except OtherTermsError as fault:
+        if asked.day is not None:
+            raise
+        text = f"{fault.fault}; --day FILE goes on with the day's file, --folder NEW begins anew"
+        raise OtherDayError(text) from None
+
+
 def run(asked: argparse.Namespace, address: Address, program: str) -> None:
     """Opens the venue and serves it, or checks it. Raises what Venue and serve raise."""
     day = DayTerms.read(asked.day) if asked.day else DayTerms()
@@ -167,7 +181,7 @@ def main() -> int:
     try:
         address.check()
         program = finder.program()
-        run(asked, address, program)
+        run_asked(asked, address, program)
         return DONE
     except remedies.FAULTS as fault:
         text, status = remedies.said(fault)

@@ -22,6 +22,14 @@ class OtherDayError(ValueError):
     """A folder was begun with another instrument; the text says what is another."""
 
 
+class OtherTermsError(OtherDayError):
+    """An instrument of the day isn't as it was. `fault` says in which folder, and what."""
+
+    def __init__(self, folder: pathlib.Path, why: str) -> None:
+        self.fault = f"{folder} was begun with another day: {why}"
+        super().__init__(f"{self.fault}; --folder NEW begins anew")
+
+
 def date_of(moment: float) -> str:
     """The date of a time in seconds of the epoch, where this machine is."""
     return time.strftime("%Y-%m-%d", time.localtime(moment))
@@ -64,7 +72,7 @@ def changes(day: config.DayTerms, lines: Iterable[Line], folder: pathlib.Path) -
         parts = known[-1]["parts"]
         found = [name for name, sum_now in now["parts"].items() if parts.get(name) != sum_now]
     if why:
-        raise OtherDayError(f"{folder} was begun with another day: {why}; --folder NEW begins anew")
+        raise OtherTermsError(folder, why)
     return found
 
 
