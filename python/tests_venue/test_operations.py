@@ -83,7 +83,7 @@ def test_a_day_that_has_no_fault(tmp_path: pathlib.Path) -> None:
     status, printed, error = checked(*words)
     assert (status, error) == (0, "")
     lines = printed.splitlines()
-    assert lines[0] == "XYZ: 0.01 to 10.00 EUR by 0.01, 65536 commands"
+    assert lines[0] == "XYZ: 0.01 to 10.00 EUR by 0.01, reference 2.00, 65536 commands"
     assert lines[1] == "address: 127.0.0.1, without TLS"
     assert lines[-1] == "XYZ: 10 entries"
     assert contents(tmp_path / "venue") == before
@@ -302,6 +302,15 @@ def test_a_running_day_that_cant_be_gone_on_with(tmp_path: pathlib.Path) -> None
         told = "was begun with another day: high of XYZ was 10.00, and is 20.00; --folder NEW"
         status, _, error = checked(*words)
         assert status == 2 and told in error, error
+
+
+def test_a_tick_size_alone(tmp_path: pathlib.Path) -> None:
+    """The prices that a file leaves out are as many ticks; a check says what they are then."""
+    file = tmp_path / "day.toml"
+    file.write_text('[[instrument]]\ntick_size = "0.05"\n')
+    status, printed, error = checked("--day", file, "--folder", tmp_path / "new")
+    first = "XYZ: 0.05 to 50.00 EUR by 0.05, reference 10.00, 65536 commands"
+    assert (status, error, printed.splitlines()[0]) == (0, "", first)
 
 
 def test_a_folder_in_one_that_isnt_there(tmp_path: pathlib.Path) -> None:

@@ -57,7 +57,8 @@ def checked(
     for it in day.instruments:
         low, high = it.price(it.low), it.price(it.high)
         size = it.grid.tick_size
-        yield f"{it.name}: {low} to {high} {it.currency} by {size}, {it.calls} commands"
+        first = f"reference {it.price(it.reference)}"
+        yield f"{it.name}: {low} to {high} {it.currency} by {size}, {first}, {it.calls} commands"
     if day.fix is not None:
         sessions = len(day.fix.sessions) + bool(day.fix.copy)
         yield f"fix: {day.fix.host}:{day.fix.port}, {sessions} sessions"
