@@ -198,6 +198,52 @@ trade a s 100 10.10""")
     assert verdict.word == "incomplete", str(verdict)
 
 
+WITH_PREFIX = """new 1001 bid 100 10.02
+new 1002 bid 100 10.02
+new 2001 ask 120 10.00
+new 2002 ask 60 10.02
+uncross 10.02 180 20
+trade T-1001 T-2001 100 10.02
+trade T-1002 T-2001 20 10.02
+trade T-1002 T-2002 60 10.02"""
+
+
+def opening_of(rows: Rows) -> Verdict:
+    rows[4]["side"] = "bid"
+    terms = dict(reference="10", tick_size="0.01", auctions=["opening"])
+    return audit_events(frame_of(rows), **terms)  # type: ignore[arg-type]
+
+
+@pytest.mark.parametrize("change", [lambda it: it, lambda it: f"X{it[-1:]}7", lambda it: f"'{it}"])
+def test_ids_of_trades_that_are_all_of_no_order_condemn_no_day(
+    change: Callable[[str], str]
+) -> None:
+    """Where all else fits they are written otherwise, or are of another column."""
+    rows = rows_of(WITH_PREFIX)
+    for row in rows[5:]:
+        row |= {name: change(row[name]) for name in ("bid", "ask")}
+    verdict = opening_of(rows)
+    assert verdict.word == "incomplete", str(verdict)
+    assert "no trade has an order's id" in str(verdict.doubtful[0])
+
+
+def test_one_known_id_or_shares_that_do_not_fit_leave_unknown_ids_certain() -> None:
+    rows = rows_of(WITH_PREFIX)
+    rows[5]["bid"] = "1001"
+    assert opening_of(rows).word == "unlawful"
+    for column, text in (("quantity", "59"), ("price", "10.01")):
+        rows = rows_of(WITH_PREFIX)
+        rows[7][column] = text
+        assert opening_of(rows).word == "unlawful"
+
+
+def test_an_apostrophe_before_the_ids_of_trades_is_another_spelling() -> None:
+    rows = rows_of(WITH_PREFIX.replace("T-", "'000"))
+    verdict = opening_of(rows)
+    assert verdict.word == "incomplete", str(verdict)
+    assert "are written in two ways" in str(verdict.doubtful[0])
+
+
 # ---- ids that replaces gave, and no column has
 
 

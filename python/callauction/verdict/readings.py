@@ -21,7 +21,7 @@ from callauction.verdict.repeated import amended, copies, second_trades
 from callauction.verdict.rows import (
     BAD, FILL, INTERRUPTED, MARKET, NEW, OF_ORDERS, REPLACE, TRADE, UNCROSS, Doubt, Rows,
 )  # fmt: skip
-from callauction.verdict.spelling import respelled
+from callauction.verdict.spelling import OTHER_IDS, have_other_ids, respelled
 from callauction.verdict.standing import Change, Day, standing
 from callauction.verdict.units import in_one_unit, why_two_units
 from callauction.verdict.unnamed import namings, with_names
@@ -139,6 +139,8 @@ def _changes(found: Judgement, rows: Rows, rules: Rules) -> Iterator[list[Change
     spelled = respelled(rows) or renamed(rows, found)
     if spelled is not None:
         yield [_rows(functools.partial(_respelled, spelled[0]), spelled[1])]
+    elif have_other_ids(rows, found):
+        yield [_without_rows(rows, rows.of(TRADE, FILL), OTHER_IDS)]
     price = _filled_prices(rows)
     if price is not None:
         yield [_rows(functools.partial(_priced, price), UNCHANGED)]

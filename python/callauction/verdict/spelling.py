@@ -1,10 +1,12 @@
 """Ids and members that rows write otherwise than those that enter orders, as n3 and N3."""
 import dataclasses
+import functools
 import re
 from collections.abc import Iterable
 
 import numpy
 
+from callauction.verdict.judged import Judged, Judgement
 from callauction.verdict.rows import (
     CANCEL, FILL, MISSING, NEW, REPLACE, TRADE, BadRow, Doubt, Rows,
 )  # fmt: skip
@@ -12,6 +14,9 @@ from callauction.verdict.worded import EMPTY
 
 _ANYONE = ("anon", "anonymous", "hidden", "masked", "none", "unknown", "n.a.", "na", *EMPTY)
 _ONE_SIGN = re.compile(r"(.)\1\1+|\W+")
+_QUOTES = "'\"`"
+"""What a sheet may write before a number that is to stay a text."""
+OTHER_IDS = "no trade has an order's id: are theirs of another column, or another spelling?"
 MOST_TEXTS = 100_000
 """How many ids, and how many rows, are looked at."""
 
@@ -28,6 +33,32 @@ def respelled(rows: Rows) -> tuple[Rows, str] | None:
     return found, f"ids or members are written in two ways: {' and '.join(both)}"
 
 
+def have_other_ids(rows: Rows, judgement: Judgement) -> bool:
+    """Whether no trade and no fill has an order's id, while their prices, and the shares of each
+    auction, are the lawful ones, so that all may be right but the ids.
+    """
+    made = rows.of(TRADE, FILL)
+    named = numpy.concatenate([it[made] for it in (rows.bid, rows.ask, rows.key)])
+    named = named[named >= 0]
+    if not len(named) or numpy.isin(named, rows.key[rows.of(NEW)]).any():
+        return False
+    judged = [it for it in judgement.uncrosses if it.result is not None]
+    return all(map(functools.partial(_fits, rows), judged))
+
+
+def _fits(rows: Rows, judged: Judged) -> bool:
+    """Whether an auction's trades and fills have its price, and together its shares."""
+    result = judged.result
+    assert result is not None
+    own = numpy.concatenate([judged.traded, judged.filled])
+    price = MISSING if result.price is None else result.price
+    shares = [int(rows.quantity[it].sum()) for it in (judged.traded, judged.filled)]
+    due = (result.volume * bool(len(judged.traded)), 2 * result.volume * bool(len(judged.filled)))
+    if (*shares,) != due or result.volume and not len(own):
+        return False
+    return bool(numpy.isin(rows.price[own], (price, MISSING)).all())
+
+
 def is_placeholder(name: str) -> bool:
     """Whether a member's name seems to be a word for none, or one sign again and again."""
     return name.casefold() in _ANYONE or bool(_ONE_SIGN.fullmatch(name))
@@ -35,7 +66,7 @@ def is_placeholder(name: str) -> bool:
 
 def _plain(text: str) -> str:
     """A text without what another system may change of it."""
-    text = re.sub(r"\s", "", text.casefold()).removesuffix(".0")
+    text = re.sub(r"\s", "", text.casefold()).strip(_QUOTES).removesuffix(".0")
     return re.sub(r"(?<!\d)0+(?=\d)", "", text.lstrip("0"))
 
 
