@@ -16,6 +16,7 @@ from extracts import Extract, Rows
 from logs import FixLog
 from logs import line as message_of
 from test_desk import TRADE, UNCROSS, audited, base_day, text_of
+from test_holes import rows_of
 from test_verdict import frame_of, judged
 
 Printed = pytest.CaptureFixture[str]
@@ -163,6 +164,53 @@ def test_orders_of_another_day_leave_a_doubt(tmp_path: Path, capsys: Printed) ->
     assert audited(text_of([dict(other, side=side, order=side) for side in ("bid", "ask")] + rows),
                    [], tmp_path) == 5
     assert "are of two days" in capsys.readouterr().out
+
+
+STANDING = """new A1 bid 100 10.00
+new A2 bid 100 10.00
+new B1 ask 100 10.00
+uncross 10.00 100 100
+trade A2 B1 100 10.00"""
+
+
+def standing_day() -> Rows:
+    """A1 is entered on the day before, and A2 trades before it."""
+    rows = rows_of(STANDING)
+    clocks = ("26T14:40", "27T08:52", "27T08:53", "27T09:00", "27T09:00")
+    for number, (row, clock) in enumerate(zip(rows, clocks)):
+        row |= {"time": f"2026-11-{clock}:00", "sequence": str(number + 1)}
+    rows[3] |= {"auction": "opening", "side": "bid"}
+    return rows
+
+
+OPENING = ["--auctions", "opening"]
+REDUCED = {"event": "cancel", "order": "A1", "quantity": "50", "time": "2026-11-27T08:55:00"}
+
+
+@pytest.mark.parametrize("change, status", [
+    (lambda rows: None, 4),
+    (lambda rows: rows[0].update(sequence="9"), 5),  # each day counts by itself
+    (lambda rows: [row.update(sequence="") for row in rows], 5),
+    (lambda rows: rows[0].update(time="2026-11-28T08:40:00"), 5),
+    (lambda rows: [row.update(sequence="") for row in (*rows, rows.insert(3, dict(REDUCED)))
+                   if row], 4),
+])  # fmt: skip
+def test_an_order_that_stands_from_the_day_before_is_certain_by_a_sequence_or_rows_of_the_day(
+    change: Callable[[Rows], object], status: int, tmp_path: Path, capsys: Printed
+) -> None:
+    rows = standing_day()
+    change(rows)
+    assert audited(text_of(rows), OPENING, tmp_path) == status
+    out = capsys.readouterr().out
+    assert ("doubtful: " in out) == (status == 5)
+    assert "A1 entered 2026-11-26T14:40:00 stands before A2" in out or status == 5
+
+
+def test_orders_before_the_time_of_where_are_counted(tmp_path: Path, capsys: Printed) -> None:
+    said = "orders entered before the time of --where (what of them stands is in no book): 1"
+    for condition, is_said in (("time >= 2026-11-27T00:00:00", True), ("order != A1", False)):
+        audited(text_of(standing_day()), [*OPENING, "--where", condition], tmp_path)
+        assert (said in capsys.readouterr().err) == is_said
 
 
 @pytest.mark.parametrize("column", ["isin", "Symbol", "Instrument ID", "WKN"])

@@ -26,10 +26,11 @@ from callauction.verdict.columns import (
 GZIP = b"\x1f\x8b"
 ROW = "row"
 """The name of the index: a row of a file is named by its line, one of a frame by its label."""
-UNCROSS = EVENTS.index("uncross")
-"""The first event that isn't of an order."""
+NEW, UNCROSS = EVENTS.index("new"), EVENTS.index("uncross")
+"""The event that enters an order, and the first one that isn't of an order."""
 NO_ROWS = "files with a header and no rows"
 LEFT_OUT = "trades, fills and results that don't meet --where"
+TOO_EARLY = "orders entered before the time of --where (what of them stands is in no book)"
 _BOOKS = (b"PK\3\4", b"\xd0\xcf\x11\xe0")
 """How an archive begins, as a workbook is one, and how an older workbook does."""
 _MARKED = re.compile(
@@ -184,6 +185,7 @@ def read_table(
     used = {condition.name for condition in conditions} | {*keys, *filter(None, [reading.pair])}
     names = _names(found, reading, used)
     met = _meeting(found, conditions, reading)
+    is_early = _early(found, conditions, names, reading, met)
     found, names = _with_kinds(found, names, reading)
     dates: str = reading.dates
     if "time" in names and not dates:
@@ -197,7 +199,9 @@ def read_table(
         _refuse_several(kept, columns, reading.format == "fix")
     notes = Counter(table.notes)
     if dropped is not None:
-        notes[LEFT_OUT] = int((_kinds(dropped, names["event"], reading) >= UNCROSS).sum())
+        kinds = _kinds(dropped, names["event"], reading)
+        notes[LEFT_OUT] = int((kinds >= UNCROSS).sum())
+        notes[TOO_EARLY] = int((kinds[is_early] == NEW).sum())
     return dataclasses.replace(
         table, source=kept, dropped=dropped, names=names, end=end, notes=+notes, dates=dates
     )
@@ -434,3 +438,17 @@ def _meeting(source: Source, conditions: list[_Condition], reading: Reading) -> 
         missing = condition.sign in ("==", "!=") and condition.met([""], reading)[0]
         met &= numpy.array([*condition.met(texts, reading), missing])[codes]
     return met
+
+
+def _early(
+    source: Source, conditions: list[_Condition], names: Mapping[str, str], reading: Reading,
+    met: Mask,
+) -> Mask:  # fmt: skip
+    """Which of the rows that don't meet all conditions fail those alone that leave out what is
+    before a time.
+    """
+    time = names.get("time")
+    others = [it for it in conditions if it.name != time or it.sign not in (">", ">=")]
+    if len(others) == len(conditions):
+        return numpy.zeros(int((~met).sum()), bool)
+    return _meeting(source, others, reading)[~met]
