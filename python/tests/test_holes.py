@@ -3,10 +3,12 @@ import random
 from collections.abc import Callable
 from pathlib import Path
 
+import numpy
 import pandas
 import pytest
 from callauction.__main__ import main
-from callauction.verdict import audit_auction, audit_events, audit_instruments
+from callauction.verdict import Reading, audit_auction, audit_events, audit_instruments, worded
+from callauction.verdict.cells import frame_source
 from damage import busted, places, timed_day
 from extracts import Extract, Rows
 from test_desk import TRADE, UNCROSS, audited, base_day, text_of
@@ -250,3 +252,29 @@ def test_the_orders_of_a_book_have_some_numbers_of_a_sequence() -> None:
     for surplus, word in ((100, "incomplete"), (90, "unlawful")):
         published = {"price": "10.00", "volume": 100, "surplus": surplus}
         assert audit_auction(book, published, reference="10", tick_size="0.01").word == word
+
+
+# ---- how a sequence is read
+
+
+@pytest.mark.parametrize("texts", [
+    ["1", "2", "3"], ["7", "", "007", " 12 ", "0"], ["", "", ""], ["1", "1", "999999999999999999"],
+    [],
+])
+def test_whole_numbers_of_a_sequence_are_read_without_their_texts(
+    texts: list[str], monkeypatch: pytest.MonkeyPatch
+) -> None:
+    """As they are read by their texts, which takes thrice the time of all else."""
+    source = frame_source(pandas.DataFrame({"n": texts}, dtype=str))
+    slow, quick = (worded.Columns(source, {"sequence": "n"}, Reading()) for _ in range(2))
+    slow.__dict__["_whole_sequences"] = None
+    due = slow.sequence(), slow.row_numbers()
+    monkeypatch.delattr(worded.Columns, "_counted")
+    for one, other in zip(due, (quick.sequence(), quick.row_numbers())):
+        numpy.testing.assert_array_equal(one, other)
+
+
+@pytest.mark.parametrize("text", ["S1", "1.0", "1" * 19, "09:00:00", "-1", "\u0661"])
+def test_other_numbers_of_a_sequence_are_read_by_their_texts(text: str) -> None:
+    source = frame_source(pandas.DataFrame({"n": ["1", text]}))
+    assert source.cells("n").numbers() is None

@@ -24,6 +24,8 @@ Mask = NDArray[numpy.bool_]
 _PAD = 64
 """Bytes behind the text, so that eight can be read from each place of it."""
 _RETURN = 13
+_MOST_DIGITS = 18
+"""Of a number that is surely one of 64 bits."""
 _UNIT = "\x1f"
 """A sign that parts fields and is in no text."""
 _AT_ONCE = 1 << 24
@@ -64,6 +66,23 @@ class Cells:
         while (more := (length > 0) & (self.buffer[start + length - 1] <= 32)).any():
             length = length - more
         return Cells(self.buffer, start, length)
+
+    def numbers(self) -> Ints | None:
+        """The whole number of each cell, -1 for an empty one; None where one has another sign than
+        digits, or more than 18 of them.
+        """
+        these = self.stripped()
+        most = int(these.length.max(initial=0))
+        if most > _MOST_DIGITS:
+            return None
+        found = numpy.where(these.length > 0, 0, -1).astype("i8")
+        for place in range(most):
+            rows = numpy.flatnonzero(these.length > place)
+            signs = these.buffer[these.start[rows] + place]
+            if ((signs < ord("0")) | (signs > ord("9"))).any():
+                return None
+            found[rows] = 10 * found[rows] + (signs - ord("0"))
+        return found
 
     def word(self, number: int) -> NDArray[numpy.uint64]:
         """The eight bytes of each cell from the place 8 * number on, zeros behind its end."""

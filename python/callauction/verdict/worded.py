@@ -104,8 +104,15 @@ class Columns:
         or no cell in it. Texts without an order count for what is equal alone where rows aren't
         sorted. Raises ExtractError.
         """
-        codes, keys = self._sequences if "sequence" in self.names else (None, [])
-        if codes is None or not keys:
+        if "sequence" not in self.names:
+            return None
+        if self._whole_sequences is not None:
+            known, ranks = numpy.unique(self._whole_sequences, return_inverse=True)
+            if known.max(initial=MISSING) < 0:
+                return None
+            return ranks.astype("i8") + min(0, int(known[0]))
+        codes, keys = self._sequences
+        if not keys:
             return None
         known = [key for key in keys if key is not None]
         if len(known) < len(keys) or len({prefix for prefix, _ in known}) > 1:
@@ -114,6 +121,14 @@ class Columns:
             return codes.astype("i8")
         ranks = {key: place for place, key in enumerate(sorted({*known}))}
         return numpy.array([*(ranks[key] for key in known), MISSING], "i8")[codes]
+
+    @functools.cached_property
+    def _whole_sequences(self) -> Ints | None:
+        """The number of each row's sequence, MISSING for none; None where they aren't whole numbers
+        alone, which are read without a text of each.
+        """
+        has_words = bool(self.reading.values.get("sequence"))
+        return None if has_words else self.cells("sequence").numbers()
 
     @functools.cached_property
     def _sequences(self) -> tuple[Codes, list[tuple[str, Decimal] | None]]:
@@ -128,6 +143,8 @@ class Columns:
         none = numpy.full(len(self.source), MISSING, "i8")
         if "sequence" not in self.names:
             return none
+        if self._whole_sequences is not None:
+            return self._whole_sequences
         codes, keys = self._sequences
         ways = {it and it[0] for it in keys}
         if len(ways) != 1 or ways & {None, _OF_TIMES}:
