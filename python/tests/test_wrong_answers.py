@@ -1,6 +1,9 @@
 """Answers that were wrong once: published days that were cleared or condemned though they were not,
 and inputs that ended in a traceback. Each is a test by its name.
 """
+import bz2
+import lzma
+import random
 from pathlib import Path
 from typing import Any
 
@@ -395,10 +398,32 @@ def test_other_bytes_are_one_line(
         ),
         ("event,order\n".encode("utf-16"), "line 1 is no utf-8: say encoding utf-16"),
         (b"\x1f\x8bxx", "the file is cut or no gzip file: fetch it again"),
+        (bz2.compress(b"event\n"), "this is compressed by bzip2: unpack it, as gzip alone is read"),
+        (lzma.compress(b"event\n"), "this is compressed by xz: unpack it, as gzip alone is read"),
+        (
+            b"1,09:00:00,new,A1,bid,10.00,100\n",
+            "record 1: not a day record, and no header of an extract, which names its columns",
+        ),
     ):
         Path("day.csv").write_bytes(content)
         assert main(LINE) == 1
         assert capsys.readouterr().err == f"callauction: {line}\n"
+
+
+@pytest.mark.parametrize("words", [[], ["--encoding", "latin-1"]])
+@pytest.mark.parametrize("content", [
+    b"%PDF-1.4\n%\xe2\xe3\xcf\xd3\n1 0 obj<</Type/Catalog>>\n",
+    b"\x89PNG\r\n\x1a\n" + bytes(range(256)), random.Random(1).randbytes(9999),
+])
+def test_what_is_no_text_is_named_in_any_encoding(
+    content: bytes, words: list[str], tmp_path: Path, monkeypatch: pytest.MonkeyPatch,
+    capsys: pytest.CaptureFixture[str],
+) -> None:
+    monkeypatch.chdir(tmp_path)
+    Path("day.csv").write_bytes(content)
+    assert main([*LINE, *words]) == 1
+    said = "this is no text (a PDF, a picture or another program's): save it as CSV"
+    assert capsys.readouterr().err == f"callauction: {said}\n"
 
 
 def test_the_lines_of_a_verdict(

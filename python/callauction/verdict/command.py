@@ -9,7 +9,7 @@ from collections.abc import Mapping, Sequence
 import pandas
 
 from callauction.course import Watch
-from callauction.program import Day
+from callauction.program import NO_JOURNAL, BadFileError, Day
 from callauction.statuses import DONE
 from callauction.verdict import books, shapes, showing
 from callauction.verdict.audits import audit_events
@@ -204,7 +204,13 @@ def audit(content: bytes, asked: argparse.Namespace, watch: Watch = iter) -> int
     ColumnError, ValueError and ProgramError.
     """
     if is_recorded(content, asked):
-        journal = audit_journal(Day(content))
+        try:
+            journal = audit_journal(Day(content))
+        except BadFileError as fault:
+            if fault.text != NO_JOURNAL:
+                raise
+            why = f"{NO_JOURNAL}, and no header of an extract, which names its columns"
+            raise ExtractError(why) from None
         print(journal)
         return journal.status
     if asked.check:

@@ -33,6 +33,14 @@ LEFT_OUT = "trades, fills and results that don't meet --where"
 TOO_EARLY = "orders entered before the time of --where (what of them stands is in no book)"
 _BOOKS = (b"PK\3\4", b"\xd0\xcf\x11\xe0")
 """How an archive begins, as a workbook is one, and how an older workbook does."""
+_PACKED = {b"BZh": "bzip2", b"\xfd7zXZ\x00": "xz", b"\x28\xb5\x2f\xfd": "zstd", b"7z\xbc\xaf": "7z"}
+_PICTURES = (b"%PDF-", b"\x89PNG", b"\xff\xd8\xff", b"GIF8")
+_WIDE = (b"\xff\xfe", b"\xfe\xff")
+"""How text of two bytes a sign begins."""
+_CONTROLS = bytes([*range(2, 9), *range(14, 26), 27, 127])
+"""What no text has but rarely, and neither a separator of fields is."""
+_HEAD, _RARE = 1 << 16, 50
+"""Of how many bytes at a file's begin, and of how many of them one may be such."""
 _MARKED = re.compile(
     rb"\s*(?:\{|\[\s*[{\[]|<\?xml|<!doctype|<html|<table|<workbook)", re.IGNORECASE
 )
@@ -356,8 +364,7 @@ def _plain(content: bytes, encoding: str) -> bytes:
         plain = gzip.decompress(content) if content.startswith(GZIP) else content
     except (EOFError, gzip.BadGzipFile, zlib.error):
         raise ExtractError("the file is cut or no gzip file: fetch it again") from None
-    if plain.startswith(_BOOKS):
-        raise ExtractError("this is a workbook or an archive, and no text: save the sheet as CSV")
+    _look_at_bytes(plain)
     try:
         if encoding.casefold().replace("_", "-") not in ("utf-8", "utf8"):
             plain = plain.decode(encoding).encode()
@@ -370,6 +377,21 @@ def _plain(content: bytes, encoding: str) -> bytes:
         line = plain[: fault.start].count(b"\n") + 1
         hint = "utf-16" if plain[:2] in (b"\xff\xfe", b"\xfe\xff") else "latin-1"
         raise ExtractError(f"line {line} is no {encoding}: say encoding {hint}") from None
+
+
+def _look_at_bytes(content: bytes) -> None:
+    """Raises ExtractError for bytes that are no text, whatever their encoding."""
+    if content.startswith(_BOOKS):
+        raise ExtractError("this is a workbook or an archive, and no text: save the sheet as CSV")
+    packed = next((name for sign, name in _PACKED.items() if content.startswith(sign)), "")
+    if packed:
+        raise ExtractError(f"this is compressed by {packed}: unpack it, as gzip alone is read")
+    head = content[:_HEAD]
+    odd = len(head) - len(head.translate(None, _CONTROLS))
+    is_wide = head.startswith(_WIDE) or head.count(b"\x00") > len(head) // 3
+    if content.startswith(_PICTURES) or not is_wide and odd * _RARE > len(head):
+        what = "no text (a PDF, a picture or another program's)"
+        raise ExtractError(f"this is {what}: save it as CSV")
 
 
 def _look_at_header(header: tuple[str, ...], separator: str) -> None:
