@@ -188,12 +188,12 @@ def test_a_result_that_is_lost_is_not_the_indication_before_it(tmp_path: Path) -
         log.messages[place] = whole
 
 
-@pytest.mark.parametrize("price", ["0", ""])
+@pytest.mark.parametrize("price", ["0", "", None])
 def test_an_auction_without_a_price_in_market_data(
-    price: str, tmp_path: Path, capsys: pytest.CaptureFixture[str]
+    price: str | None, tmp_path: Path, capsys: pytest.CaptureFixture[str]
 ) -> None:
     """The opening has one bid, and a volume of 0 as its indication and its result; what is cleared
-    behind the closing is no result of it.
+    behind the closing is no result of it. A price of None has no entry.
     """
     shared = dict(member="M1", quantity="9", price="10.00")
     none = dict(price=price, quantity="0", surplus="0", side="none", time="09:00:00")
@@ -206,6 +206,9 @@ def test_an_auction_without_a_price_in_market_data(
     log = FixLog(day)
     for auction in ("opening", "closing"):
         log.result(dict(none, auction=auction))
+    for place in (-3, -1) if price is None else ():
+        own = log.messages[place]
+        log.messages[place] = [it for it in own if it not in [(269, "Q"), (270, None)]]
     (bid, *others), cleared = log.messages[:-4], log.messages[-1]
     held = ["--reference", "10", "--tick-size", "0.01", "--auctions", "opening,closing"]
     path = tmp_path / "day.log"

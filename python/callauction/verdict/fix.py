@@ -299,6 +299,8 @@ class _Log:
             elif kind == _SURPLUS:
                 found[IMBALANCE] = size
                 found["Side"] = _MORE.get(entry.get("TradeCondition", ""), "")
+        if _session(message)[1] in _AUCTIONS and _number(found.get("LastQty", "")) == 0:
+            found.setdefault("LastPx", "")  # a volume of 0 is no price, said or not
         if "LastPx" not in found:
             self.notes[OTHERS] += 1
             return
