@@ -107,10 +107,10 @@ class Columns:
         if "sequence" not in self.names:
             return None
         if self._whole_sequences is not None:
-            known, ranks = numpy.unique(self._whole_sequences, return_inverse=True)
-            if known.max(initial=MISSING) < 0:
+            numbers, places = numpy.unique(self._whole_sequences, return_inverse=True)
+            if numbers.max(initial=MISSING) < 0:
                 return None
-            return ranks.astype("i8") + min(0, int(known[0]))
+            return places.astype("i8") + min(0, int(numbers[0]))
         codes, keys = self._sequences
         if not keys:
             return None
