@@ -188,14 +188,15 @@ REDUCED = {"event": "cancel", "order": "A1", "quantity": "50", "time": "2026-11-
 
 
 @pytest.mark.parametrize("change, status", [
-    (lambda rows: None, 4),
-    (lambda rows: rows[0].update(sequence="9"), 5),  # each day counts by itself
+    (lambda rows: None, 5),  # A1 may have ended with its day
+    (lambda rows: rows[0].update(sequence="9"), 5),
     (lambda rows: [row.update(sequence="") for row in rows], 5),
+    (lambda rows: rows.insert(3, dict(REDUCED) | {"sequence": ""}), 4),
     (lambda rows: rows[0].update(time="2026-11-28T08:40:00"), 5),
     (lambda rows: [row.update(sequence="") for row in (*rows, rows.insert(3, dict(REDUCED)))
                    if row], 4),
 ])  # fmt: skip
-def test_an_order_that_stands_from_the_day_before_is_certain_by_a_sequence_or_rows_of_the_day(
+def test_an_order_that_stands_from_the_day_before_is_certain_by_rows_of_the_day(
     change: Callable[[Rows], object], status: int, tmp_path: Path, capsys: Printed
 ) -> None:
     rows = standing_day()

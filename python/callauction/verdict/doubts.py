@@ -120,20 +120,18 @@ class Doubts:
         if len(labels) < 2 or is_one_session(rows) or self._has_carried_orders():
             return None
         are = f"rows {labels[0]} and {labels[1]} are of two days"
-        return Reason(f"{are}: a sequence through both says that orders stand, --by parts two days")
+        return Reason(f"{are}: which orders of the first stand isn't said; --by parts two days")
 
     def _has_carried_orders(self) -> bool:
         """Whether rows of orders with another date than the first result's are of orders that stand
-        from days before: the sequence goes through, or rows of its date name each of them.
+        from days before: rows of its date name each of them. An order that no such row names may
+        have ended with its day.
         """
         rows, orders = self.rows, self.orders
         day = rows.time[self.uncrosses[:1]] // clocks.DAY
         old = orders[(rows.time[orders] // clocks.DAY != day) & (rows.time[orders] >= clocks.DAY)]
         if not len(day) or day <= 0 or (rows.time[old] // clocks.DAY > day).any():
             return False
-        known = rows.number[rows.number >= 0]
-        if (rows.number[orders] >= 0).all() and (numpy.diff(known) > 0).all() and not rows.holes:
-            return True
         own = numpy.flatnonzero((rows.kind != BAD) & (rows.time // clocks.DAY == day))
         named = numpy.concatenate([it[own] for it in (rows.key, rows.bid, rows.ask)])
         return bool(numpy.isin(rows.key[old], named).all())
