@@ -56,7 +56,7 @@ def rows_of(orders: Structs) -> list[Row]:
     sides, auctions = ("", "bid", "ask"), ("", "opening", "closing")
     return [
         (id, member, sides[side], limit if has else None, open, visible, filled, auctions[only])
-        for open, visible, filled, _, id, limit, member, side, only, has, _ in orders.tolist()
+        for open, visible, filled, _, _, id, limit, member, side, only, has, _ in orders.tolist()
     ]
 
 
