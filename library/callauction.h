@@ -6,9 +6,10 @@
  *
  * A handle of zeros holds nothing, and each call on it but an opening answers CALLAUCTION_ERROR_NO_AUCTION, or
  * CALLAUCTION_ERROR_NO_MEMBER, and does nothing else. Each call answers CALLAUCTION_DONE or the number of an error, and
- * an error changes nothing but a count that it writes as 0 (callauction_apply_many and callauction_board_apply_many
- * write how many commands they had applied before one; after CALLAUCTION_ERROR_FULL on a board its member has seen at
- * least max_calls calls, or reserve fewer).
+ * an error changes nothing but a count that it writes as 0 (callauction_apply_many, callauction_board_apply_many and
+ * callauction_journal_entries write how many commands or entries they had done before one, and
+ * callauction_journal_open the fault of a text; after CALLAUCTION_ERROR_FULL on a board its member has seen at least
+ * max_calls calls, or reserve fewer).
  *
  * docs/MODEL.md says what a command does, when it is refused and what it is answered. Limits and prices are ticks,
  * quantities whole shares. Members are numbered from 0, and member 0 is the operator, who alone uncrosses.
@@ -71,8 +72,10 @@ typedef enum callauction_error {
     CALLAUCTION_ERROR_OVERTAKEN = 16,    /* the board's story, the list of its calls, has one that its history
                                             hasn't; no run is known to meet it */
     CALLAUCTION_ERROR_BAD_MEMBER = 17,   /* the number is neither a member's nor CALLAUCTION_ALL_MEMBERS */
-    CALLAUCTION_ERROR_MISUSED = 18       /* another call has the handle: two threads use one, which the caller has to
+    CALLAUCTION_ERROR_MISUSED = 18,      /* another call has the handle: two threads use one, which the caller has to
                                             mend */
+    CALLAUCTION_ERROR_BAD_JOURNAL = 19,  /* the text is no journal */
+    CALLAUCTION_ERROR_NO_ENTRY = 20      /* the struct is no entry that a journal can hold */
 } callauction_error;
 
 /* ---- the structs: a flag is 0 or 1, and a value whose flag is 0 is 0 ---- */
@@ -267,15 +270,40 @@ typedef struct callauction_entry {
     callauction_reply reply;
 } callauction_entry;
 
+/* What is wrong with a journal; docs/FORMATS.md says where each is found. */
+typedef enum callauction_journal_fault {
+    CALLAUCTION_JOURNAL_NO_FAULT = 0,
+    CALLAUCTION_JOURNAL_TOO_LONG = 1,          /* it has more than 268,435,456 bytes */
+    CALLAUCTION_JOURNAL_BAD_MEMBER = 2,        /* the first field is no number below the count of members */
+    CALLAUCTION_JOURNAL_BAD_COMMAND = 3,       /* the second field is missing, or no known word */
+    CALLAUCTION_JOURNAL_BAD_COUNT = 4,         /* too few or too many fields */
+    CALLAUCTION_JOURNAL_BAD_FIELD = 5,         /* a field is malformed, or out of its range */
+    CALLAUCTION_JOURNAL_TOO_MANY_COMMANDS = 6, /* a record more than the day may have calls */
+    CALLAUCTION_JOURNAL_NOT_A_DAY = 7          /* the first record is missing, or isn't that of a day */
+} callauction_journal_fault;
+
+/* What a journal's text comes to: its fault, or what was counted. */
+typedef struct callauction_journal {
+    uint64_t record_number;  /* of the record that has the fault, from 1 on; 0 where none has */
+    uint32_t field_number;   /* of a bad field in it, from 1 on; else 0 */
+    uint32_t fault;          /* callauction_journal_fault; where it isn't 0, all below is 0 */
+    uint32_t members;        /* for how many members the day is */
+    uint32_t calls;          /* how many calls it has */
+    uint32_t compared;       /* how many of them have a recorded reply, which was compared with the lawful one */
+    uint32_t unlawful;       /* of how many of these it isn't the lawful one */
+    uint32_t first_unlawful; /* the number of the first such call, from 1 on; 0 where there is none */
+} callauction_journal;
+
 /* ---- the library ---- */
 
 /* The version of the library that is linked, as CALLAUCTION_VERSION is that of the header. */
 const char *callauction_version(void);
 
-/* One line of English, without a full stop: of what a call answered, of why a command was refused. For any other number
- * "unknown error" and "unknown refusal". */
+/* One line of English, without a full stop: of what a call answered, of why a command was refused, of what is wrong
+ * with a journal. For any other number "unknown error", "unknown refusal" and "unknown fault". */
 const char *callauction_error_text(uint32_t error);
 const char *callauction_refusal_text(uint32_t refusal);
+const char *callauction_journal_fault_text(uint32_t fault);
 
 /* ---- an auction of one thread ---- */
 
@@ -453,6 +481,34 @@ CALLAUCTION_RESULT callauction_error callauction_board_close(callauction_member 
  * NO_MEMBER and does nothing. */
 callauction_error callauction_board_leave(callauction_member *member);
 
+/* ---- journals: a recorded day as text, as docs/FORMATS.md has it, for `callboard --audit` too; files are yours ----
+ *
+ * A journal is the line of its day, and then one for each call with its reply. No line has more than 256 bytes. The
+ * orders' clients aren't in it. These calls take no handle, but the last one. */
+
+/* Writes the first line of a journal, the day of this config for `members` members, and how many bytes it has.
+ * NO_CONFIG where the struct is none; else the first fault of the config, as of callauction_open; else NO_CONFIG where
+ * its range is above 1,000,000, which no journal can say; else BAD_MEMBER where the members aren't 1 to 64; else
+ * BAD_LENGTH where the line doesn't fit. NO_MEMORY, which no run is known to meet. */
+CALLAUCTION_RESULT callauction_error callauction_journal_day(const callauction_config *config, uint32_t members,
+                                                             char *text, size_t text_count, size_t *written);
+
+/* Writes the lines of entries, one after the other, as many as fit whole, and how many entries they are, and how many
+ * bytes. What follows is written by further calls. NO_ENTRY at the first struct that is no command or whose reply is
+ * none that this library writes, whose member isn't 0 to 63, or whose quantity or peak is above 4,294,967,295: the
+ * lines of those before it were written. NO_MEMORY likewise, which no run is known to meet. */
+CALLAUCTION_RESULT callauction_error callauction_journal_entries(const callauction_entry *entries, size_t entry_count,
+                                                                 char *text, size_t text_count, size_t *copied,
+                                                                 size_t *written);
+
+/* Opens an auction of the day of a journal, applies all its calls, and compares each recorded reply, byte for byte,
+ * with the lawful one, whatever was found before. The handle holds the auction after them, without a reserve, to go on
+ * with, and its orders have the client 0. IN_USE where the handle holds an auction; else BAD_JOURNAL, with the first
+ * fault; else the fault of the day's config; else NO_MEMORY. At any error but BAD_JOURNAL nothing is written. The file
+ * of a session that runs has NULs behind its lines: give the bytes before them. */
+CALLAUCTION_RESULT callauction_error callauction_journal_open(callauction_handle *handle, const char *text,
+                                                              size_t text_count, callauction_journal *found);
+
 #ifdef __cplusplus
 }
 #endif
@@ -601,6 +657,15 @@ CALLAUCTION_AT(shown, calls, 64);
 CALLAUCTION_SIZE(entry, 104);
 CALLAUCTION_AT(entry, command, 0);
 CALLAUCTION_AT(entry, reply, 40);
+CALLAUCTION_SIZE(journal, 40);
+CALLAUCTION_AT(journal, record_number, 0);
+CALLAUCTION_AT(journal, field_number, 8);
+CALLAUCTION_AT(journal, fault, 12);
+CALLAUCTION_AT(journal, members, 16);
+CALLAUCTION_AT(journal, calls, 20);
+CALLAUCTION_AT(journal, compared, 24);
+CALLAUCTION_AT(journal, unlawful, 28);
+CALLAUCTION_AT(journal, first_unlawful, 32);
 
 #undef CALLAUCTION_AT
 #undef CALLAUCTION_SIZE

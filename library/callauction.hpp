@@ -27,6 +27,7 @@
 #include <mutex>
 #include <new>
 #include <optional>
+#include <string>
 #include <string_view>
 #include <thread>
 #include <type_traits>
@@ -104,6 +105,8 @@ enum class Error : std::uint32_t {
     overtaken = CALLAUCTION_ERROR_OVERTAKEN,
     bad_member = CALLAUCTION_ERROR_BAD_MEMBER,
     misused = CALLAUCTION_ERROR_MISUSED,
+    bad_journal = CALLAUCTION_ERROR_BAD_JOURNAL,
+    no_entry = CALLAUCTION_ERROR_NO_ENTRY,
     no_tick_size = 1001, // of Ticks alone, as the next one
     no_price = 1002
 };
@@ -138,6 +141,17 @@ enum class Refusal : std::uint8_t {
     past_auction = CALLAUCTION_REFUSAL_PAST_AUCTION
 };
 
+enum class JournalFault : std::uint32_t {
+    none = CALLAUCTION_JOURNAL_NO_FAULT,
+    too_long = CALLAUCTION_JOURNAL_TOO_LONG,
+    bad_member = CALLAUCTION_JOURNAL_BAD_MEMBER,
+    bad_command = CALLAUCTION_JOURNAL_BAD_COMMAND,
+    bad_count = CALLAUCTION_JOURNAL_BAD_COUNT,
+    bad_field = CALLAUCTION_JOURNAL_BAD_FIELD,
+    too_many_commands = CALLAUCTION_JOURNAL_TOO_MANY_COMMANDS,
+    not_a_day = CALLAUCTION_JOURNAL_NOT_A_DAY
+};
+
 // One line of English, without a full stop.
 inline const char *text(Error error) {
     if (error == Error::no_tick_size) return "a tick size is a decimal number above 0, with at most nine decimals";
@@ -145,6 +159,9 @@ inline const char *text(Error error) {
     return callauction_error_text(static_cast<std::uint32_t>(error));
 }
 inline const char *text(Refusal refusal) { return callauction_refusal_text(static_cast<std::uint32_t>(refusal)); }
+inline const char *text(JournalFault fault) {
+    return callauction_journal_fault_text(static_cast<std::uint32_t>(fault));
+}
 
 // ---- results
 
@@ -604,6 +621,14 @@ inline CarriedOver carried_over(const std::vector<callauction_order> &orders, st
 // ---- an auction of one thread
 
 class Member;
+struct Resumed;
+
+// The first fault of a journal: its record and its field, from 1 on, or 0 where there is none.
+struct BadRecord {
+    JournalFault fault = JournalFault::none;
+    std::uint64_t record = 0;
+    std::uint32_t field = 0;
+};
 
 class Auction {
 public:
@@ -614,6 +639,10 @@ public:
         if (const auto error = detail::error_of(callauction_open(&made.handle_, &given))) return *error;
         return made;
     }
+
+    // By the text of a journal: the auction of its day after all its calls, to go on with, and what was found of its
+    // replies. Where it is no journal, Error::bad_journal, and its first fault in `fault`, if that is given.
+    static Result<Resumed> resumed(std::string_view journal, BadRecord *fault = nullptr);
 
     Auction(Auction &&other) noexcept : handle_(std::exchange(other.handle_, callauction_handle{})) {}
     Auction &operator=(Auction &&other) noexcept {
@@ -775,6 +804,50 @@ private:
     callauction_handle handle_{};
 };
 
+// An auction that a journal was gone on with: how many members its day is for, how many calls it has, how many of them
+// have a recorded reply, of how many of these it isn't the lawful one, and the number of the first, from 1 on.
+struct Resumed {
+    Auction auction;
+    std::uint32_t members, calls, compared, unlawful;
+    std::optional<std::uint32_t> first_unlawful;
+};
+
+inline Result<Resumed> Auction::resumed(std::string_view journal, BadRecord *fault) {
+    Auction made;
+    callauction_journal found{};
+    const auto answer = callauction_journal_open(&made.handle_, journal.data(), journal.size(), &found);
+    if (fault) *fault = {static_cast<JournalFault>(found.fault), found.record_number, found.field_number};
+    if (const auto error = detail::error_of(answer)) return *error;
+    Resumed resumed{std::move(made), found.members, found.calls, found.compared, found.unlawful, {}};
+    if (found.first_unlawful) resumed.first_unlawful = found.first_unlawful;
+    return resumed;
+}
+
+// The text of a journal: the day of a config for so many members, and the lines of entries. A reserve and clients
+// aren't in it. Error::no_entry where a struct is no entry that a journal can hold, as one whose quantity has more than
+// 32 bits.
+inline Result<std::string> journal(const Config &config, Whole members, Span<const callauction_entry> entries) {
+    constexpr std::size_t piece = 65536; // bytes, for many whole lines
+    callauction_config given{};
+    std::uint32_t count = 0;
+    if (!detail::config_fits(config, given)) return Error::no_config;
+    if (!detail::fits(members, count)) return Error::bad_member;
+    std::string text(piece, '\0');
+    std::size_t copied = 0, written = 0;
+    auto answer = callauction_journal_day(&given, count, text.data(), piece, &written);
+    if (const auto error = detail::error_of(answer)) return *error;
+    text.resize(written);
+    for (std::size_t done = 0; done < entries.size(); done += copied) {
+        const std::size_t had = text.size();
+        text.resize(had + piece);
+        answer = callauction_journal_entries(
+            entries.data() + done, entries.size() - done, text.data() + had, piece, &copied, &written);
+        if (const auto error = detail::error_of(answer)) return *error;
+        text.resize(had + written);
+    }
+    return text;
+}
+
 // What the uncross of this auction did to the orders, by a board's history: its entries are applied to an auction once
 // more. There are none where the history hasn't come to it.
 inline Result<std::vector<callauction_outcome>> uncrossed_orders(
@@ -814,6 +887,11 @@ struct Closing {
     std::vector<callauction_entry> entries;
     std::vector<std::uint32_t> counts;
 };
+
+// The journal of a board that was closed.
+inline Result<std::string> journal(const Config &config, const Closing &closing) {
+    return journal(config, closing.counts.size(), closing.entries);
+}
 
 class Board;
 

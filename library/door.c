@@ -51,6 +51,10 @@ callauction_error proved_callauction_board_config_of(callauction_member *, calla
 callauction_error proved_callauction_board_close(callauction_member *, size_t, callauction_entry *, size_t,
                                                  uint32_t *, size_t, size_t *);
 callauction_error proved_callauction_board_leave(callauction_member *);
+callauction_error proved_callauction_journal_day(const callauction_config *, uint32_t, char *, size_t, size_t *);
+callauction_error proved_callauction_journal_entries(const callauction_entry *, size_t, char *, size_t, size_t *,
+                                                     size_t *);
+callauction_error proved_callauction_journal_open(callauction_handle *, const char *, size_t, callauction_journal *);
 
 /* ---- the flag of a handle ---- */
 
@@ -429,6 +433,40 @@ static callauction_error leaves(callauction_member *member) {
 
 callauction_error callauction_board_leave(callauction_member *member) { THROUGH(member, leaves(member)); }
 
+/* ---- journals ---- */
+
+callauction_error callauction_journal_day(const callauction_config *config, uint32_t members, char *text,
+                                          size_t text_count, size_t *written) {
+    *written = 0;
+    return proved_callauction_journal_day(config, members, text, text_count, written);
+}
+
+callauction_error callauction_journal_entries(const callauction_entry *entries, size_t entry_count, char *text,
+                                              size_t text_count, size_t *copied, size_t *written) {
+    *copied = 0;
+    *written = 0;
+    return proved_callauction_journal_entries(entries, entry_count, text, text_count, copied, written);
+}
+
+/* What was found is written once the handle has its table of clients. */
+static callauction_error opens_journal(callauction_handle *handle, const char *text, size_t text_count,
+                                       callauction_journal *found) {
+    callauction_journal read = *found;
+    callauction_config config;
+    callauction_error answer = proved_callauction_journal_open(handle, text, text_count, &read);
+    if (answer == CALLAUCTION_DONE) {
+        answer = proved_callauction_config_of(handle, &config);
+        if (answer == CALLAUCTION_DONE) answer = gets_clients(handle, config.max_calls);
+    }
+    if (answer == CALLAUCTION_DONE || answer == CALLAUCTION_ERROR_BAD_JOURNAL) *found = read;
+    return answer;
+}
+
+callauction_error callauction_journal_open(callauction_handle *handle, const char *text, size_t text_count,
+                                           callauction_journal *found) {
+    THROUGH(handle, opens_journal(handle, text, text_count, found));
+}
+
 /* ---- texts ---- */
 
 const char *callauction_version(void) { return CALLAUCTION_VERSION; }
@@ -455,6 +493,8 @@ const char *callauction_error_text(uint32_t error) {
     case CALLAUCTION_ERROR_MISSING_MEMBER: return "the handles don't hold all members of a board in their order";
     case CALLAUCTION_ERROR_BAD_MEMBER: return "the number is no member's";
     case CALLAUCTION_ERROR_OVERTAKEN: return "the board's story has a call that its history hasn't";
+    case CALLAUCTION_ERROR_BAD_JOURNAL: return "the text is no journal";
+    case CALLAUCTION_ERROR_NO_ENTRY: return "the struct is no entry that a journal can hold";
     default: return "unknown error";
     }
 }
@@ -471,5 +511,19 @@ const char *callauction_refusal_text(uint32_t refusal) {
     case CALLAUCTION_REFUSAL_NO_SUCH_TRADE: return "the day has no trade with this number";
     case CALLAUCTION_REFUSAL_PAST_AUCTION: return "the order is for an auction that is over";
     default: return "unknown refusal";
+    }
+}
+
+const char *callauction_journal_fault_text(uint32_t fault) {
+    switch (fault) {
+    case CALLAUCTION_JOURNAL_NO_FAULT: return "no fault";
+    case CALLAUCTION_JOURNAL_TOO_LONG: return "file too long";
+    case CALLAUCTION_JOURNAL_BAD_MEMBER: return "bad member";
+    case CALLAUCTION_JOURNAL_BAD_COMMAND: return "bad command";
+    case CALLAUCTION_JOURNAL_BAD_COUNT: return "wrong number of fields";
+    case CALLAUCTION_JOURNAL_BAD_FIELD: return "bad field";
+    case CALLAUCTION_JOURNAL_TOO_MANY_COMMANDS: return "too many commands";
+    case CALLAUCTION_JOURNAL_NOT_A_DAY: return "not a day record";
+    default: return "unknown fault";
     }
 }

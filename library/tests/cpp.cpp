@@ -289,6 +289,57 @@ void a_board_is_closed() {
     }
 }
 
+// A journal of a board's day, which is gone on with; and what is none.
+void a_day_is_kept_as_a_journal() {
+    auto board = ca::Board::open(3, day);
+    WANT(board->member(1).call(ca::Enter{ca::Side::bid, 30, 510, 10, ca::Restriction::none, 41}));
+    WANT(board->member(2).call(ca::Enter{ca::Side::ask, 20}) && board->member(0).call(ca::Uncross{}));
+    const auto closing = board->close();
+    WANT(closing.has_value());
+    const auto journal = ca::journal(day, *closing);
+    WANT(journal && *journal == "day,1,1000,500,3,10,100,50\n1,enter,bid,30,510,10,entered 1\n"
+                                "2,enter,ask,20,market,entered 2\n"
+                                "0,uncross,opening price 510 volume 20 surplus 10 bid trades 1\n");
+    auto resumed = ca::Auction::resumed(*journal);
+    WANT(resumed && resumed->members == 3 && resumed->calls == 3 && resumed->compared == 3 && resumed->unlawful == 0);
+    WANT(!resumed->first_unlawful && *resumed->auction.calls() == 3 && resumed->auction.config()->range == 50);
+    WANT(resumed->auction.orders()->at(0).quantity == 10 && resumed->auction.orders()->at(0).client == 0);
+    WANT(reply<ca::Entered>(resumed->auction.apply(2, ca::Enter{ca::Side::ask, 10, 510})).id == 3);
+    WANT(resumed->auction.trades()->size() == 1 && resumed->auction.state()->calls_left_to_members == 96);
+    const auto other = ca::Auction::resumed(
+        "day,1,1000,500,3,10,100,\n1,ask,\n1,ask,entered 1\n1,ask,no price bid - ask -");
+    WANT(other && other->calls == 3 && other->compared == 2 && other->unlawful == 1 && other->first_unlawful == 2u);
+    ca::BadRecord fault;
+    WANT(ca::Auction::resumed("day,1,1000,500,3,10,100,\n1,delete,x,\n", &fault).error() == ca::Error::bad_journal);
+    WANT(fault.fault == ca::JournalFault::bad_field && fault.record == 2 && fault.field == 3);
+    WANT(std::string_view(ca::text(fault.fault)) == "bad field");
+    WANT(ca::Auction::resumed("day,1,1000,5000,3,10,100,\n", &fault).error() == ca::Error::bad_reference);
+    WANT(fault.fault == ca::JournalFault::none && fault.record == 0);
+    WANT(ca::Auction::resumed({}).error() == ca::Error::bad_journal);
+}
+
+void what_no_journal_holds() {
+    const std::vector<callauction_entry> none;
+    WANT(*ca::journal(day, 64, none) == "day,1,1000,500,64,10,100,50\n");
+    for (const ca::Whole members : {0, 65, -1}) WANT(ca::journal(day, members, none).error() == ca::Error::bad_member);
+    WANT(ca::journal({1, 10, 11, 1, 1, {}}, 1, none).error() == ca::Error::bad_reference);
+    WANT(ca::journal({1, 10, 5, 1, 1, 1'000'001}, 1, none).error() == ca::Error::no_config);
+    WANT(ca::journal({1, 10, -5, 1, 1, {}}, 1, none).error() == ca::Error::no_config);
+    std::vector<callauction_entry> entries(5000);
+    auto auction = opened({1, 1000, 500, 10, 5000, {}});
+    for (auto &entry : entries) { // more than a piece of text holds
+        entry.command = ca::struct_of(1, ca::Enter{ca::Side::bid, 3, 1001}).value();
+        std::vector<callauction_command> command{entry.command};
+        std::vector<callauction_reply> answer(1);
+        WANT(!auction.apply_many(command, answer).second);
+        entry.reply = answer[0];
+    }
+    const auto text = ca::journal({1, 1000, 500, 10, 5000, {}}, 2, entries);
+    WANT(text && text->size() == 26 + 5000 * 38 && ca::Auction::resumed(*text)->unlawful == 0);
+    entries[4000].command.quantity = std::uint64_t{1} << 32;
+    WANT(ca::journal(day, 2, entries).error() == ca::Error::no_entry);
+}
+
 } // namespace
 
 int main() {
@@ -303,5 +354,7 @@ int main() {
     a_reserve_is_the_operators();
     a_board_says_what_an_uncross_did();
     a_board_is_closed();
+    a_day_is_kept_as_a_journal();
+    what_no_journal_holds();
     return 0;
 }

@@ -1,11 +1,12 @@
 /* Memory, with the heap of checks/parts/refusing_memory.c: `memory open`, `memory day`, `memory list`, `memory board`,
- * `memory many COUNT`.
+ * `memory journal`, `memory many COUNT`.
  *
  * open: opens an auction, clones it and closes both; where memory is refused the call answers so, and nothing is kept.
  * day: the same, and between them commands, displays, resets and a clone over the clone, which ask for no memory.
  * list: opens an auction, lists its orders and uncrosses; where memory is refused, the call answers so, and does
  * nothing.
  * board: the same on a board, of which an auction is a copy too, and the board goes on after each refusal.
+ * journal: opens an auction by a journal, and looks for the fault of another; writing one asks for no memory.
  * many: opens and closes as often as asked, and prints by how many KiB the process has grown since a tenth of them. */
 #include "callauction.h"
 #include <stdio.h>
@@ -143,6 +144,35 @@ static int lists_of_board(void) {
     return listed == CALLAUCTION_DONE && told == CALLAUCTION_DONE && is_copy ? 0 : 3;
 }
 
+/* A journal is written without memory. Its auction is opened, or memory was refused, and nothing is written. */
+static int opens_journal(void) {
+    static const char bad[] = "day,1,1000,500,3,64,6000,\n0,ask,\n0,\"enter\",\n";
+    callauction_handle auction = {0}, none = {0};
+    callauction_journal found = {.calls = 77}, fault = {.calls = 77};
+    callauction_entry entries[20];
+    char text[4096];
+    size_t begun = 0, copied = 0, written = 0;
+    memset(entries, 0, sizeof entries);
+    for (int i = 0; i < 20; i++) {
+        entries[i].command = (callauction_command){.tag = CALLAUCTION_COMMAND_ENTER, .side = 1, .quantity = 5};
+        entries[i].reply = (callauction_reply){.tag = CALLAUCTION_REPLY_ENTERED, .id = (uint32_t)i + 1};
+    }
+    if (callauction_journal_day(&config, 3, text, sizeof text, &begun) != CALLAUCTION_DONE) return leave("no day");
+    uint32_t answer = callauction_journal_entries(entries, 20, text + begun, sizeof text - begun, &copied, &written);
+    if (answer != CALLAUCTION_DONE || copied != 20) return leave("no entries");
+    uint32_t faulty = callauction_journal_open(&auction, bad, sizeof bad - 1, &fault);
+    if (memcmp(&auction, &none, sizeof none)) return leave("a handle changed");
+    bool is_fault = faulty == CALLAUCTION_ERROR_BAD_JOURNAL && fault.record_number == 3 && fault.calls == 0;
+    if (!is_fault && (faulty != CALLAUCTION_ERROR_NO_MEMORY || fault.calls != 77)) return leave("another fault");
+    answer = callauction_journal_open(&auction, text, begun + written, &found);
+    if (answer == CALLAUCTION_ERROR_NO_MEMORY)
+        return memcmp(&auction, &none, sizeof none) || found.calls != 77 ? leave("a handle changed") : 3;
+    if (answer != CALLAUCTION_DONE) return leave("another answer of a journal");
+    if (found.calls != 20 || found.compared != 20 || found.unlawful != 0) return leave("another count");
+    if (callauction_close(&auction) != CALLAUCTION_DONE) return leave("not closed");
+    return is_fault ? 0 : 3;
+}
+
 static long kibibytes(void) {
     long pages = 0, resident = 0;
     FILE *from = fopen("/proc/self/statm", "r");
@@ -169,5 +199,6 @@ int main(int count, char **words) {
     if (count == 3 && strcmp(words[1], "many") == 0) return many(atol(words[2]));
     if (count == 2 && strcmp(words[1], "list") == 0) return lists();
     if (count == 2 && strcmp(words[1], "board") == 0) return lists_of_board();
+    if (count == 2 && strcmp(words[1], "journal") == 0) return opens_journal();
     return opens(count == 2 && strcmp(words[1], "day") == 0);
 }

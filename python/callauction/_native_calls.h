@@ -12,8 +12,8 @@ typedef struct python_auction {
 
 /* What calls answer beside the numbers of callauction.h. */
 enum {
-    PYTHON_BUSY = 20,   /* another call has the auction */
-    PYTHON_OVERLAP = 21 /* two arrays share memory */
+    PYTHON_BUSY = 40,   /* another call has the auction */
+    PYTHON_OVERLAP = 41 /* two arrays share memory */
 };
 
 /* ---- one command: its reply, or one with the tag PYTHON_NO_REPLY and the number of the error for its id ---- */

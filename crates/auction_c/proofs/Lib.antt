@@ -9,3 +9,5 @@ mod ManyLaws
 mod OpenLaws
 mod ManyCallLaws
 mod OutcomeLaws
+mod JournalLineLaws
+mod JournalFoundLaws

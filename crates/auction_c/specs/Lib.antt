@@ -11,3 +11,5 @@ pub mod BoardCalls
 pub mod ManyCalls
 pub mod Outcomes
 pub mod Executed
+pub mod Journals
+pub mod JournalReading

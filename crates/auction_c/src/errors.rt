@@ -65,6 +65,12 @@ pub const BAD_MEMBER: u32 = 17;
 /// Another call has the handle. No call here answers it: `library/door.c` does, before it comes to one.
 pub const MISUSED: u32 = 18;
 
+/// The text is no journal.
+pub const BAD_JOURNAL: u32 = 19;
+
+/// The struct is no entry that a journal can hold.
+pub const NO_ENTRY: u32 = 20;
+
 /// The number of a fault of an opening.
 pub(crate) fn fault_out(fault: OpenFault) -> u32
     ensures { result ≡ fault_number fault }

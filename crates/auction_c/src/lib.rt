@@ -28,6 +28,8 @@ mod entries;
 mod errors;
 mod executions;
 mod handle;
+mod journal_calls;
+mod journals;
 mod member_box;
 mod member_handle;
 mod order_calls;
@@ -43,16 +45,17 @@ use decoding::{config_in, reserve_in};
 use encoding::{config_out, display_out, state_out};
 use errors::fault_out;
 pub use errors::{
-    BAD_BOUNDS, BAD_CAPACITY, BAD_LENGTH, BAD_MEMBER, BAD_REFERENCE, BEHIND, BUSY, CLOSED, DONE,
-    FULL, IN_USE, MISSING_MEMBER, MISUSED, NO_AUCTION, NO_COMMAND, NO_CONFIG, NO_MEMBER, NO_MEMORY,
-    OVERTAKEN,
+    BAD_BOUNDS, BAD_CAPACITY, BAD_JOURNAL, BAD_LENGTH, BAD_MEMBER, BAD_REFERENCE, BEHIND, BUSY,
+    CLOSED, DONE, FULL, IN_USE, MISSING_MEMBER, MISUSED, NO_AUCTION, NO_COMMAND, NO_CONFIG,
+    NO_ENTRY, NO_MEMBER, NO_MEMORY, OVERTAKEN,
 };
 pub use handle::AuctionHandle;
 pub use member_handle::AuctionMember;
 use std::alloc::Global;
 pub use structs::{
-    AuctionCommand, AuctionConfig, AuctionDayState, AuctionEntry, AuctionMarketOrders,
-    AuctionOrder, AuctionOutcome, AuctionReceipt, AuctionReply, AuctionShown, AuctionTrade,
+    AuctionCommand, AuctionConfig, AuctionDayState, AuctionEntry, AuctionJournal,
+    AuctionMarketOrders, AuctionOrder, AuctionOutcome, AuctionReceipt, AuctionReply, AuctionShown,
+    AuctionTrade,
 };
 
 /// Opens an auction, which the handle then holds: no orders, no trades, no calls, the reference of the config. The last

@@ -192,3 +192,22 @@ pub struct AuctionEntry {
     pub command: AuctionCommand,
     pub reply: AuctionReply,
 }
+
+/// What a journal's text comes to. Where it has a fault, all but the first three is 0, and else these.
+#[repr(C)]
+#[derive(Clone, Copy, Debug, PartialEq, Eq)]
+pub struct AuctionJournal {
+    /// The number of the record that has the fault, and of a bad field in it, from 1 on; 0 where there is none.
+    pub record_number: u64,
+    pub field_number: u32,
+    /// 1 too long, 2 bad member, 3 bad command, 4 wrong number of fields, 5 bad field, 6 too many commands, 7 not a day
+    /// record.
+    pub fault: u32,
+    pub members: u32,
+    pub calls: u32,
+    /// The calls with a recorded reply, and those of them whose recorded reply isn't the lawful one.
+    pub compared: u32,
+    pub unlawful: u32,
+    /// The number of the first of these, from 1 on; 0 where there is none.
+    pub first_unlawful: u32,
+}
