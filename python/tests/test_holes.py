@@ -271,7 +271,8 @@ def test_whole_numbers_of_a_sequence_are_read_without_their_texts(
     due = slow.sequence(), slow.row_numbers()
     monkeypatch.delattr(worded.Columns, "_counted")
     for one, other in zip(due, (quick.sequence(), quick.row_numbers())):
-        numpy.testing.assert_array_equal(one, other)
+        assert (one is None) == (other is None)
+        assert one is None or other is None or numpy.array_equal(one, other)
 
 
 @pytest.mark.parametrize("text", ["S1", "1.0", "1" * 19, "09:00:00", "-1", "\u0661"])
