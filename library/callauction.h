@@ -64,7 +64,9 @@ typedef enum callauction_error {
                                             are the operator's */
     CALLAUCTION_ERROR_BAD_LENGTH = 9,    /* an array has another length than the call wants */
     CALLAUCTION_ERROR_NO_CONFIG = 10,    /* the struct is no config */
-    CALLAUCTION_ERROR_BUSY = 11,         /* another member's call has the board: try again */
+    CALLAUCTION_ERROR_BUSY = 11,         /* another member's call has the board: try again. Calls that give orders a
+                                            client, list orders or entries, or copy the auction also want the board's
+                                            clients, and may answer this before another error */
     CALLAUCTION_ERROR_BEHIND = 12,       /* the member has seen or counted other calls than the board's history has */
     CALLAUCTION_ERROR_CLOSED = 13,       /* the board was closed */
     CALLAUCTION_ERROR_NO_MEMBER = 14,    /* the handle holds no member */

@@ -18,7 +18,7 @@ use std::alloc::Global;
 
 /// Writes the first line of a journal, the day of this config for so many members, and how many bytes it has.
 ///
-/// It paired `NO_CONFIG` for a struct that is no config; else the first fault of the config, `BAD_BOUNDS`,
+/// It answers `NO_CONFIG` for a struct that is no config; else the first fault of the config, `BAD_BOUNDS`,
 /// `BAD_REFERENCE` or `BAD_CAPACITY`; else `NO_CONFIG` where the range is above `MAX_TICK`, which no journal says; else
 /// `BAD_MEMBER` where the members aren't from 1 to `MAX_MEMBERS`; else `BAD_LENGTH` where the line doesn't fit, or
 /// `NO_MEMORY` only where memory is refused.
@@ -57,7 +57,7 @@ pub extern "C" fn callauction_journal_day(
 /// Writes the lines of entries, one after the other, as many as fit whole, and how many entries they are, and how many
 /// bytes they have.
 ///
-/// At the first struct that is no entry, or none that a journal can hold, it paired `NO_ENTRY`, and has written the
+/// At the first struct that is no entry, or none that a journal can hold, it answers `NO_ENTRY`, and has written the
 /// lines before it, as it has where memory is refused.
 #[unsafe(no_mangle)]
 pub extern "C" fn callauction_journal_entries(
@@ -79,7 +79,7 @@ pub extern "C" fn callauction_journal_entries(
 /// many members the day is, how many calls there are, how many of them have a recorded reply, of how many of these it
 /// isn't the lawful one, and the number of the first of them.
 ///
-/// Where the handle holds an auction already it paired `IN_USE`. Else it paired `BAD_JOURNAL`, and writes the fault,
+/// Where the handle holds an auction already it answers `IN_USE`. Else it answers `BAD_JOURNAL`, and writes the fault,
 /// where the text is no journal; then the first fault of its config; and `NO_MEMORY` only where memory is refused.
 #[unsafe(no_mangle)]
 pub extern "C" fn callauction_journal_open(

@@ -54,7 +54,7 @@ fn is_of_journal(fault: FileFault) -> bool
     !matches!(fault, FileFault::ReadFailed | FileFault::NoMemory)
 }
 
-/// Writes a fault of a journal, and paired `BAD_JOURNAL`; or writes nothing, and paired `NO_MEMORY`, where it is none
+/// Writes a fault of a journal, and answers `BAD_JOURNAL`; or writes nothing, and answers `NO_MEMORY`, where it is none
 /// of the journal's.
 pub(crate) fn refuse(found: &mut AuctionJournal, fault: FileFault) -> u32
     ensures { (said : Result RecordedDay FileFault) → FailsAsWanted fault said

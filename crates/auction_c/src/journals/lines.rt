@@ -22,7 +22,7 @@ fn keep_line(lines: &mut KeptText, entry: Entry) -> Result<(), AllocError>
     keep_entry(lines, entry)
 }
 
-// Writes the line of the entry in a struct behind those before it, and counts its bytes; or paired at which error
+// Writes the line of the entry in a struct behind those before it, and counts its bytes; or answers at which error
 // there are no more. Room to keep a line in is lent.
 fn write_line(
     lines: &mut KeptText,
@@ -46,7 +46,7 @@ fn write_line(
 }
 
 /// Writes the lines of the entries in the first structs, as many as fit, and how many they are, and how many bytes. It
-/// paired `NO_ENTRY` where the next struct is none.
+/// answers `NO_ENTRY` where the next struct is none.
 pub(crate) fn write_lines(
     lines: &mut KeptText,
     entries: &[AuctionEntry],

@@ -20,7 +20,7 @@ fn put_part(text: &mut [u8], at: usize, part: &[u8])
     text[at..at + part.len()].copy_from_slice(part);
 }
 
-/// Copies what was kept behind what was written before, counts it, and paired true; or changes nothing where it
+/// Copies what was kept behind what was written before, counts it, and answers true; or changes nothing where it
 /// doesn't fit.
 pub(crate) fn put_text(lines: &KeptText, text: &mut [u8], written: &mut usize) -> bool
     requires { written.old ≤ length text.old }
