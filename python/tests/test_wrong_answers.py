@@ -414,7 +414,7 @@ def test_other_bytes_are_one_line(
 @pytest.mark.parametrize("content", [
     b"%PDF-1.4\n%\xe2\xe3\xcf\xd3\n1 0 obj<</Type/Catalog>>\n",
     b"\x89PNG\r\n\x1a\n" + bytes(range(256)), random.Random(1).randbytes(9999),
-])
+], ids=["a PDF", "a picture", "noise"])
 def test_what_is_no_text_is_named_in_any_encoding(
     content: bytes, words: list[str], tmp_path: Path, monkeypatch: pytest.MonkeyPatch,
     capsys: pytest.CaptureFixture[str],
