@@ -31,7 +31,7 @@ use Rattle.auction_terms.proofs.SortLaws.{Before, Rising, Upto, Up, up_from_sort
 use Rattle.auction_terms.proofs.RankLaws.{by_rank_total, all_apart_by_place, PlacesRise-filter, ranked_orders_is}
 use Rattle.auction_terms.proofs.RankLaws.{sum_by-filter}
 use Rattle.auction_terms.proofs.FillLaws.{sum_by-map, total-requested_fill}
-use Rattle.auction_terms.proofs.CountedLaws.{counted_is_line, orders_of-auction_orders, sum-auction_orders}
+use Rattle.auction_terms.proofs.CountedLaws.{counted_is_line, orders_of-auction_orders, sum-auction_line}
 use Rattle.auction_terms.proofs.CountedLaws.{few-auction_orders}
 use Rattle.order_book.specs.Orders.{OrdersView, PassesAllOrders, present, slot_at}
 use Rattle.order_book.proofs.WalkLaws.{present_more, present_all, length-ones}
@@ -292,7 +292,7 @@ claims-ranked claimants orders places gathered claims walk is passed permuted so
           (auction_line orders.line claimants.kind) line claims narrow moved sorted
           ∙ ap (λ book. map requested_fill (ranked_orders claimants.side claimants.price book))
           (orders_of-auction_orders orders.line claimants.kind);
-      bounded = omega (arith, within, walk.bounded, sum-auction_orders orders.line claimants.kind);
+      bounded = omega (arith, within, walk.bounded, sum-auction_line orders.line claimants.kind);
     }
 
 -- ---- ranked claims

@@ -19,7 +19,7 @@ use Rattle.auction_terms.specs.declared.Order.{Order}
 use Rattle.auction_terms.specs.declared.Side.{Side}
 use Rattle.auction_terms.specs.declared.Side.TheVariants.{Bid}
 use Rattle.auction_terms.specs.declared.Trade.{Trade}
-use Rattle.auction_terms.specs.Allotment.{fills_of, is_positive, pairings, spans, trade_at, trades}
+use Rattle.auction_terms.specs.Allotment.{fills_of, is_positive, pairings, spans, trade_of_overlap, trades}
 use Rattle.auction_terms.specs.Auxiliary.OrderLists.{IsOrderly}
 use Rattle.auction_terms.specs.Auxiliary.RankedFills.{allot, price_order, ranked_orders, requested_fill}
 use Rattle.auction_terms.specs.Auxiliary.Sort.{in_order, place_in}
@@ -88,7 +88,7 @@ abbrev IsSmallTrade : Trade → Type 0
 IsSmallTrade t = t.quantity ≤ MAX_QUANTITY
 
 small-row : (price : ℕ) (b : ℕ × Fill) (asks : List (ℕ × Fill)) → IsSmallSpan b
-    → All IsSmallTrade (filter_map (trade_at price b) asks)
+    → All IsSmallTrade (filter_map (trade_of_overlap price b) asks)
 small-row price b [] small = All-nil IsSmallTrade
 small-row price b (a ∷ asks) small =
     grind (arith, common_steps, All-cons, (small-row price b asks small))

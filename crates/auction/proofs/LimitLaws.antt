@@ -10,7 +10,7 @@ use Rattle.auction_terms.specs.Ladder.{LadderView}
 use Rattle.order_book.specs.Orders.{OrdersView as Orders}
 use Rattle.tick_ladder.specs.TickLadder.{IsLadderOf}
 use Rattle.price_rules.specs.Decision.{IsBookOver}
-use Rattle.auction.specs.OpenOrders.{current_orders}
+use Rattle.auction.specs.OpenOrders.{counted_orders}
 use Rattle.auction.specs.LadderBook.{LadderBookView, ladder_book_view, HasLadder, IsLadderBook}
 use Rattle.auction.proofs.LadderBookLaws.{HasTick, open_counted}
 
@@ -47,7 +47,7 @@ kept_over kind book ladder is =
 
 pub seen_over : (orders : Orders) (ladder : LadderView) (kind : AuctionKind) (now : LadderBookView)
     → ladder_book_view orders ladder kind ≡ now → IsLadderBook orders ladder kind
-    → IsBookOver now.book.low now.book.ticks (current_orders now.book)
+    → IsBookOver now.book.low now.book.ticks (counted_orders now.book)
 seen_over orders ladder kind now seen is =
-    subst (λ (b : LadderBookView). IsBookOver b.book.low b.book.ticks (current_orders b.book)) seen
+    subst (λ (b : LadderBookView). IsBookOver b.book.low b.book.ticks (counted_orders b.book)) seen
     (kept_over kind (orders_of orders.line) ladder is.kept)

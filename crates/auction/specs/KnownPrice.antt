@@ -16,7 +16,7 @@ use Rattle.auction_terms.specs.Ladder.{LadderView}
 use Rattle.auction_terms.specs.AuctionPrice.{price}
 use Rattle.tick_ladder.specs.TickLadder.{IsLadderOf}
 use Rattle.price_rules.specs.Decision.{IsBookOver, IsSameWithin}
-use Rattle.auction.specs.OpenOrders.{OpenOrders, current_orders}
+use Rattle.auction.specs.OpenOrders.{OpenOrders, counted_orders}
 use Rattle.auction.specs.declared.book.known.KnownPrice.{KnownPrice}
 
 -- a bid below the lowest tick that decides, an ask above the highest
@@ -56,7 +56,7 @@ IsKnownIn ladder known =
     → IsKnown ladder.low (length ladder.bids) book known
 
 abbrev pub IsKnownOf : OpenOrders → KnownPrice → Type 0
-IsKnownOf book known = IsKnown book.low book.ticks (current_orders book) known
+IsKnownOf book known = IsKnown book.low book.ticks (counted_orders book) known
 
 -- ---- what is forgotten
 

@@ -53,8 +53,8 @@ has_same_limits config other =
     && (config.max_open == other.max_open) && (config.max_calls == other.max_calls)
 
 -- the orders that count
-abbrev pub current_orders : OpenOrders → List Order
-current_orders book = auction_orders book.orders book.kind
+abbrev pub counted_orders : OpenOrders → List Order
+counted_orders book = auction_orders book.orders book.kind
 
 -- the limit is none, or one of the ticks
 abbrev pub IsLimitIn : OpenOrders → Limit → Type 0

@@ -10,7 +10,7 @@ ghost use Rattle.auction_terms.specs.Day.{display_at, is_bad_peak, is_bad_quanti
 ghost use Rattle.tick_ladder.specs.TickLadder.{IsLadderOf};
 ghost use Rattle.auction.specs.ConfigFault.{open_fault};
 ghost use Rattle.auction.specs.Executions.{AreSmall};
-ghost use Rattle.auction.specs.OpenOrders.{no_orders, current_orders, IsTickIn, IsLimitIn, IsOpenIn};
+ghost use Rattle.auction.specs.OpenOrders.{no_orders, counted_orders, IsTickIn, IsLimitIn, IsOpenIn};
 ghost use Rattle.auction.specs.OpenOrders.{with_order, with_change, without_order, with_execution_at, in_next_auction};
 ghost use Rattle.auction.specs.KnownPrice.{IsPriceAt};
 
@@ -82,8 +82,8 @@ impl Book {
 
     /// The ladder of the orders that count.
     pub(crate) fn ladder(&self) -> &Ladder
-        ensures value { result.now ≡ ladder_of self.now.low self.now.ticks (current_orders self.now) }
-        ensures book { IsLadderOf result.now (current_orders self.now) }
+        ensures value { result.now ≡ ladder_of self.now.low self.now.ticks (counted_orders self.now) }
+        ensures book { IsLadderOf result.now (counted_orders self.now) }
     {
         self.counted.ladder()
     }
@@ -92,7 +92,7 @@ impl Book {
     fn keep_price_at(&mut self, reference: u32) -> KnownPrice
         requires { IsTickIn self.old reference }
         ensures book { self.new ≡ self.old }
-        ensures price { IsPriceAt reference (current_orders self.old) result }
+        ensures price { IsPriceAt reference (counted_orders self.old) result }
         ensures within { IfSome result.price (λ price. IsTickIn self.old price.tick) }
     {
         let known = self.counted.price_at(reference, &self.known);
@@ -104,7 +104,7 @@ impl Book {
     pub(crate) fn price(&mut self, reference: u32) -> Option<Price>
         requires { IsTickIn self.old reference }
         ensures book { self.new ≡ self.old }
-        ensures price { result ≡ auction_price (current_orders self.old) reference }
+        ensures price { result ≡ auction_price (counted_orders self.old) reference }
         ensures within { IfSome result (λ price. IsTickIn self.old price.tick) }
     {
         self.keep_price_at(reference).price
@@ -114,7 +114,7 @@ impl Book {
     /// there is none.
     pub(crate) fn display(&self, reference: u32) -> Display
         requires { IsTickIn self.now reference }
-        ensures { result ≡ display_at (current_orders self.now) reference }
+        ensures { result ≡ display_at (counted_orders self.now) reference }
     {
         self.counted.price_at(reference, &self.known).display()
     }
@@ -124,7 +124,7 @@ impl Book {
     pub(crate) fn show(&mut self, reference: u32) -> Display
         requires { IsTickIn self.old reference }
         ensures book { self.new ≡ self.old }
-        ensures display { result ≡ display_at (current_orders self.old) reference }
+        ensures display { result ≡ display_at (counted_orders self.old) reference }
     {
         self.counted.show_at(reference, &mut self.known)
     }
@@ -180,10 +180,10 @@ impl Book {
     pub(crate) fn uncross(&mut self, price: u32, tape: &mut Vec<Trade>) -> u32
         requires room { vec_len tape.old + length self.old.orders ≤ vec_capacity tape.old }
         ensures book { self.new ≡ with_execution_at price self.old }
-        ensures tape { tape.new.items ≡ tape.old.items ++ trades (current_orders self.old) price }
-        ensures count { result ≡ length (trades (current_orders self.old) price) }
+        ensures tape { tape.new.items ≡ tape.old.items ++ trades (counted_orders self.old) price }
+        ensures count { result ≡ length (trades (counted_orders self.old) price) }
         ensures few { result ≤ length self.old.orders }
-        ensures small { AreSmall (trades (current_orders self.old) price) }
+        ensures small { AreSmall (trades (counted_orders self.old) price) }
         ensures capacity { vec_capacity tape.new ≡ vec_capacity tape.old }
     {
         self.known = None;

@@ -73,8 +73,9 @@ impl Model for Auction {
     ghost invariant = { λ a. HasCallCount a.day a.calls × IsBoundedBy a.day.config a.day.config.reference };
 }
 
+/// The first fault for which an opening refuses a config, or none: then [`Auction::open`] can fail by `NoMemory` alone.
 #[tactic(auto, unfolding(crate::specs::ConfigFault::open_fault))]
-fn fault_of(config: Config) -> Option<OpenFault>
+pub fn config_fault(config: Config) -> Option<OpenFault>
     ensures { result ≡ open_fault config }
 {
     if config.low == 0
@@ -107,7 +108,7 @@ impl Auction {
         ensures refused { IfSome (open_fault config) (λ fault. result ≡ Err fault) }
         ensures memory { open_fault config ≡ None → IfErr result (λ fault. fault ≡ OpenFault.NoMemory) }
     {
-        if let Some(fault) = fault_of(config) {
+        if let Some(fault) = config_fault(config) {
             return Err(fault);
         }
         match DayState::open(alloc, config) {
@@ -216,21 +217,13 @@ impl Auction {
         ensures state { self.new ≡ auction_after_call self.old (call_by member command) }
         ensures reply { result ≡ (step self.old.config self.old.state (call_by member command)).1 }
     {
-        self.apply_call(&Call { member, command })
-    }
-
-    /// The same as [`Auction::apply`], of a call that is lent, as it isn't copied then.
-    pub fn apply_call(&mut self, call: &Call) -> Reply
-        requires { self.old.calls < self.old.config.max_calls }
-        ensures state { self.new ≡ auction_after_call self.old call.now }
-        ensures reply { result ≡ (step self.old.config self.old.state call.now).1 }
-    {
         let mut reply = Reply::Deleted;
-        self.answer_call(call, &mut reply);
+        self.answer_call(&Call { member, command }, &mut reply);
         reply
     }
 
-    /// The same as [`Auction::apply_call`], with the reply put in the place of another, as it isn't copied then.
+    /// The same as [`Auction::apply`], with the call lent and the reply put in the place of another, as neither is
+    /// copied then.
     #[tactic(auto, unfolding(auction_terms::specs::Day::step))]
     pub fn answer_call(&mut self, call: &Call, reply: &mut Reply)
         requires { self.old.calls < self.old.config.max_calls }

@@ -3,7 +3,7 @@ use Rattle.std.proofs.Common.{◌≡◌, ℕ, ◌+◌, ◌<◌, ◌≤◌, min, 
 use Rattle.std.specs.List.{filter_map}
 use Rattle.std.proofs.lemmas.Grind.{common_steps}
 use Rattle.auction_terms.specs.declared.Fill.{Fill}
-use Rattle.auction_terms.specs.Allotment.{spans, trade_at, pairings}
+use Rattle.auction_terms.specs.Allotment.{spans, trade_of_overlap, pairings}
 use Rattle.auction_terms.specs.Auxiliary.RankedFills.{less, paired_trades, after_taking}
 use Rattle.std.proofs.lemmas.Bool.{eqb-true}
 
@@ -17,7 +17,7 @@ spans_from_on m n [] l = tt
 spans_from_on m n (f ∷ fs) l = (l, spans_from_on m (n + f.quantity) fs (omega arith))
 
 row_shift : (price s k : ℕ) (b : Fill) (ss : List (ℕ × Fill)) → k ≤ b.quantity → FromOn (s + k) ss
-    → filter_map (trade_at price (s, b)) ss ≡ filter_map (trade_at price (s + k, less b k)) ss
+    → filter_map (trade_of_overlap price (s, b)) ss ≡ filter_map (trade_of_overlap price (s + k, less b k)) ss
 row_shift price s k b [] l h = refl
 row_shift price s k b (a ∷ ss) l h = search (arith, (row_shift price s k b ss l h.1))
 
@@ -26,7 +26,8 @@ column_shift : (price s k : ℕ) (bs : List (ℕ × Fill)) (a : Fill) (ss : List
 column_shift price s k [] a ss l h = refl
 column_shift price s k (b ∷ bs) a ss l h = grind (arith, common_steps, (column_shift price s k bs a ss l h.1))
 
-row_zero : (price s : ℕ) (b : Fill) (ss : List (ℕ × Fill)) → b.quantity ≡ 0 → filter_map (trade_at price (s, b)) ss ≡ []
+row_zero : (price s : ℕ) (b : Fill) (ss : List (ℕ × Fill)) → b.quantity ≡ 0
+    → filter_map (trade_of_overlap price (s, b)) ss ≡ []
 row_zero price s b [] z = refl
 row_zero price s b (a ∷ ss) z = grind (arith, common_steps, (row_zero price s b ss z))
 

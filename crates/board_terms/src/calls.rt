@@ -10,7 +10,7 @@ pub struct Receipt {
 }
 
 /// Why a call was not recorded. They are looked at in the order `HistoryFull`, `Behind`, `Overtaken`, and after any of
-/// them the history, what is shown, the ledger and the member's counts are as they were.
+/// them the history, what is shown and the member's counts are as they were.
 #[derive(Clone, Copy, PartialEq, Eq, Debug)]
 pub enum CallFault {
     /// The history has `max_calls` entries.

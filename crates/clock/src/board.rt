@@ -97,7 +97,7 @@ where
 {
     let mut members = members;
     if let Some(first) = members.last_mut() {
-        tasks::fill(rt, &board, first);
+        tasks::call_open_orders(rt, &board, first);
     }
     let start = Instant::now(rt)?;
     let back = all_at_once(rt, alloc, &board, members, tasks)?;
@@ -146,7 +146,7 @@ fn measure_alone<R: Clock + Print + AllocGlobal>(
     is_shown: bool,
 ) -> io::Result<()> {
     let mut auction = Auction::open(rt.alloc(), CONFIG).map_err(|_| AllocError)?;
-    commands::fill(&mut auction);
+    commands::enter_open_orders(&mut auction);
     let start = Instant::now(rt)?;
     let last = commands::apply_many(&mut auction, CALLS, is_shown);
     let each = start.elapsed(rt)?.as_nanos() / u128::from(CALLS);
@@ -220,7 +220,7 @@ const ROWS: [Row; 9] = [
 ];
 
 /// Measures an auction alone, then calls, then looks.
-pub fn measure_all<R: Wait + Threads + Sync + Clock + Print + AllocGlobal>(
+pub fn measure_board<R: Wait + Threads + Sync + Clock + Print + AllocGlobal>(
     rt: &R,
 ) -> io::Result<()> {
     measure_alone(rt, "apply-alone", false)?;

@@ -58,7 +58,7 @@ pub fn apply(auction: &mut Auction, member: u8, command: Command, id: u32) -> u3
 }
 
 /// Enters the orders that are open before the measuring.
-pub fn fill(auction: &mut Auction) {
+pub fn enter_open_orders(auction: &mut Auction) {
     for k in 0..OPEN_ORDERS {
         let _ = apply(auction, 1, open_order(k), 0);
     }

@@ -14,10 +14,10 @@ use std::{env, io};
 fn main(rt: HostRuntime) -> io::Result<()> {
     let words: Vec<String> = env::args(&rt)?.collect(rt.alloc())?;
     match words.get(1).map(|word| word.as_str()) {
-        Some("price") => price::measure_all(&rt),
-        Some("board") => board::measure_all(&rt),
-        Some("uncross") => uncross::measure_all(&rt),
-        Some("records") => records::measure_all(&rt),
+        Some("price") => price::measure_price(&rt),
+        Some("board") => board::measure_board(&rt),
+        Some("uncross") => uncross::measure_uncross(&rt),
+        Some("records") => records::measure_records(&rt),
         _ => Ok(()),
     }
 }

@@ -15,7 +15,7 @@ fn count_records<R: io::Read + Drop>(reader: &mut Reader<R>, row: &mut ByteRecor
 }
 
 /// Reads the records of standard input through `csv`, and prints how many there are.
-pub fn measure_all(rt: &HostRuntime) -> io::Result<()> {
+pub fn measure_records(rt: &HostRuntime) -> io::Result<()> {
     let alloc: Global = rt.alloc();
     let mut reader = ReaderBuilder::new()
         .has_headers(false)

@@ -22,7 +22,7 @@ pub enum MeasuredTask {
 }
 
 /// Enters the orders that are open before the measuring.
-pub fn fill<K: BoardIdentity, R: Wait>(rt: &R, board: &Board<K>, member: &mut Member<K>)
+pub fn call_open_orders<K: BoardIdentity, R: Wait>(rt: &R, board: &Board<K>, member: &mut Member<K>)
 where
     Version<K>: Absorb<Update<K>, State = ()>,
 {

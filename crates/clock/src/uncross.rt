@@ -94,7 +94,7 @@ const BOOKS: [BookShape; 3] = [
 ];
 
 /// Measures each book.
-pub fn measure_all<R: Clock + Print + AllocGlobal>(rt: &R) -> io::Result<()> {
+pub fn measure_uncross<R: Clock + Print + AllocGlobal>(rt: &R) -> io::Result<()> {
     for book in BOOKS {
         measure(rt, book)?;
     }

@@ -1,10 +1,8 @@
 -- Recorded replies beside the lawful ones.
 use Rattle.std.specs.Prelude.{ℕ, List, [], ◌∷◌, if◌then◌else◌}
 use Rattle.std.specs.Str.{bytes_eq}
-use Rattle.auction_terms.specs.declared.Call.{Call}
 use Rattle.auction_terms.specs.declared.Reply.{Reply}
-use Rattle.auction_terms.specs.Day.{replay, replies_from}
-use Rattle.auction_terms.specs.Auxiliary.RunningAuction.{RunningAuction}
+use Rattle.auction_terms.specs.Day.{replay}
 use Rattle.printed_lines.specs.ReplyWords.{reply_text}
 use Rattle.journal.specs.JournalFile.{RecordedDay}
 use Rattle.day_audit.specs.declared.counts.Finding.{Finding}
@@ -26,10 +24,6 @@ answers (text ∷ texts) (reply ∷ replies) = answer_of text reply ∷ answers 
 -- each recorded text beside that of the replay's reply
 abbrev pub answers_in : RecordedDay → List Answer
 answers_in j = answers j.texts (replay j.day.config j.calls).1
-
--- the same from where an auction is
-abbrev pub answers_from : RunningAuction → List Call → List (List ℕ) → List Answer
-answers_from auction calls texts = answers texts (replies_from auction.config auction.state calls)
 
 abbrev pub finding : List ℕ → List ℕ → Finding
 finding [] lawful = Silent

@@ -17,9 +17,6 @@ pub record HeardEntry : Type 0 where
 abbrev pub heard_of : RecordedCall → Reply → HeardEntry
 heard_of recording reply = record { recording = recording; reply = reply }
 
-abbrev pub recording_in : HeardEntry → RecordedCall
-recording_in heard = heard.recording
-
 abbrev pub reply_heard : HeardEntry → Reply
 reply_heard heard = heard.reply
 

@@ -78,11 +78,11 @@ place_either : (v f : ℕ) (vs fs : List ℕ)
 place_either v f vs fs ih true t p = place_of_less v f vs fs t ih p
 place_either v f vs fs ih false t p = next v f (least (flagged vs fs)) vs fs (ih p)
 
-pub place_positive : (vs fs : List ℕ) → least (flagged vs fs) < 18446744073709551615
+pub place_below_most : (vs fs : List ℕ) → least (flagged vs fs) < 18446744073709551615
     → FlaggedPlace vs fs (least (flagged vs fs))
-place_positive [] fs p = absurd (omega (arith, p))
-place_positive (v ∷ vs) [] p = absurd (omega (arith, p))
-place_positive (v ∷ vs) (f ∷ fs) p = place_either v f vs fs (place_positive vs fs) (eqb f 1) refl p
+place_below_most [] fs p = absurd (omega (arith, p))
+place_below_most (v ∷ vs) [] p = absurd (omega (arith, p))
+place_below_most (v ∷ vs) (f ∷ fs) p = place_either v f vs fs (place_below_most vs fs) (eqb f 1) refl p
 
 pub least_is : (vs fs : List ℕ) → ((i : ℕ) → get_or vs i 0 ≤ 18446744073709551615) → length vs ≡ length fs → (k : ℕ)
     → k < length fs → get_or fs k 0 ≡ 1 → IsLeastFlagged vs fs (least (flagged vs fs))
@@ -96,6 +96,6 @@ least_is vs fs small e k lt is =
         value =
             omega (arith, h, small k, least_bound vs fs e k lt is);
       }
-      | inr h ↦ place_positive vs fs h
+      | inr h ↦ place_below_most vs fs h
     ] in
     record { place = p.place; within = p.within; here = p.here; value = p.value; bound = least_bound vs fs e }

@@ -6,7 +6,7 @@ ghost use Rattle.auction_terms.specs.Ladder.{ladder_of};
 ghost use Rattle.auction_terms.specs.Day.{display_at, is_bad_peak, is_bad_quantity};
 ghost use Rattle.tick_ladder.specs.TickLadder.{IsLadderOf};
 ghost use Rattle.auction.specs.ConfigFault.{open_fault};
-ghost use Rattle.auction.specs.OpenOrders.{no_orders, current_orders, IsTickIn, IsLimitIn, IsOpenIn};
+ghost use Rattle.auction.specs.OpenOrders.{no_orders, counted_orders, IsTickIn, IsLimitIn, IsOpenIn};
 ghost use Rattle.auction.specs.OpenOrders.{with_order, with_change, without_order};
 ghost use Rattle.auction.specs.LadderBook.{HasAllOrders, AddsNoOrder, HasNoOrderWith};
 ghost use Rattle.auction.specs.KnownPrice.{IsKnownOf, IsPriceAt, KeepsKnown, known_after, known_after_both};
@@ -85,8 +85,8 @@ impl LadderBook {
 
     /// The ladder of the orders that count.
     pub(super) fn ladder(&self) -> &Ladder
-        ensures value { result.now ≡ ladder_of self.now.book.low self.now.book.ticks (current_orders self.now.book) }
-        ensures book { IsLadderOf result.now (current_orders self.now.book) }
+        ensures value { result.now ≡ ladder_of self.now.book.low self.now.book.ticks (counted_orders self.now.book) }
+        ensures book { IsLadderOf result.now (counted_orders self.now.book) }
     {
         &self.ladder
     }
@@ -96,7 +96,7 @@ impl LadderBook {
         requires tick { IsTickIn self.now.book reference }
         requires known { IfSome known.now (IsKnownOf self.now.book) }
         ensures known { IsKnownOf self.now.book result }
-        ensures price { IsPriceAt reference (current_orders self.now.book) result }
+        ensures price { IsPriceAt reference (counted_orders self.now.book) result }
         ensures within { IfSome result.price (λ price. IsTickIn self.now.book price.tick) }
     {
         match known {
@@ -112,7 +112,7 @@ impl LadderBook {
         requires tick { IsTickIn self.now.book reference }
         requires known { IfSome known.old (IsKnownOf self.now.book) }
         ensures known { IfSome known.new (IsKnownOf self.now.book) }
-        ensures display { result ≡ display_at (current_orders self.now.book) reference }
+        ensures display { result ≡ display_at (counted_orders self.now.book) reference }
     {
         match known {
             Some(kept) if kept.reference == reference => kept.display(),

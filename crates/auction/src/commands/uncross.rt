@@ -54,7 +54,7 @@ impl DayState {
     }
 
     // The auction ends without a price.
-    fn end(&mut self, kind: AuctionKind) -> Reply
+    fn end_without_price(&mut self, kind: AuctionKind) -> Reply
         requires { self.old.state.auction ≡ Some kind }
         ensures state { self.new ≡ with_state self.old (day.end_without_price self.old.state kind).0 }
         ensures reply { result ≡ (day.end_without_price self.old.state kind).1 }
@@ -70,7 +70,7 @@ impl DayState {
     }
 
     // The auction ends at this price, which is the new reference.
-    fn execute(&mut self, kind: AuctionKind, price: Price) -> Reply
+    fn end_at_price(&mut self, kind: AuctionKind, price: Price) -> Reply
         requires current { self.old.state.auction ≡ Some kind }
         requires within { IsBoundedBy self.old.config price.tick }
         ensures state { self.new ≡ with_state self.old (day.end_at_price self.old.state kind price).0 }
@@ -89,7 +89,7 @@ impl DayState {
     }
 
     // The end of the call phase, with this price or none.
-    fn end_at(&mut self, kind: AuctionKind, price: Option<Price>) -> Reply
+    fn end_call_phase(&mut self, kind: AuctionKind, price: Option<Price>) -> Reply
         requires current { self.old.state.auction ≡ Some kind }
         requires within { IfSome price (λ price. IsBoundedBy self.old.config price.tick) }
         ensures state { self.new ≡ with_state self.old
@@ -97,9 +97,9 @@ impl DayState {
         ensures reply { result ≡ (day.end_call_phase self.old.config self.old.state kind price).1 }
     {
         match price {
-            None => self.end(kind),
+            None => self.end_without_price(kind),
             Some(price) if self.is_interrupted(price.tick) => self.extend(price),
-            Some(price) => self.execute(kind, price),
+            Some(price) => self.end_at_price(kind, price),
         }
     }
 
@@ -113,7 +113,7 @@ impl DayState {
         let kind = self.current()?;
         refuse_if(member != 0, Refusal::NotOperator)?;
         let price = self.price();
-        *reply = self.end_at(kind, price);
+        *reply = self.end_call_phase(kind, price);
         Ok(())
     }
 }

@@ -7,7 +7,7 @@ use Rattle.auction.proofs.Auction.open.Goals as goal
 
 pub invariant_of-result : goal.invariant_of-result
 invariant_of-result c =
-    let within = terms_within c.args.config (sym c.fault_of.ensures ∙ c.in_default.is) in
+    let within = terms_within c.args.config (sym c.config_fault.ensures ∙ c.in_default.is) in
     let new = c.in-Ok.ensures in (
       record {
         stamps = omega (arith, ap (λ (a : AuctionState). a.stamps) new);

@@ -5,7 +5,7 @@ ghost use Rattle.auction_terms.specs.Auxiliary.OrderLists.{book_after_fill, book
 ghost use Rattle.auction_terms.specs.Auxiliary.OrderLists.{AreExecutable};
 ghost use Rattle.auction_terms.specs.Allotment.{trades};
 ghost use Rattle.auction.specs.Executions.{AreSmall};
-ghost use Rattle.auction.specs.OpenOrders.{current_orders, with_execution_at};
+ghost use Rattle.auction.specs.OpenOrders.{counted_orders, with_execution_at};
 
 use super::LadderBook;
 use super::counting::take;
@@ -38,10 +38,10 @@ impl LadderBook {
         requires desk { self.old.book.max_open ≤ desk.old.room }
         requires tape { vec_len tape.old + length self.old.book.orders ≤ vec_capacity tape.old }
         ensures book { self.new.book ≡ with_execution_at price self.old.book }
-        ensures tape { tape.new.items ≡ tape.old.items ++ trades (current_orders self.old.book) price }
-        ensures few { length (trades (current_orders self.old.book) price) ≤ length self.old.book.orders }
-        ensures small { AreSmall (trades (current_orders self.old.book) price) }
-        ensures bounded { length (trades (current_orders self.old.book) price) ≤ MAX_OPEN_ORDERS }
+        ensures tape { tape.new.items ≡ tape.old.items ++ trades (counted_orders self.old.book) price }
+        ensures few { length (trades (counted_orders self.old.book) price) ≤ length self.old.book.orders }
+        ensures small { AreSmall (trades (counted_orders self.old.book) price) }
+        ensures bounded { length (trades (counted_orders self.old.book) price) ≤ MAX_OPEN_ORDERS }
         ensures room { desk.new.room ≡ desk.old.room }
         ensures capacity { vec_capacity tape.new ≡ vec_capacity tape.old }
     {

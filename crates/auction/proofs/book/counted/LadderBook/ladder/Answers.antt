@@ -2,7 +2,7 @@
 use Rattle.std.proofs.Common.{subst}
 use Rattle.auction_terms.specs.Auxiliary.StampedOrders.{orders_of}
 use Rattle.tick_ladder.specs.TickLadder.{IsLadderOf}
-use Rattle.auction.specs.OpenOrders.{current_orders}
+use Rattle.auction.specs.OpenOrders.{counted_orders}
 use Rattle.auction.specs.LadderBook.{LadderBookView}
 use Rattle.auction.proofs.LimitLaws.{kept_ladder}
 use Rattle.auction.proofs.book.counted.LadderBook.ladder.Goals as goal
@@ -10,5 +10,5 @@ use Rattle.auction.proofs.book.counted.LadderBook.ladder.Goals as goal
 pub returns-clause-book : goal.returns-clause-book
 returns-clause-book c =
     let ladder = c.self.inside.ladder in
-    subst (λ (b : LadderBookView). IsLadderOf ladder (current_orders b.book)) c.self.view_is
+    subst (λ (b : LadderBookView). IsLadderOf ladder (counted_orders b.book)) c.self.view_is
     (kept_ladder c.self.inside.kind (orders_of c.self.inside.orders.line) ladder c.self.invariant.kept)

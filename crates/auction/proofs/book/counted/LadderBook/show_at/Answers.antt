@@ -3,7 +3,7 @@ use Rattle.std.proofs.Common.{IfSome, ap, subst, sym, ◌∙◌}
 use Rattle.auction_terms.specs.Book.{auction_orders}
 use Rattle.auction_terms.specs.Auxiliary.StampedOrders.{orders_of}
 use Rattle.auction_terms.specs.Day.{display_of}
-use Rattle.auction.specs.OpenOrders.{current_orders}
+use Rattle.auction.specs.OpenOrders.{counted_orders}
 use Rattle.auction.specs.LadderBook.{LadderBookView}
 use Rattle.auction.specs.KnownPrice.{IsKnownOf, IsPriceAt}
 use Rattle.auction.proofs.KnownPriceLaws.{known_price}
@@ -13,7 +13,7 @@ use Rattle.auction.proofs.book.counted.LadderBook.show_at.Goals as goal
 pub returns-in-Some-clause-display : goal.returns-in-Some-clause-display
 returns-in-Some-clause-display c =
     let book = c.args.self.now.book in
-    let orders = current_orders book in
+    let orders = counted_orders book in
     let kept = subst (λ k. IfSome k (IsKnownOf book)) c.in-Some.is c.requires.known in
     let is = subst (λ r. IsPriceAt r orders c.in-Some.kept) c.if-kept-reference.true
     (known_price book.low book.ticks orders c.in-Some.kept
@@ -34,7 +34,7 @@ returns-in_default-clause-known c =
 pub returns-in_default-clause-display : goal.returns-in_default-clause-display
 returns-in_default-clause-display c =
     let book = c.args.self.now.book in
-    let orders = current_orders book in
+    let orders = counted_orders book in
     let is = subst (λ r. IsPriceAt r orders c.find-found.result) c.find-found.ensures.reference
     (known_price book.low book.ticks orders c.find-found.result
     (seen_over c.self.inside.orders c.self.inside.ladder c.self.inside.kind c.args.self.now c.self.view_is

@@ -8,7 +8,7 @@ use Rattle.auction_terms.proofs.ReduceLaws.{fills_executable}
 use Rattle.auction_terms.proofs.RestIdLaws.{rest_in_turn}
 use Rattle.auction.specs.Executions.{AreSmall}
 use Rattle.auction.specs.LadderBook.{LadderBookView}
-use Rattle.auction.specs.OpenOrders.{current_orders}
+use Rattle.auction.specs.OpenOrders.{counted_orders}
 use Rattle.auction.proofs.AuctionEndLaws.{few_trades}
 use Rattle.auction.proofs.ExecutionLaws.{small_trades}
 use Rattle.auction.proofs.book.counted.LadderBook.uncross.Goals as goal
@@ -33,14 +33,14 @@ returns-clause-book c =
 
 pub returns-clause-few : goal.returns-clause-few
 returns-clause-few c =
-    subst (λ (b : LadderBookView). length (trades (current_orders b.book) c.args.price) ≤ length b.book.orders)
+    subst (λ (b : LadderBookView). length (trades (counted_orders b.book) c.args.price) ≤ length b.book.orders)
     c.self.view_is
     (few_trades c.self.inside.kind (orders_of c.self.inside.orders.line) c.args.price _ c.allocate.ensures.few_trades)
 
 pub returns-clause-bounded : goal.returns-clause-bounded
 returns-clause-bounded c =
     let list = orders_of c.self.inside.orders.line in
-    subst (λ (b : LadderBookView). length (trades (current_orders b.book) c.args.price) ≤ MAX_OPEN_ORDERS)
+    subst (λ (b : LadderBookView). length (trades (counted_orders b.book) c.args.price) ≤ MAX_OPEN_ORDERS)
     c.self.view_is
     (omega (
       arith,
@@ -51,5 +51,5 @@ returns-clause-bounded c =
 
 pub returns-clause-small : goal.returns-clause-small
 returns-clause-small c =
-    subst (λ (b : LadderBookView). AreSmall (trades (current_orders b.book) c.args.price)) c.self.view_is
+    subst (λ (b : LadderBookView). AreSmall (trades (counted_orders b.book) c.args.price)) c.self.view_is
     (small_trades c.self.inside.kind (orders_of c.self.inside.orders.line) c.args.price c.self.invariant.kept.orderly)

@@ -1,9 +1,9 @@
--- Answers of `DayState::end` (src/commands/uncross.rt): what the prover left open; rt looks here.
+-- Answers of `DayState::end_without_price` (src/commands/uncross.rt): what the prover left open; rt looks here.
 -- The auction has ended without a price.
 use Rattle.std.proofs.Common.{◌*◌, ◌≤◌, sym, ap, subst, ◌∙◌, arith, length}
 use Rattle.auction.specs.AuctionState.{AuctionState, IsBookOf, auctions_ended}
 use Rattle.auction.proofs.DayLaws.{book_ended, ended_more}
-use Rattle.auction.proofs.commands.DayState.end.Goals as goal
+use Rattle.auction.proofs.commands.DayState.end_without_price.Goals as goal
 
 pub invariant_of-self : goal.invariant_of-self
 invariant_of-self c =

@@ -1,4 +1,4 @@
--- Answers of `DayState::execute` (src/commands/uncross.rt): what the prover left open; rt looks here.
+-- Answers of `DayState::end_at_price` (src/commands/uncross.rt): what the prover left open; rt looks here.
 -- The auction has ended at a price within the bounds.
 use Rattle.std.proofs.Common.{◌*◌, ◌≤◌, sym, ap, subst, ◌∙◌, arith, length, length-append}
 use Rattle.std.proofs.lemmas.List.Elements.{All-append}
@@ -10,7 +10,7 @@ use Rattle.auction.specs.AuctionState.{AuctionState, IsBookOf, IsBoundedBy, auct
 use Rattle.auction.specs.Executions.{AreSmall}
 use Rattle.auction.proofs.DayLaws.{book_edited, book_ended, ended_more}
 use Rattle.auction.proofs.BookLengthLaws.{length-rest_in}
-use Rattle.auction.proofs.commands.DayState.execute.Goals as goal
+use Rattle.auction.proofs.commands.DayState.end_at_price.Goals as goal
 
 pub invariant_of-self : goal.invariant_of-self
 invariant_of-self c =
