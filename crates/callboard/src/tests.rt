@@ -24,7 +24,6 @@ use std::thread::Threads;
 mod days;
 mod devices;
 mod edges;
-mod examples;
 mod files;
 mod floor;
 mod forms;

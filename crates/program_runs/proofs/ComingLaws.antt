@@ -10,8 +10,8 @@ use Rattle.auction_terms.specs.declared.Call.{Call}
 use Rattle.auction_terms.specs.declared.Entry.{Entry}
 use Rattle.auction_terms.specs.Results.{◌>>=◌}
 use Rattle.auction_terms.specs.Auxiliary.RunningAuction.{RunningAuction, opened_auction}
-use Rattle.day_road.specs.Heard.{HearsAll, after_all}
-use Rattle.auction_terms.specs.Day.{IsLegal, calls_of}
+use Rattle.day_road.specs.Heard.{HearsAll, heard_from}
+use Rattle.auction_terms.specs.Day.{IsLegal, calls_of, opening_state}
 use Rattle.day_road.specs.Inputs.{PassesOver, silent, silent_all}
 use Rattle.journal.specs.DayWithCalls.{DayWithCalls, calls_coming, run_input_of}
 use Rattle.journal.specs.JournalEntries.{day_left, entries_left}
@@ -26,9 +26,8 @@ use Rattle.order_file.specs.declared.fault.FileFault.{FileFault}
 use Rattle.settings.specs.declared.types.Form.{Form}
 use Rattle.settings.specs.declared.types.Form.TheVariants as forms
 use Rattle.settings.specs.declared.types.Listing.{Listing}
-use Rattle.program_runs.specs.EntriesHeard.{entries_heard}
-use Rattle.program_runs.specs.KeptEntries.{IsClosedDay, KeepsDay, KeepsEntries, KeepsWholeDay, after_calls, calls_for}
-use Rattle.program_runs.specs.KeptEntries.{form_kept}
+use Rattle.program_runs.specs.KeptEntries.{IsClosedDay, KeepsDay, KeepsEntries, KeepsHeard, KeepsWholeDay, calls_for}
+use Rattle.program_runs.specs.KeptEntries.{entries_heard, form_kept}
 use Rattle.program_runs.specs.Printed.{IfBegun, IsWideForm, IsWideListing, history_of, listing_text, printed}
 use Rattle.program_runs.proofs.EntriesLaws.{legal-history}
 use Rattle.program_runs.specs.declared.fault.Fault.{Fault}
@@ -36,7 +35,7 @@ use Rattle.program_runs.specs.declared.fault.Fault.TheVariants as fault
 use Rattle.program_runs.specs.declared.kept.Kept.{Kept}
 use Rattle.program_runs.specs.declared.kept_day.KeptDay.{KeptDay}
 use Rattle.program_runs.proofs.EntriesHeardLaws.{heard-entries, silent-calls}
-use Rattle.program_runs.proofs.KeptLaws.{calls-kept}
+use Rattle.program_runs.proofs.KeptLaws.{said_closed}
 
 -- a fault of the input
 pub coming-fails : (form : Form) (day : DayHeader) (coming : Result (List RecordedCall) FileFault) (f : FileFault)
@@ -50,27 +49,27 @@ pub coming-refused : (form : Form) (day : DayHeader) (coming : Result (List Reco
 coming-refused form day coming f (rs, is) why =
     (record { day = day; calls = map call_part rs }, rw is refl, why)
 
-came-calls : (auction : RunningAuction) (rs : List RecordedCall)
-    → after_all auction rs ≡ after_calls auction (map call_part rs)
-came-calls auction rs = rw (length-map rs call_part) refl
-
 -- a day whose calls have come
 pub coming-kept : (form : Form) (day : DayHeader) (kept : Kept) (old new : RunningAuction)
     (coming : Result (List RecordedCall) FileFault) (r : Result KeptDay Fault) → old ≡ opened_auction day.config
     → form_kept kept ≡ form → open_fault day.config ≡ None → new.calls ≤ old.config.max_calls
-    → HearsAll (λ heard. KeepsEntries kept new (entries_heard heard)) [] old new coming (Ok tt)
+    → HearsAll (KeepsHeard kept new) [] old new coming (Ok tt)
     → ((entries : List Entry) → KeepsEntries kept new entries → IsClosedDay day kept new.config entries r)
     → KeepsDay form (calls_coming day coming) r
 coming-kept form day kept old new coming r fresh for opens room (rs, is, came, holds) closes =
     let calls : List Call = map call_part rs in
-    let after : new ≡ after_calls old calls = came ∙ came-calls old rs in
-    let count : new.calls ≡ old.calls + length calls = ap (λ (a : RunningAuction). a.calls) after in
+    let count : new.calls ≡ old.calls + length rs = ap (λ (a : RunningAuction). a.calls) came in
     let none : old.calls ≡ 0 = ap (λ (a : RunningAuction). a.calls) fresh in
     let most : old.config.max_calls ≡ day.config.max_calls =
     ap (λ (a : RunningAuction). a.config.max_calls) fresh in
-    rw is
-    (calls-kept form day kept old new calls r fresh for opens (omega (arith, room, count, none, most))
-    (calls, refl, after, subst (KeepsEntries kept new) (heard-entries old.config old.state rs) holds) closes)
+    let few : length calls ≤ day.config.max_calls = omega (arith, room, count, none, most, length-map rs call_part) in
+    let config : new.config ≡ day.config =
+    ap (λ (a : RunningAuction). a.config) came ∙ ap (λ (a : RunningAuction). a.config) fresh in
+    let entries : entries_heard (heard_from old.config old.state rs) ≡ history_of day.config calls =
+    rw fresh (heard-entries day.config (opening_state day.config) rs) in
+    let closed : IsClosedDay day kept day.config (history_of day.config calls) r =
+    rw config at (closes (history_of day.config calls) (subst (KeepsEntries kept new) entries holds)) in
+    rw is (said_closed form day calls kept r for opens few closed)
 
 -- ---- an order file
 

@@ -8,7 +8,7 @@ use Rattle.auction_terms.specs.Day.{IsLegal, State, call_of, calls_of, opening_s
 use Rattle.program_runs.specs.Printed.{entries_from, history_of, reply_in}
 
 -- its replies are those of the replay
-pub history-replies : (config : Config) (state : State) (calls : List Call)
+history-replies : (config : Config) (state : State) (calls : List Call)
     → map reply_in (entries_from config state calls) ≡ replies_from config state calls
 history-replies config state [] = refl
 history-replies config state (call ∷ calls) =

@@ -1,7 +1,7 @@
 -- What an input says of which the start was read apart.
-use Rattle.std.proofs.Common.{◌≡◌, ◌≤◌, ◌<◌, ◌⊎◌, inl, inr, ◌++◌, ◌∷◌, ◌∙◌, [], ℕ, List, length, Option, None, Some}
-use Rattle.std.proofs.Common.{Result, Ok, Err, Bool, true, false, nat_lt, refl, ap, sym, subst, arith, rules}
-use Rattle.std.specs.Prelude.{IfErr, IfSome, IsErrAnd, IsErrOf}
+use Rattle.std.proofs.Common.{◌≡◌, ◌≤◌, ◌<◌, ◌⊎◌, inl, inr, ◌++◌, ◌∷◌, ◌∙◌, ℕ, List, length, Option, None, Some}
+use Rattle.std.proofs.Common.{map, Result, Ok, Err, Bool, true, false, nat_lt, refl, ap, sym, subst, arith, rules}
+use Rattle.std.specs.Prelude.{IfSome, IsErrAnd, IsErrOf}
 use Rattle.csv.specs.Records.{field_at}
 use Rattle.std.specs.Io.KnownBytes.{Consumes, prepend_known}
 use Rattle.auction.specs.ConfigFault.{open_fault}
@@ -10,6 +10,8 @@ use Rattle.auction_terms.specs.declared.Config.{Config}
 use Rattle.auction_terms.specs.declared.Entry.{Entry}
 use Rattle.auction_terms.specs.Auxiliary.RunningAuction.{RunningAuction, opened_auction}
 use Rattle.auction_terms.specs.Results.{◌>>=◌}
+use Rattle.day_road.specs.Heard.{after_all, heard_from}
+use Rattle.day_road.specs.Inputs.{silent, silent_all}
 use Rattle.journal.specs.DayWithCalls.{DayWithCalls, run_input, run_input_of, orders_for}
 use Rattle.journal.specs.DayRecord.{is_day_row}
 use Rattle.journal.specs.JournalFile.{journal_of, journal_of_rows}
@@ -26,55 +28,20 @@ use Rattle.program_runs.specs.declared.fault.Fault.{Fault}
 use Rattle.program_runs.specs.declared.fault.Fault.TheVariants as fault
 use Rattle.program_runs.specs.declared.kept.Kept.{Kept}
 use Rattle.program_runs.specs.declared.kept_day.KeptDay.{KeptDay}
-use Rattle.program_runs.specs.KeptEntries.{KeepsCallsOfText, KeepsEntries, IsClosedDay, KeepsDay, KeepsDayOfText}
-use Rattle.program_runs.specs.KeptEntries.{after_calls, calls_for, form_kept}
-use Rattle.program_runs.specs.Printed.{entries_from, history_of}
+use Rattle.program_runs.specs.KeptEntries.{IsClosedDay, KeepsCallsOfText, KeepsDay, KeepsDayOfText, KeepsEntries}
+use Rattle.program_runs.specs.KeptEntries.{KeepsHeard, calls_for, form_kept}
 use Rattle.program_runs.proofs.BlockRunLaws.{fails-then}
-use Rattle.program_runs.proofs.KeptLaws.{orders-long, refused-records, said_closed}
+use Rattle.program_runs.proofs.ComingLaws.{coming-fails, coming-kept, coming-orders}
+use Rattle.program_runs.proofs.KeptLaws.{orders-long}
 
 -- ---- a file of a day
 
 orders-known : (day : DayHeader) (wanted : Result (List Call) FileFault) (text : Option (List ℕ))
-    → IfSome text (λ bytes. file bytes day.members day.config.max_calls ≡ wanted)
+    → IfSome text (λ bytes. wanted ≡ file bytes day.members day.config.max_calls)
     → IfSome text (λ bytes. calls_for day wanted ≡ orders_for day bytes)
 unfolding orders_for
 orders-known day wanted None h = tt
-orders-known day wanted (Some bytes) h = ap (calls_for day) (sym h)
-
--- all of its calls came to an auction, and are kept
-pub file-kept : (form : Form) (day : DayHeader) (kept : Kept) (auction : RunningAuction) (calls : List Call)
-    (text : Option (List ℕ)) (r : Result KeptDay Fault) → auction ≡ after_calls (opened_auction day.config) calls
-    → form_kept kept ≡ form → open_fault day.config ≡ None → auction.calls ≤ day.config.max_calls
-    → IfSome text (λ bytes. file bytes day.members day.config.max_calls ≡ Ok calls)
-    → KeepsEntries kept auction (history_of day.config calls)
-    → ((entries : List Entry) → KeepsEntries kept auction entries → IsClosedDay day kept auction.config entries r)
-    → KeepsDayOfText form r text (orders_for day)
-file-kept form day kept auction calls text r is for opens room known follows closes =
-    let few : length calls ≤ day.config.max_calls = omega (arith, rw is at room) in
-    let closed : IsClosedDay day kept day.config (history_of day.config calls) r =
-    rw is at (closes (history_of day.config calls) follows) in (
-      calls_for day (Ok calls),
-      said_closed form day calls kept r for opens few closed,
-      orders-known day (Ok calls) text known,
-    )
-
--- it has a fault
-pub file-fails : (form : Form) (day : DayHeader) (text : Option (List ℕ)) (f : FileFault)
-    → IfSome text (λ bytes. FailsAsWanted f (file bytes day.members day.config.max_calls))
-    → KeepsDayOfText form (Err (fault.File f)) text (orders_for day)
-unfolding orders_for
-file-fails form day None f h = (Err f, fails-at f (Err f) refl, tt)
-file-fails form day (Some bytes) f h =
-    (orders_for day bytes, refused-records form day f (file bytes day.members day.config.max_calls) h, refl)
-
--- one that a `?` handed on
-pub file-stops : {X : Type 0} (form : Form) (day : DayHeader) (text : Option (List ℕ)) (r : Result X Fault)
-    (f : FileFault) → IsErrAnd r (λ x. x ≡ fault.File f)
-    → IfSome text (λ bytes. FailsAsWanted f (file bytes day.members day.config.max_calls))
-    → IfErr r (λ x. KeepsDayOfText form (Err x) text (orders_for day))
-file-stops form day text (Ok x) f is h = absurd is
-file-stops form day text (Err x) f is h =
-    subst (λ (e : Fault). KeepsDayOfText form (Err e) text (orders_for day)) (sym is) (file-fails form day text f h)
+orders-known day wanted (Some bytes) h = ap (calls_for day) h
 
 -- the file was read whole
 pub file-read : (form : Form) (day : DayHeader) (text : Option (List ℕ)) (bytes : List ℕ) (r : Result KeptDay Fault)
@@ -155,7 +122,7 @@ digit-run_input day d rest low high = by_less (nat_lt MAX_JOURNAL_BYTES (length 
         rw e (orders-long day (d ∷ rest) (omega (arith, long)))
     by_less false e = rw (e, digit-journal d rest low high) refl
 
-pub digit-said : (form : Form) (day : DayHeader) (start : List ℕ) (b : Option (List ℕ)) (r : Result KeptDay Fault)
+digit-said : (form : Form) (day : DayHeader) (start : List ℕ) (b : Option (List ℕ)) (r : Result KeptDay Fault)
     → ((digit : ℕ) × (rest : List ℕ) × (start ≡ digit ∷ rest) × (48 ≤ digit) × (digit ≤ 57))
     → KeepsDayOfText form r (prepend_known start b) (orders_for day)
     → KeepsDayOfText form r (prepend_known start b) (run_input day)
@@ -183,57 +150,51 @@ begun-said form day left rest start r read digit keeps =
 pub blocks-stop : (kept : Kept) (old new : RunningAuction) (r : Result (Unit {0}) FileFault)
     (f : FileFault) (text : Option (List ℕ)) (members : ℕ) → IsErrAnd r (λ x. x ≡ f)
     → IfSome text (λ bytes. FailsAsWanted f (file bytes members old.config.max_calls))
-    → KeepsCallsOfText (KeepsEntries kept new) old new r text members
+    → KeepsCallsOfText (KeepsHeard kept new) old new r text members
 blocks-stop kept old new (Ok u) f text members is fails = absurd is
 blocks-stop kept old new (Err e) f None members is fails = (Err e, fails-at e (Err e) refl, tt)
 blocks-stop kept old new (Err e) f (Some bytes) members is fails = (
   file bytes members old.config.max_calls,
-  subst (λ (x : FileFault). FailsAsWanted x (file bytes members old.config.max_calls)) (sym is) fails,
+  fails-then e (file bytes members old.config.max_calls) silent_all
+      (subst (λ (x : FileFault). FailsAsWanted x (file bytes members old.config.max_calls)) (sym is) fails),
   refl,
 )
 
 -- all of its calls
 pub blocks-end : (kept : Kept) (old new : RunningAuction) (calls : List Call)
     (text : Option (List ℕ)) (members : ℕ) → IfSome text (λ bytes. file bytes members old.config.max_calls ≡ Ok calls)
-    → new ≡ after_calls old calls → KeepsEntries kept new (entries_from old.config old.state calls)
-    → KeepsCallsOfText (KeepsEntries kept new) old new (Ok tt) text members
-blocks-end kept old new calls None members says came holds = (Ok calls, (calls, refl, came, holds), tt)
+    → new ≡ after_all old (map silent calls) → KeepsHeard kept new (heard_from old.config old.state (map silent calls))
+    → KeepsCallsOfText (KeepsHeard kept new) old new (Ok tt) text members
+blocks-end kept old new calls None members says came holds = (Ok calls, (map silent calls, refl, came, holds), tt)
 blocks-end kept old new calls (Some bytes) members says came holds =
-    (Ok calls, (calls, refl, came, holds), sym says)
-
-known-calls : (text : Option (List ℕ)) (members max_calls : ℕ) (wanted : Result (List Call) FileFault)
-    (calls : List Call) → wanted ≡ Ok calls → IfSome text (λ bytes. wanted ≡ file bytes members max_calls)
-    → IfSome text (λ bytes. file bytes members max_calls ≡ Ok calls)
-known-calls None members max_calls wanted calls is known = tt
-known-calls (Some bytes) members max_calls wanted calls is known = sym known ∙ is
-
-known-fault : (text : Option (List ℕ)) (members max_calls : ℕ) (wanted : Result (List Call) FileFault)
-    (f : FileFault) → FailsAsWanted f wanted → IfSome text (λ bytes. wanted ≡ file bytes members max_calls)
-    → IfSome text (λ bytes. FailsAsWanted f (file bytes members max_calls))
-known-fault None members max_calls wanted f fails known = tt
-known-fault (Some bytes) members max_calls wanted f fails known = rw known at fails
+    (Ok calls, (map silent calls, refl, came, holds), sym says)
 
 -- its calls came to the auction, and the day was closed
 pub blocks-kept : (form : Form) (day : DayHeader) (kept : Kept) (old new : RunningAuction) (text : Option (List ℕ))
     (r : Result KeptDay Fault) → old ≡ opened_auction day.config → form_kept kept ≡ form
     → open_fault day.config ≡ None → new.calls ≤ old.config.max_calls
-    → KeepsCallsOfText (KeepsEntries kept new) old new (Ok tt) text day.members
+    → KeepsCallsOfText (KeepsHeard kept new) old new (Ok tt) text day.members
     → ((entries : List Entry) → KeepsEntries kept new entries → IsClosedDay day kept new.config entries r)
     → KeepsDayOfText form r text (orders_for day)
-blocks-kept form day kept old new text r fresh for opens room keeps closes =
-    let (wanted, (calls, is, came, holds), known) = rw fresh at keeps in
-    file-kept form day kept new calls text r came for opens (rw fresh at room)
-    (known-calls text day.members day.config.max_calls wanted calls is known) holds closes
+blocks-kept form day kept old new text r fresh for opens room (wanted, heard, known) closes = (
+  calls_for day wanted,
+  subst (λ (said : Result DayWithCalls FileFault). KeepsDay form said r) (coming-orders day wanted)
+      (coming-kept form day kept old new (wanted >>= silent_all) r fresh for opens room heard closes),
+  orders-known day wanted text (rw fresh at known),
+)
 
 -- it has a fault
 pub blocks-failed : (form : Form) (day : DayHeader) (kept : Kept) (old new : RunningAuction)
     (text : Option (List ℕ)) (f : FileFault) (r : Result KeptDay Fault) → old ≡ opened_auction day.config
-    → IsErrAnd r (λ x. x ≡ fault.File f) → KeepsCallsOfText (KeepsEntries kept new) old new (Err f) text day.members
+    → IsErrAnd r (λ x. x ≡ fault.File f) → KeepsCallsOfText (KeepsHeard kept new) old new (Err f) text day.members
     → KeepsDayOfText form r text (orders_for day)
-blocks-failed form day kept old new text f r fresh is keeps =
-    let (wanted, fails, known) = rw fresh at keeps in
-    said-handed form text (orders_for day) r (fault.File f) is
-    (file-fails form day text f (known-fault text day.members day.config.max_calls wanted f fails known))
+blocks-failed form day kept old new text f r fresh is (wanted, fails, known) =
+    said-handed form text (orders_for day) r (fault.File f) is (
+      calls_for day wanted,
+      subst (λ (said : Result DayWithCalls FileFault). KeepsDay form said (Err (fault.File f)))
+          (coming-orders day wanted) (coming-fails form day (wanted >>= silent_all) f fails),
+      orders-known day wanted text (rw fresh at known),
+    )
 
 -- memory that was refused at a day's end is no failed read
 pub closed-read : (day : DayHeader) (kept : Kept) (config : Config) (entries : List Entry) (r : Result KeptDay Fault)

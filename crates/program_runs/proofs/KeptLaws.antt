@@ -1,14 +1,12 @@
 -- What is kept of a day's entries, call by call.
-use Rattle.std.proofs.Common.{◌≡◌, ◌<◌, ◌≤◌, ◌∙◌, [], ℕ, List, length, nat_lt, false, true, rules}
+use Rattle.std.proofs.Common.{◌≡◌, ◌<◌, ◌≤◌, ◌∙◌, ℕ, List, length, nat_lt, false, true, rules}
 use Rattle.std.proofs.Common.{Option, None, Some, Ok, Err, Result, refl, ap, sym, subst}
 use Rattle.auction_terms.specs.declared.Call.{Call}
 use Rattle.auction_terms.specs.declared.Config.{Config}
 use Rattle.auction_terms.specs.declared.Entry.{Entry}
 use Rattle.auction_terms.specs.Auxiliary.RunningAuction.{RunningAuction, opened_auction}
-use Rattle.std.specs.Prelude.{IfSome, IsErrOf, unwrap_or, ◌↔◌}
+use Rattle.std.specs.Prelude.{IfSome, IsErrOf, ◌↔◌}
 use Rattle.auction.specs.ConfigFault.{open_fault}
-use Rattle.auction.specs.declared.OpenFault.{OpenFault}
-use Rattle.auction.specs.declared.OpenFault.TheVariants.{NoMemory}
 use Rattle.journal.specs.declared.day.DayHeader.{DayHeader}
 use Rattle.order_file.specs.File.{FailsAsWanted, IsOfRecord, calls_of_file, file, within_limit}
 use Rattle.order_file.specs.declared.reading.TheConstants.{MAX_BYTES}
@@ -23,32 +21,13 @@ use Rattle.order_file.specs.declared.fault.FileFault.TheVariants as faults
 use Rattle.settings.specs.declared.types.Form.{Form}
 use Rattle.program_runs.specs.declared.fault.Fault.TheVariants as fault
 use Rattle.program_runs.specs.declared.kept.Kept.{Kept}
-use Rattle.program_runs.specs.KeptEntries.{KeepsEntries, IsClosedDay, KeepsCalls, KeepsDay, KeepsDayOfText}
+use Rattle.program_runs.specs.KeptEntries.{IsClosedDay, KeepsDay, KeepsDayOfText}
 use Rattle.program_runs.specs.KeptEntries.{calls_for, form_kept}
 use Rattle.program_runs.specs.AuctionRun.{auction_job, run_text}
 use Rattle.program_runs.specs.FileRun.{Ends, IsRunOf, WritesText}
 use Rattle.program_runs.specs.Printed.{IsWideForm}
 use Rattle.program_runs.specs.Printed.{history_of, printed}
 use Rattle.program_runs.proofs.OwedLaws.{refused_input, refused_opening}
-
--- a fault of an order file is one of what it gives
-pub refused-records : (form : Form) (day : DayHeader) (f : FileFault) (r : Result (List Call) FileFault)
-    → FailsAsWanted f r → KeepsDay form (calls_for day r) (Err (fault.File f))
-refused-records form day faults.NoMemory r h = tt
-refused-records form day faults.ReadFailed r h = tt
-refused-records form day faults.TooLong r h = ap (calls_for day) h
-refused-records form day (faults.BadMember n) r h = ap (calls_for day) h
-refused-records form day (faults.BadCommand n) r h = ap (calls_for day) h
-refused-records form day (faults.BadCount n) r h = ap (calls_for day) h
-refused-records form day (faults.BadField n k) r h = ap (calls_for day) h
-refused-records form day (faults.TooManyCommands n) r h = ap (calls_for day) h
-refused-records form day faults.NotADay r h = ap (calls_for day) h
-
--- a day that can't be opened
-pub refused-day : (form : Form) (day : DayHeader) (f : OpenFault) (calls : List Call) (r : Result (List Call) FileFault)
-    → r ≡ Ok calls
-    → f ≡ unwrap_or (open_fault day.config) NoMemory → KeepsDay form (calls_for day r) (Err (fault.Open f))
-refused-day form day f calls r is why = (record { day = day; calls = calls }, ap (calls_for day) is, why)
 
 -- ---- an order file
 
@@ -91,21 +70,6 @@ pub said_closed : (form : Form) (day : DayHeader) (calls : List Call) (old : Kep
 said_closed form day calls old (Ok closed) for opens few is = kept-closed form day calls old closed for opens few is
 said_closed form day calls old (Err f) for opens few is =
     refused-closed form day old day.config (history_of day.config calls) f _ is
-
--- it is kept
-pub calls-kept : (form : Form) (day : DayHeader) (kept : Kept) (old new : RunningAuction) (calls : List Call)
-    (r : Result KeptDay Fault) → old ≡ opened_auction day.config → form_kept kept ≡ form
-    → open_fault day.config ≡ None → length calls ≤ day.config.max_calls
-    → KeepsCalls (KeepsEntries kept new) [] old new (Ok tt) (Ok calls)
-    → ((entries : List Entry) → KeepsEntries kept new entries → IsClosedDay day kept new.config entries r)
-    → KeepsDay form (calls_for day (Ok calls)) r
-calls-kept form day kept old new calls r fresh for opens few keeps closes =
-    let (found, wanted, is, follows) = rw fresh at keeps in
-    let same : calls ≡ found = cc (wanted) in
-    let closed : IsClosedDay day kept day.config (history_of day.config found) r =
-    rw is at (closes (history_of day.config found) follows) in
-    subst (λ said. KeepsDay form said r) (sym (ap (calls_for day) wanted))
-    (said_closed form day found kept r for opens (rw same at few) closed)
 
 -- ---- an input
 unread : (day : DayHeader) (all : List ℕ) (f : FileFault) → FailsAsWanted f (within_limit MAX_JOURNAL_BYTES all)

@@ -1,10 +1,9 @@
 -- A live session on the program's ends.
-use Rattle.std.proofs.Common.{◌≡◌, ◌<◌, ℕ, Option, None, Some, Ok, Err, IfSome, refl, ap₂, sym, subst, arith, ◌∙◌}
-use Rattle.std.specs.Prelude.{Result, unwrap_or}
+use Rattle.std.proofs.Common.{◌≡◌, ◌<◌, ℕ, Option, None, Some, Ok, Err, IfSome, refl, ap₂, sym, subst, ◌∙◌}
+use Rattle.std.specs.Prelude.{Result}
 use Rattle.auction_terms.specs.Auxiliary.RunningAuction.{RunningAuction, opened_auction}
 use Rattle.auction.specs.ConfigFault.{open_fault}
 use Rattle.auction.specs.declared.OpenFault.{OpenFault}
-use Rattle.auction.specs.declared.OpenFault.TheVariants.{NoMemory}
 use Rattle.journal.specs.declared.day.DayHeader.{DayHeader}
 use Rattle.kept_session.proofs.KeptRunLaws.{as-ends, seen_as}
 use Rattle.live_session.specs.Talk.{EndsSession}
@@ -14,7 +13,6 @@ use Rattle.live_session.specs.declared.fault.LiveFault.{LiveFault}
 use Rattle.live_session.specs.declared.terms.SessionTerms.{SessionTerms}
 use Rattle.byte_streams.specs.declared.sink.Sink as sink
 use Rattle.byte_streams.specs.declared.source.Source as source
-use Rattle.program_runs.specs.declared.live.SessionFault.TheVariants.{Open}
 use Rattle.program_runs.specs.FileRun.{Ends, ends_of}
 use Rattle.program_runs.specs.LiveRun.{HasRunSession, RunsLive, as_session, terms_of}
 
@@ -65,19 +63,6 @@ ran-by {R = R} {O = O} c day reserve start old new ended opens begun ran reads w
     (same ∙ sym (ap₂ (λ (r : R) (w : O). ends_of reads writes reader r out w) is_read is_written))
     (ran-live c day reserve old new ended opens
     (subst (λ (a : RunningAuction). EndsSession c (terms_of day reserve) a old new ended) begun ran))
-
--- a day that can't be opened
-pub not-opened : {R O : Type 0} (reads : source.Ghosts R) (writes : sink.Ghosts O) (reader : R) (out : O)
-    (day : DayHeader) (reserve : ℕ)
-    (f : OpenFault) → f ≡ unwrap_or (open_fault day.config) NoMemory
-    → RunsLive day reserve (ends_of reads writes reader reader out out) (Err (Open f))
-not-opened reads writes reader out day reserve f is = record {
-  why = is;
-  rest = refl;
-  new = refl;
-  none_read = λ k. omega (arith, k);
-  none_written = λ k. omega (arith, k);
-}
 
 -- an auction was opened only where there is no reason against it
 pub opened-well : (reason : Option OpenFault) (auction : RunningAuction)

@@ -14,12 +14,6 @@ use Rattle.program_runs.specs.declared.fault.Fault.TheVariants as fault
 use Rattle.program_runs.specs.FileRun.{OpensUnless}
 use Rattle.program_runs.specs.PlayedDay.{IsOfDay}
 
--- the fault is that of the config, or refused memory where it has none
-pub refused-for : {X : Type 0} (o : Option OpenFault) (r : Result X OpenFault) (f : OpenFault) → r ≡ Err f
-    → IfSome o (λ fault. r ≡ Err fault) → (o ≡ None → f ≡ NoMemory) → f ≡ unwrap_or o NoMemory
-refused-for None r f is refused memory = memory refl
-refused-for (Some fault) r f is refused memory = cc
-
 -- an opening that wasn't refused had no fault
 pub none_refused : {X : Type 0} (o : Option OpenFault) (r : Result X OpenFault) (x : X) → r ≡ Ok x
     → IfSome o (λ fault. r ≡ Err fault) → o ≡ None

@@ -1,10 +1,9 @@
 -- A day that was closed.
-use Rattle.std.proofs.Common.{◌≡◌, ℕ, ◌+◌, ◌<◌, ◌≤◌, Bool, true, false, List, [], ◌∷◌, ◌++◌, All, get_or, length, map}
+use Rattle.std.proofs.Common.{◌≡◌, ℕ, ◌+◌, ◌<◌, ◌≤◌, List, [], ◌∷◌, ◌++◌, All, get_or, length, map}
 use Rattle.std.proofs.Common.{slice_index, sum, take, drop, length-append, inl, inr, ◌⊎◌, Option, None, Some}
 use Rattle.std.proofs.Common.{MatchOption, Result, Ok, Err, IfOk, refl, ap, sym, subst, ◌∙◌, arith}
-use Rattle.std.specs.Prelude.{if◌then◌else◌, is_some}
-use Rattle.std.specs.List.{list_any}
-use Rattle.std.proofs.lemmas.Bool.{cases_lt, or_parts}
+use Rattle.std.specs.Prelude.{IfErr}
+use Rattle.std.proofs.lemmas.Bool.{cases_lt}
 use Rattle.std.proofs.lemmas.List.{length-map, take-append-drop}
 use Rattle.std.proofs.lemmas.List.Elements.{All-cons, All-head, All-nil, All-tail}
 use Rattle.std.proofs.lemmas.List.FromFn.{fill_by_all, get_or-map-range_with_len, length-map-range_with_len}
@@ -18,58 +17,34 @@ use Rattle.board_terms.specs.Closings.{IsAccount, IsClosing}
 use Rattle.board_terms.specs.BoardOpening.{newcomers}
 use Rattle.board_terms.specs.MemberView.{PlacedCall, MemberView}
 use Rattle.board_terms.specs.declared.closing.Closing.{Closing}
-use Rattle.board_terms.specs.declared.calls.CallFault.{CallFault}
 use Rattle.member_floor.specs.declared.script.Script.{Script}
 use Rattle.member_floor.specs.declared.threads.RunFault.{RunFault}
-use Rattle.member_floor.specs.declared.threads.RunFault.TheVariants as run
 use Rattle.member_floor.specs.PlaysScript.{AllPlayScripts, FitsMembers, PlayedScript, PlaysScript, HaveSameNumbers}
 use Rattle.member_floor.specs.PlaysScript.{recorded_calls}
 use Rattle.program_runs.specs.declared.fault.Fault.{Fault}
 use Rattle.program_runs.specs.declared.fault.Fault.TheVariants as fault
 use Rattle.program_runs.specs.BoardRun.{IsDayOf, IsSplit, commands_of, calls_of_members}
-use Rattle.program_runs.specs.PlayedDay.{IsPlayedOut, fault_after, is_kept_open, is_refused_memory, lacks_thread}
+use Rattle.program_runs.specs.PlayedDay.{IsFaultAfter, IsOfBoard, IsPlayedOut, IsUnclosedFault, IsWhole}
 use Rattle.program_runs.proofs.SplitLaws.{IsNewMember, all_new, at_each}
 use Rattle.program_runs.proofs.SplitLaws.{calls_of_from, none_beyond, none_from, own_commands}
 use Rattle.program_runs.proofs.SplitLaws.{recorded_commands, sum_counts}
 
--- ---- a run without a fault
+-- ---- the end of a run
 
--- the script was played to its end
-abbrev pub IsWhole : PlayedScript → Type 0
-IsWhole p = p.fault ≡ None
+of_board : (refused : Option RunFault) (rs : List PlayedScript) (f : Fault) → IsUnclosedFault refused rs f → IsOfBoard f
+of_board refused rs fault.NoMemory h = tt
+of_board refused rs fault.NotClosed h = tt
+of_board refused rs fault.WriteFailed (inl h) = absurd h
+of_board refused rs fault.WriteFailed (inr h) = absurd (cc (h.1))
+of_board refused rs (fault.File f) (inl h) = absurd h
+of_board refused rs (fault.File f) (inr h) = absurd (cc (h.1))
+of_board refused rs (fault.Open f) (inl h) = absurd h
+of_board refused rs (fault.Open f) (inr h) = absurd (cc (h.1))
 
-no_fault : (f : Option CallFault) → is_some f ≡ false → f ≡ None
-no_fault None kept = refl
-no_fault (Some f) kept = absurd cc
-
-no_run_fault : (f : Option RunFault) → lacks_thread f ≡ false → is_refused_memory f ≡ false → f ≡ None
-no_run_fault None thread room = refl
-no_run_fault (Some run.NoMemory) thread room = absurd cc
-no_run_fault (Some run.NoThread) thread room = absurd cc
-
-all_whole : (rs : List PlayedScript) → list_any (λ (p : PlayedScript). is_some p.fault) rs ≡ false → All IsWhole rs
-all_whole [] kept = All-nil IsWhole
-all_whole (r ∷ rs) kept =
-    let o = or_parts (is_some r.fault) (list_any (λ (p : PlayedScript). is_some p.fault) rs) kept in
-    All-cons IsWhole r rs (no_fault r.fault o.0) (all_whole rs o.1)
-
-neither : (a b : Bool) → (if a then Some fault.NotClosed else if b then Some fault.NoMemory else None) ≡ None
-    → (a ≡ false) × (b ≡ false)
-neither true b e = absurd cc
-neither false true e = absurd cc
-neither false false e = (refl, refl)
-
-no_fault_after : (f : Option RunFault) (rs : List PlayedScript) → fault_after f rs ≡ None → (f ≡ None) × All IsWhole rs
-no_fault_after f rs e =
-    let none = neither (is_kept_open f rs) (is_refused_memory f) e in
-    let o = or_parts (lacks_thread f) (list_any (λ (p : PlayedScript). is_some p.fault) rs) none.0 in
-    (no_run_fault f o.0 none.1, all_whole rs o.1)
-
--- each script was played, and to its end
-pub whole_run : {U : Type 0} (c : Config) (ms : List MemberView) (ss : List Script) (f : Option RunFault)
-    (rs : List PlayedScript) → (f ≡ None → U × AllPlayScripts c ms ss rs) → fault_after f rs ≡ None
-    → AllPlayScripts c ms ss rs × All IsWhole rs
-whole_run c ms ss f rs all none = let whole = no_fault_after f rs none in ((all whole.0).1, whole.1)
+pub unclosed : {X : Type 0} (refused : Option RunFault) (rs : List PlayedScript) (r : Result X Fault)
+    → IfErr r (IsUnclosedFault refused rs) → IfErr r IsOfBoard
+unclosed refused rs (Ok x) h = tt
+unclosed refused rs (Err f) h = of_board refused rs f h
 
 -- ---- what the closing has of each script
 
@@ -150,13 +125,12 @@ played_out c n ms ss rs closing is_new fit plays whole closed accounts =
 pub closed_out : {U : Type 0} (c : Config) (n : ℕ) (ms : List MemberView) (ss : List Script) (f : Option RunFault)
     (rs : List PlayedScript) (r : Result Closing Fault)
     → ms ≡ newcomers n → FitsMembers ms ss → (f ≡ None → U × AllPlayScripts c ms ss rs)
-    → IfOk r (λ _. fault_after f rs ≡ None)
+    → IfOk r (λ _. IsFaultAfter f rs None)
     → IfOk r (IsClosing c n (map (λ (p : PlayedScript). p.member) rs))
     → IfOk r (λ closing. All (IsAccount (calls_of closing.history.items)) (map (λ (p : PlayedScript). p.member) rs))
     → IfOk r (IsPlayedOut c n ss)
 closed_out c n ms ss f rs (Ok closing) is_new fit all none closed accounts =
-    let whole = whole_run c ms ss f rs all none in
-    played_out c n ms ss rs closing is_new fit whole.0 whole.1 closed accounts
+    played_out c n ms ss rs closing is_new fit (all none.0).1 none.1 closed accounts
 closed_out c n ms ss f rs (Err e) is_new fit all none closed accounts = tt
 
 -- ---- the closing of a day of a file's calls
@@ -177,9 +151,9 @@ same_commands : (n k : ℕ) (xs ys : List Call) → ((j : ℕ) → j < n → com
 same_commands n k xs ys same none_x none_y (inl lt) = same k lt
 same_commands n k xs ys same none_x none_y (inr le) = none_beyond n k ys le none_y ∙ sym (none_beyond n k xs le none_x)
 
-day_of_settings : (c : Config) (n : ℕ) (calls : List Call) (ss : List Script) (closing : Closing) → IsSplit n calls ss
+day_of_closing : (c : Config) (n : ℕ) (calls : List Call) (ss : List Script) (closing : Closing) → IsSplit n calls ss
     → All (IsBelow n) calls → IsPlayedOut c n ss closing → IsDayOf c n calls closing
-day_of_settings c n calls ss closing split below out =
+day_of_closing c n calls ss closing split below out =
     let counts : List ℕ = closing.calls.items in
     let entries : List Entry = closing.history.items in
     let story : List Call = calls_of entries in
@@ -207,7 +181,7 @@ day_of_settings c n calls ss closing split below out =
 pub days_of : (c c' : Config) (n n' : ℕ) (calls : List Call) (ss : List Script) (r : Result Closing Fault) → c' ≡ c
     → n' ≡ n → IsSplit n calls ss → All (IsBelow n) calls → IfOk r (IsPlayedOut c' n' ss) → IfOk r (IsDayOf c n calls)
 days_of c c' n n' calls ss (Ok closing) same many split below out =
-    day_of_settings c n calls ss closing split below
+    day_of_closing c n calls ss closing split below
     (subst (λ (m : ℕ). IsPlayedOut c m ss closing) many (subst (λ (d : Config). IsPlayedOut d n' ss closing) same out))
 days_of c c' n n' calls ss (Err f) same many split below out = tt
 

@@ -126,10 +126,10 @@ auction-passes day bytes text g finish fits says opens (done, (is, wide)) =
     (entries-fit g.day.members (history_of g.day.config g.calls) calls wide) is
 
 pub board-passes : BoardJournalsAreLawful
-board-passes day bytes text g finish fits says opens (done, (entries, day_of_settings, is, wide)) =
+board-passes day bytes text g finish fits says opens (done, (entries, played, is, wide)) =
     let run_input_fits = run_input-fits day bytes g fits says in
-    let calls = same-fit g.day.members g.calls (calls_of entries) day_of_settings.commands run_input_fits.calls in
-    audited g.day entries text run_input_fits.day (opens_auction g.day.config g.day.members opens) day_of_settings.legal
+    let calls = same-fit g.day.members g.calls (calls_of entries) played.commands run_input_fits.calls in
+    audited g.day entries text run_input_fits.day (opens_auction g.day.config g.day.members opens) played.legal
     (entries-fit g.day.members entries calls wide) is
 
 pub settings-fit : SettingsFitDay

@@ -6,16 +6,12 @@ use Rattle.auction.specs.declared.OpenFault.TheVariants as opening
 use Rattle.clap.specs.Walk.{Text}
 use Rattle.clap.specs.declared.error.kind.ErrorKind.{ErrorKind}
 use Rattle.clap.specs.declared.error.kind.ErrorKind.TheVariants as kinds
-use Rattle.clap.specs.declared.error.Error.{Error}
 use Rattle.journal.specs.declared.day.DayHeader.{DayHeader}
 use Rattle.live_session.specs.declared.fault.Ending.TheVariants.{AllGood, SomeBad}
 use Rattle.order_file.specs.declared.fault.FileFault.{FileFault}
 use Rattle.order_file.specs.declared.fault.FileFault.TheVariants as file
-use Rattle.settings.specs.CommandLine.{AcceptsWords, RefusesWords}
+use Rattle.settings.specs.CommandLine.{AcceptsWords}
 use Rattle.settings.specs.Ranges.{IsInRange}
-use Rattle.settings.specs.declared.fault.WordsFault.{WordsFault}
-use Rattle.settings.specs.declared.fault.WordsFault.TheVariants.{AuditNotAlone, LiveNotAlone, Parse}
-use Rattle.settings.specs.declared.fault.WordsFault.TheVariants.{ResultsWithoutAudit, SyncWithoutJournal, WithoutLive}
 use Rattle.settings.specs.declared.types.JournalFile.{JournalFile}
 use Rattle.settings.specs.declared.types.Settings.{Settings}
 use Rattle.settings.specs.declared.types.Task.{Task}
@@ -26,7 +22,7 @@ use Rattle.program_runs.specs.BoardRun.{board_job}
 use Rattle.program_runs.specs.FileRun.{Ends, IsRunOf, Job}
 use Rattle.program_runs.specs.KeptLive.{JournalFiles, RunsKeptSession}
 use Rattle.program_runs.specs.LiveRun.{RunsLive, SessionResult, session_status}
-use Rattle.program_runs.specs.Served.{AnswersFault, DoesTask, RefusesMix, RunsSession, ServesWords, ServesSettings}
+use Rattle.program_runs.specs.Served.{AnswersFault, DoesTask, ServesWords, ServesSettings}
 use Rattle.program_runs.specs.Served.{day_of_settings}
 use Rattle.program_runs.specs.Served.{is_session, words_status}
 use Rattle.program_runs.specs.Status.{RunResult, file_status, open_status, run_status}
@@ -113,13 +109,13 @@ session-write day reserve ends (Err (session.Live x)) h f = refl
 
 -- ---- each task
 
-pub as-task : (asked : Option Task) (task : Task) (status : ℕ) → asked ≡ Some task
+as-task : (asked : Option Task) (task : Task) (status : ℕ) → asked ≡ Some task
     → (status ≡ 2) ⊎ ((status ≡ 1) × (is_session asked ≡ false))
     → (status ≡ 2) ⊎ ((status ≡ 1) × (is_session (Some task) ≡ false))
 as-task asked task status is (inl e) = inl e
 as-task asked task status is (inr e) = inr (e.0, sym (ap is_session is) ∙ e.1)
 
-pub does-quiet : {D : Type 0} (files : JournalFiles D) (day : DayHeader) (journal : Option JournalFile) (task : Task)
+does-quiet : {D : Type 0} (files : JournalFiles D) (day : DayHeader) (journal : Option JournalFile) (task : Task)
     (ends : Ends) (status : ℕ)
     → DoesTask files day journal task ends status → (status ≡ 2) ⊎ ((status ≡ 1) × (is_session (Some task) ≡ false))
     → ends.new ≡ ends.old
@@ -134,7 +130,7 @@ does-quiet files day None (Live reserve) ends status h (inr e) = absurd (cc (e.1
 does-quiet files day (Some file) (Live reserve) ends status h (inl e) = h.quiet e
 does-quiet files day (Some file) (Live reserve) ends status h (inr e) = absurd (cc (e.1))
 
-pub does-read : {D : Type 0} (files : JournalFiles D) (day : DayHeader) (journal : Option JournalFile) (task : Task)
+does-read : {D : Type 0} (files : JournalFiles D) (day : DayHeader) (journal : Option JournalFile) (task : Task)
     (ends : Ends) (status : ℕ)
     → DoesTask files day journal task ends status → ends.ReadFailed → status ≡ 3
 does-read files day journal (Run form) ends status h f = h.2 ∙ ap run_status (h.1.read_failed.1 f)
@@ -143,7 +139,7 @@ does-read files day journal (Audit results) ends status h f = h.2 ∙ ap run_sta
 does-read files day None (Live reserve) ends status h f = h.2 ∙ session-read day reserve ends h.0 h.1 f
 does-read files day (Some file) (Live reserve) ends status h f = h.read_failed f
 
-pub does-write : {D : Type 0} (files : JournalFiles D) (day : DayHeader) (journal : Option JournalFile) (task : Task)
+does-write : {D : Type 0} (files : JournalFiles D) (day : DayHeader) (journal : Option JournalFile) (task : Task)
     (ends : Ends) (status : ℕ)
     → DoesTask files day journal task ends status → ends.WriteFailed → status ≡ 3
 does-write files day journal (Run form) ends status h f = h.2 ∙ ap run_status (h.1.write_failed.1 f)
@@ -152,7 +148,7 @@ does-write files day journal (Audit results) ends status h f = h.2 ∙ ap run_st
 does-write files day None (Live reserve) ends status h f = h.2 ∙ session-write day reserve ends h.0 h.1 f
 does-write files day (Some file) (Live reserve) ends status h f = h.write_failed f
 
-pub does-small : {D : Type 0} (files : JournalFiles D) (day : DayHeader) (journal : Option JournalFile) (task : Task)
+does-small : {D : Type 0} (files : JournalFiles D) (day : DayHeader) (journal : Option JournalFile) (task : Task)
     (ends : Ends) (status : ℕ)
     → DoesTask files day journal task ends status → status ≤ 5
 does-small files day journal (Run form) ends status h = rw h.2 (run-small h.0)
@@ -166,12 +162,6 @@ pub does-kept : {D : Type 0} (files : JournalFiles D) (day : DayHeader) (journal
     (file : JournalFile) (reserve : ℕ) (ends : Ends) (status : ℕ) → journal ≡ Some file
     → RunsKeptSession files file day reserve ends status → DoesTask files day journal (Live reserve) ends status
 does-kept files day journal file reserve ends status is h = rw is h
-
--- and without one
-pub does-live : {D : Type 0} (files : JournalFiles D) (day : DayHeader) (journal : Option JournalFile) (reserve : ℕ)
-    (ends : Ends) (status : ℕ) → journal ≡ None → RunsSession day reserve ends status
-    → DoesTask files day journal (Live reserve) ends status
-does-live files day journal reserve ends status is h = rw is h
 
 -- ---- the words
 
@@ -242,26 +232,3 @@ serves-words files words ends status (inr h) = record {
   write_failed = λ f. absurd (h.none_written f);
   few = let two = h.status_is in omega (arith, two);
 }
-
--- why words that options were given do not go together
-pub mix-refused : (words : List Text) (fault : WordsFault) (ends : Ends) (status : ℕ) → RefusesWords words fault
-    → ((error : Error) → fault ≡ Parse error → ⊥) → status ≡ 2 → ends.new ≡ ends.old → (ends.ReadFailed → ⊥)
-    → (ends.WriteFailed → ⊥) → RefusesMix words ends status
-mix-refused words fault ends status refused mixed two kept none_read none_written = record {
-  refused = by_fault fault refused mixed;
-  status_is = two;
-  kept = kept;
-  none_read = none_read;
-  none_written = none_written;
-}
-  where
-    by_fault : (f : WordsFault) → RefusesWords words f → ((error : Error) → f ≡ Parse error → ⊥)
-        → RefusesWords words AuditNotAlone
-        ⊎ (RefusesWords words LiveNotAlone ⊎ (RefusesWords words ResultsWithoutAudit
-        ⊎ (RefusesWords words WithoutLive ⊎ RefusesWords words SyncWithoutJournal)))
-    by_fault (Parse error) h other = absurd (other error refl)
-    by_fault AuditNotAlone h other = inl h
-    by_fault LiveNotAlone h other = inr (inl h)
-    by_fault ResultsWithoutAudit h other = inr (inr (inl h))
-    by_fault WithoutLive h other = inr (inr (inr (inl h)))
-    by_fault SyncWithoutJournal h other = inr (inr (inr (inr h)))

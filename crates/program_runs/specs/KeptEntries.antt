@@ -1,18 +1,21 @@
 -- What a run keeps of a day's entries until they are printed.
-use Rattle.std.specs.Prelude.{◌≡◌, ◌≤◌, ℕ, ◌+◌, ◌++◌, List, [], ◌∷◌, length, map}
+use Rattle.std.specs.Prelude.{◌≡◌, ◌≤◌, ℕ, ◌++◌, List, [], ◌∷◌, length, map}
 use Rattle.std.specs.Prelude.{Option, None, IfSome, unwrap_or, Result, Ok, Err}
 use Rattle.auction_terms.specs.declared.Call.{Call}
 use Rattle.auction_terms.specs.declared.Config.{Config}
 use Rattle.auction_terms.specs.declared.Entry.{Entry}
-use Rattle.auction_terms.specs.Day.{state_after, step}
+use Rattle.auction_terms.specs.Day.{step}
 use Rattle.auction_terms.specs.Auxiliary.RunningAuction.{RunningAuction, auction_after_call}
 use Rattle.auction.specs.ConfigFault.{open_fault}
 use Rattle.auction.specs.declared.OpenFault.TheVariants.{NoMemory}
 use Rattle.auction_terms.specs.Results.{◌>>=◌}
+use Rattle.day_road.specs.Heard.{HeardEntry, HearsAll}
+use Rattle.day_road.specs.Inputs.{silent_all}
 use Rattle.day_tables.specs.KeptBook.{HasTablesSoFar, HasAllTables}
 use Rattle.day_tables.specs.KeptTrades.{HasTradesSoFar, HasAllTrades}
 use Rattle.printed_lines.specs.KeptText.{kept_text}
 use Rattle.journal.specs.DayWithCalls.{DayWithCalls}
+use Rattle.journal.specs.EntryRecord.{RecordedCall}
 use Rattle.journal.specs.KeptLines.{HasEntryLines}
 use Rattle.journal.specs.declared.day.DayHeader.{DayHeader}
 use Rattle.order_file.specs.File.{FailsAsWanted, file}
@@ -27,7 +30,7 @@ use Rattle.program_runs.specs.declared.kept.Kept.{Kept}
 use Rattle.program_runs.specs.declared.kept.Kept.TheVariants.{Lines, Journal, Trades, Book}
 use Rattle.program_runs.specs.declared.kept_day.KeptDay.{KeptDay}
 use Rattle.day_tables.specs.AnsweredCalls.{entry_of}
-use Rattle.program_runs.specs.Printed.{entries_from, history_of, reply_in}
+use Rattle.program_runs.specs.Printed.{history_of, reply_in}
 
 -- the entry of the auction's next call
 abbrev pub entry_in : RunningAuction → Call → Entry
@@ -48,6 +51,17 @@ KeepsEntries (Journal lines) auction entries = HasEntryLines (kept_text lines) e
 KeepsEntries (Trades trades) auction entries = HasTradesSoFar trades auction entries
 KeepsEntries (Book book) auction entries = HasTablesSoFar book auction entries
 
+-- the entry of a call that was heard
+abbrev pub entry_heard : HeardEntry → Entry
+entry_heard heard = entry_of heard.recording.call heard.reply
+
+abbrev pub entries_heard : List HeardEntry → List Entry
+entries_heard heard = map entry_heard heard
+
+-- what is kept is of the entries that were heard
+abbrev pub KeepsHeard : Kept → RunningAuction → List HeardEntry → Type 0
+KeepsHeard kept auction heard = KeepsEntries kept auction (entries_heard heard)
+
 -- What is kept when the auction's next call comes, of the entries before it: those, and of the book the table before
 -- the call too, if it is an uncross that will be accepted.
 abbrev pub KeepsUpToCall : Kept → RunningAuction → List Entry → Call → Type 0
@@ -62,28 +76,16 @@ KeepsWholeDay (Journal lines) config entries = HasEntryLines (kept_text lines) e
 KeepsWholeDay (Trades trades) config entries = HasAllTrades trades config entries
 KeepsWholeDay (Book book) config entries = HasAllTables book config entries
 
--- an auction after these calls
-abbrev pub after_calls : RunningAuction → List Call → RunningAuction
-after_calls auction calls = record {
-  config = auction.config;
-  state = state_after auction.config auction.state calls;
-  calls = auction.calls + length calls;
-}
+-- calls that are to come, with no reply recorded
+abbrev pub unanswered : Result (List Call) FileFault → Result (List RecordedCall) FileFault
+unanswered calls = calls >>= silent_all
 
--- The calls that were wanted came to the auction, and their entries are kept after those before them; or there was the
--- fault that was wanted.
-abbrev pub KeepsCalls : (List Entry → Type 0) → List Entry → RunningAuction → RunningAuction
-    → Result (Unit {0}) FileFault → Result (List Call) FileFault → Type 0
-KeepsCalls AreKept before old new (Ok u) wanted =
-    (calls : List Call) × (wanted ≡ Ok calls) × (new ≡ after_calls old calls)
-    × AreKept (before ++ entries_from old.config old.state calls)
-KeepsCalls AreKept before old new (Err f) wanted = FailsAsWanted f wanted
-
--- the same of the calls that an order file says, of which these are the first; where its text is known, of those of it
-abbrev pub KeepsCallsOfText : (List Entry → Type 0) → RunningAuction → RunningAuction → Result (Unit {0}) FileFault
-    → Option (List ℕ) → ℕ → Type 0
+-- The calls that an order file says came to the auction and were heard, from its first; or there was its first fault.
+-- Where its text is known, they are those of it.
+abbrev pub KeepsCallsOfText : (List HeardEntry → Type 0) → RunningAuction → RunningAuction
+    → Result (Unit {0}) FileFault → Option (List ℕ) → ℕ → Type 0
 KeepsCallsOfText AreKept old new result text members =
-    (wanted : Result (List Call) FileFault) × KeepsCalls AreKept [] old new result wanted
+    (wanted : Result (List Call) FileFault) × HearsAll AreKept [] old new (unanswered wanted) result
     × IfSome text (λ bytes. wanted ≡ file bytes members old.config.max_calls)
 
 -- a day's calls, as what was given to it

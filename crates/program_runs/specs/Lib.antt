@@ -1,4 +1,3 @@
-pub mod EntriesHeard
 pub mod Status
 pub mod FaultLine
 pub mod FileRun

@@ -1,7 +1,5 @@
 -- What a day on a board comes to, on which members play scripts.
-use Rattle.std.specs.Prelude.{◌≡◌, ℕ, List, All, length, slice_index, sum, Bool, true, false, ◌||◌, if◌then◌else◌}
-use Rattle.std.specs.Prelude.{Option, Some, None, is_some, unwrap_or}
-use Rattle.std.specs.List.{list_any}
+use Rattle.std.specs.Prelude.{◌≡◌, ◌⊎◌, ℕ, List, All, length, slice_index, sum, Option, Some, None}
 use Rattle.auction_terms.specs.declared.Config.{Config}
 use Rattle.auction_terms.specs.Day.{IsLegal, calls_of}
 use Rattle.auction.specs.declared.OpenFault.TheVariants.{NoMemory}
@@ -14,32 +12,22 @@ use Rattle.program_runs.specs.declared.fault.Fault.{Fault}
 use Rattle.program_runs.specs.declared.fault.Fault.TheVariants as fault
 use Rattle.program_runs.specs.BoardRun.{commands_of}
 
--- a thread couldn't be started
-abbrev pub lacks_thread : Option RunFault → Bool
-lacks_thread None = false
-lacks_thread (Some run.NoMemory) = false
-lacks_thread (Some run.NoThread) = true
+-- the script was played to its end
+abbrev pub IsWhole : PlayedScript → Type 0
+IsWhole p = p.fault ≡ None
 
--- the run was refused memory
-abbrev pub is_refused_memory : Option RunFault → Bool
-is_refused_memory None = false
-is_refused_memory (Some run.NoMemory) = true
-is_refused_memory (Some run.NoThread) = false
-
--- a thread couldn't be started, or a call wasn't recorded
-abbrev pub is_kept_open : Option RunFault → List PlayedScript → Bool
-is_kept_open refused played = lacks_thread refused || list_any (λ (p : PlayedScript). is_some p.fault) played
-
--- why the day isn't to be closed after a run, if there is a reason: what keeps it open comes before refused memory
-abbrev pub fault_after : Option RunFault → List PlayedScript → Option Fault
-fault_after refused played =
-    if is_kept_open refused played then Some fault.NotClosed
-    else if is_refused_memory refused then Some fault.NoMemory
-    else None
+-- Why the day isn't to be closed after a run, if there is a reason. What keeps it open, a thread that couldn't be
+-- started or a call that wasn't recorded, comes before refused memory.
+abbrev pub IsFaultAfter : Option RunFault → List PlayedScript → Option Fault → Type 0
+IsFaultAfter refused played None = (refused ≡ None) × All IsWhole played
+IsFaultAfter refused played (Some fault.NotClosed) = (refused ≡ Some run.NoThread) ⊎ (All IsWhole played → ⊥)
+IsFaultAfter refused played (Some fault.NoMemory) = (refused ≡ Some run.NoMemory) × All IsWhole played
+IsFaultAfter refused played (Some f) = ⊥
 
 -- Why the day wasn't closed after a run. A member that is missing or behind keeps it open too.
-abbrev pub unclosed_fault : Option RunFault → List PlayedScript → Fault
-unclosed_fault refused played = unwrap_or (fault_after refused played) fault.NotClosed
+abbrev pub IsUnclosedFault : Option RunFault → List PlayedScript → Fault → Type 0
+IsUnclosedFault refused played f =
+    IsFaultAfter refused played (Some f) ⊎ (IsFaultAfter refused played None × (f ≡ fault.NotClosed))
 
 -- Each script was played from its first command to its last: the history is legal and has no other calls, and of each
 -- script's member it has the script's commands, in their order.

@@ -1,12 +1,11 @@
 //! A day on a board, on which each member calls the commands of its script at once with the others.
 
-ghost use Rattle.std.specs.Prelude.{◌≡◌, ◌≤◌, [], All, length, map, unwrap_or, vec_capacity, None, IfOk, IfErr};
+ghost use Rattle.std.specs.Prelude.{◌≡◌, ◌≤◌, [], All, length, map, vec_capacity, None, IfOk, IfErr};
 ghost use Rattle.auction_terms.specs.Day.{calls_of};
 ghost use Rattle.board_terms.specs.Closings.{IsAccount, IsClosing};
 ghost use Rattle.board_terms.specs.BoardOpening.{newcomers};
 ghost use Rattle.member_floor.specs.PlaysScript.{FitsMembers};
-ghost use Rattle.program_runs.specs.PlayedDay.{IsOfBoard, IsOfDay, IsPlayedOut, fault_after, unclosed_fault};
-ghost use Rattle.program_runs.specs.PlayedDay.{is_kept_open, is_refused_memory, lacks_thread};
+ghost use Rattle.program_runs.specs.PlayedDay.{IsFaultAfter, IsOfBoard, IsOfDay, IsPlayedOut, IsUnclosedFault};
 
 use crate::fault::Fault;
 use left_right::Absorb;
@@ -18,37 +17,18 @@ use std::alloc::Global;
 use std::sync::Wait;
 use std::thread::Threads;
 
-/// Whether a thread couldn't be started.
-fn lacks_thread(fault: Option<RunFault>) -> bool
-    ensures { result ≡ lacks_thread fault }
-{
-    matches!(fault, Some(RunFault::NoThread))
-}
-
-/// Whether a run was refused room.
-fn is_refused_memory(fault: Option<RunFault>) -> bool
-    ensures { result ≡ is_refused_memory fault }
-{
-    matches!(fault, Some(RunFault::NoMemory))
-}
-
-/// Whether something kept the day open: a thread that couldn't be started, or a call that wasn't recorded.
-fn is_kept_open<K: BoardIdentity>(fault: Option<RunFault>, played: &[ScriptRun<K>]) -> bool
-    ensures { result ≡ is_kept_open fault played.now }
-{
-    lacks_thread(fault) || played.iter().any(|one| one.fault.is_some())
-}
-
-/// Why the day isn't to be closed after this run, if there is a reason.
+/// Why the day isn't to be closed after this run, if there is a reason. What keeps it open, a call that wasn't recorded
+/// or a thread that couldn't be started, comes before refused memory.
 fn fault_after<K: BoardIdentity>(fault: Option<RunFault>, played: &[ScriptRun<K>]) -> Option<Fault>
-    ensures { result ≡ fault_after fault played.now }
+    ensures { IsFaultAfter fault played.now result }
 {
-    if is_kept_open(fault, played) {
-        Some(Fault::NotClosed)
-    } else if is_refused_memory(fault) {
-        Some(Fault::NoMemory)
-    } else {
-        None
+    if played.iter().any(|one| one.fault.is_some()) {
+        return Some(Fault::NotClosed);
+    }
+    match fault {
+        Some(RunFault::NoThread) => Some(Fault::NotClosed),
+        Some(RunFault::NoMemory) => Some(Fault::NoMemory),
+        None => None,
     }
 }
 
@@ -109,13 +89,13 @@ fn close_after<K: BoardIdentity, T: Wait>(
 where
     Version<K>: Absorb<Update<K>, State = ()>,
     requires room { room.items ≡ [] }
-    requires enough { fault_after outcome.fault outcome.played.items ≡ None
+    requires enough { IsFaultAfter outcome.fault outcome.played.items None
         → length outcome.played.items ≤ vec_capacity room }
-    ensures done { IfOk result (λ _. fault_after outcome.fault outcome.played.items ≡ None) }
+    ensures done { IfOk result (λ _. IsFaultAfter outcome.fault outcome.played.items None) }
     ensures closing { IfOk result (IsClosing K.config K.parts (map (λ p. p.member) outcome.played.items)) }
     ensures accounts { IfOk result (λ closing. All (IsAccount (calls_of closing.history.items))
         (map (λ p. p.member) outcome.played.items)) }
-    ensures fault { IfErr result (λ f. f ≡ unclosed_fault outcome.fault outcome.played.items) }
+    ensures fault { IfErr result (IsUnclosedFault outcome.fault outcome.played.items) }
 {
     let FloorOutcome {
         played,

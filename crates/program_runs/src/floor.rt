@@ -12,9 +12,9 @@ ghost use Rattle.program_runs.specs.Printed.{IfBegun, IsOfListing, IsWideListing
 
 use crate::day::closing_of_day;
 use crate::fault::{Fault, Finish};
-use crate::journals::keep_calls;
 use crate::printing::{ClosingForm, write_closing, write_kept};
 use crate::scripts::split;
+use crate::whole_input::keep_calls;
 use auction::{AuditFinding, audit};
 use auction_terms::{Call, Config, Entry};
 use byte_streams::{Sink, Source};

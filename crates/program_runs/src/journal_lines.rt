@@ -4,8 +4,10 @@ ghost use Rattle.std.specs.Prelude.{◌≡◌};
 ghost use Rattle.program_runs.specs.KeptLive.{EndsWithStatus, begin_status, kept_status, resume_status};
 
 use crate::fault::Fault;
+use crate::fault_lines::{
+    ending_status, write_fault, write_line, write_live_fault, write_open_fault,
+};
 use crate::keeping::KeptFault;
-use crate::serving::{write_line, write_open_fault};
 use auction_terms::Config;
 use byte_streams::{Sink, write_all};
 use journal::DayHeader;
@@ -14,7 +16,6 @@ use kept_session::{BeginFault, CutOff, ResumeFault, UnlawfulEntry};
 use live_session::{Ending, LiveFault};
 use order_file::FileFault;
 use printed_lines::{Page, put_reply};
-use std::fmt::InlineText;
 
 /// Writes the name of an option that differs.
 fn write_name<E: Sink>(err: &mut E, differs: bool, name: &str, is_first: bool) -> bool {
@@ -77,12 +78,10 @@ fn write_file_fault<E: Sink>(err: &mut E, fault: FileFault, name: &str) -> u8
         write_not_a_journal(err, name);
         return 1;
     }
-    let fault = Fault::File(fault);
-    if !matches!(fault, Fault::File(FileFault::NoMemory)) {
+    if !matches!(fault, FileFault::NoMemory) {
         let _ = write_all(err, b"journal ".as_slice());
     }
-    write_line(err, InlineText::<64>::of(fault).as_str());
-    fault.status()
+    write_fault(err, Fault::File(fault))
 }
 
 /// Writes why a session doesn't go on with a journal, and answers the status.
@@ -139,10 +138,7 @@ fn write_begin_fault<E: Sink>(err: &mut E, fault: &BeginFault, name: &str, day: 
             write_device_fault(err, Some(*error));
             3
         }
-        BeginFault::NoMemory => {
-            write_line(err, "out of memory");
-            3
-        }
+        BeginFault::NoMemory => write_fault(err, Fault::NoMemory),
     }
 }
 
@@ -218,21 +214,9 @@ pub(crate) fn write_ending<E: Sink>(
     ensures { EndsWithStatus ended is_closed result }
 {
     let status = match ended {
-        Ok(Ending::AllGood) => 0,
-        Ok(Ending::SomeBad) => 1,
-        Err(LiveFault::ReadFailed) => {
-            write_line(err, "read failed");
-            3
-        }
-        Err(LiveFault::WriteFailed) => {
-            write_line(err, "write failed");
-            3
-        }
-        Err(LiveFault::NoMemory) => {
-            write_line(err, "out of memory");
-            3
-        }
+        Ok(ending) => ending_status(ending),
         Err(LiveFault::CommitFailed) => 3,
+        Err(fault) => write_live_fault(err, fault),
     };
     if is_closed {
         return status;

@@ -1,12 +1,11 @@
 //! What is kept of a day's entries until they are printed.
 
-ghost use Rattle.std.specs.Prelude.{◌≡◌, ◌++◌, ◌∷◌, [], List, IfOk, OnOk, refl};
+ghost use Rattle.std.specs.Prelude.{◌≡◌, [], List, IfOk, OnOk, refl};
 ghost use Rattle.std.proofs.Common.{◌∙◌};
 ghost use Rattle.auction_terms.specs.declared.Entry.{Entry};
-ghost use Rattle.auction_terms.specs.Day.{step};
-ghost use Rattle.auction_terms.specs.Auxiliary.RunningAuction.{RunningAuction, auction_after_call, opened_auction};
-ghost use Rattle.program_runs.specs.KeptEntries.{KeepsEntries, KeepsUpToCall, KeepsWholeDay, entry_in, form_kept};
-ghost use Rattle.program_runs.specs.EntriesHeard.{entries_heard};
+ghost use Rattle.auction_terms.specs.Auxiliary.RunningAuction.{opened_auction};
+ghost use Rattle.program_runs.specs.KeptEntries.{KeepsEntries, KeepsHeard, KeepsUpToCall, KeepsWholeDay, entries_heard};
+ghost use Rattle.program_runs.specs.KeptEntries.{form_kept};
 ghost use Rattle.day_tables.specs.AnsweredCalls.{entry_of};
 
 use auction::Auction;
@@ -56,44 +55,6 @@ impl Kept {
         }
     }
 
-    /// Keeps what its form needs from before the auction's next call: of the book the ladder, where the call is an
-    /// uncross that will be accepted. The error is that memory is refused.
-    #[inline(always)]
-    fn keep_before(
-        &mut self,
-        alloc: Global,
-        auction: &mut Auction,
-        call: &Call,
-    ) -> Result<(), AllocError>
-        ensures auction { auction.new ≡ auction.old }
-        ensures form { form_kept self.new ≡ form_kept self.old }
-        ensures kept { (entries : List Entry) → KeepsEntries self.old auction.old entries
-            → OnOk result (KeepsUpToCall self.new auction.old entries call.now) }
-    {
-        match self {
-            Kept::Book(book) => book.keep_before(alloc, auction, call),
-            _ => Ok(()),
-        }
-    }
-
-    /// Keeps the entry of a call that the auction answered so, and before which [`Kept::keep_before`] was called. The
-    /// error is that memory is refused.
-    #[inline(always)]
-    fn keep_reply(&mut self, call: &Call, reply: &Reply) -> Result<(), AllocError>
-        ensures form { form_kept self.new ≡ form_kept self.old }
-        ensures kept { (auction : RunningAuction) (entries : List Entry)
-            → reply.now ≡ (step auction.config auction.state call.now).1
-            → KeepsUpToCall self.old auction entries call.now → OnOk result (KeepsEntries self.new
-            (auction_after_call auction call.now) (entries ++ entry_in auction call.now ∷ [])) }
-    {
-        match self {
-            Kept::Lines(replies) => replies.push(reply),
-            Kept::Journal(lines) => keep_entry(lines, entry_of(call, reply)),
-            Kept::Trades(trades) => trades.hear(call, reply),
-            Kept::Book(_) => Ok(()),
-        }
-    }
-
     /// Keeps what the auction holds at the input's end, as all its calls have come. The error is that memory is
     /// refused.
     pub fn close(&mut self, alloc: Global, auction: &mut Auction) -> Result<(), AllocError>
@@ -110,7 +71,7 @@ impl Kept {
 }
 
 impl Listener for Kept {
-    ghost Hears = { λ k auction heard. KeepsEntries k auction (entries_heard heard) };
+    ghost Hears = { λ k auction heard. KeepsHeard k auction heard };
 
     ghost Awaits = { λ k auction heard recording. KeepsUpToCall k auction (entries_heard heard) recording.call };
 
@@ -120,6 +81,8 @@ impl Listener for Kept {
 
     ghost becomes_on = { λ _ _ _ h k. k ∙ h };
 
+    /// Keeps what its form needs from before the auction's next call: of the book the ladder, where the call is an
+    /// uncross that will be accepted.
     #[inline(always)]
     fn before(
         &mut self,
@@ -127,11 +90,20 @@ impl Listener for Kept {
         auction: &mut Auction,
         call: &Call,
     ) -> Result<(), AllocError> {
-        self.keep_before(alloc, auction, call)
+        match self {
+            Kept::Book(book) => book.keep_before(alloc, auction, call),
+            _ => Ok(()),
+        }
     }
 
+    /// Keeps the entry of a call that the auction answered so.
     #[inline(always)]
     fn hear(&mut self, call: &Call, _text: &[u8], reply: &Reply) -> Result<(), AllocError> {
-        self.keep_reply(call, reply)
+        match self {
+            Kept::Lines(replies) => replies.push(reply),
+            Kept::Journal(lines) => keep_entry(lines, entry_of(call, reply)),
+            Kept::Trades(trades) => trades.hear(call, reply),
+            Kept::Book(_) => Ok(()),
+        }
     }
 }

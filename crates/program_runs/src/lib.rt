@@ -4,21 +4,22 @@
 #![tactic(auto)]
 
 mod audit;
+mod blocks;
 mod day;
 mod fault;
+mod fault_lines;
 mod floor;
 mod journal_lines;
-mod journals;
 mod keeping;
 mod kept;
 mod kept_day;
 mod laws;
 mod live;
-mod orders;
 mod printing;
 mod run;
 mod scripts;
 mod serving;
+mod whole_input;
 
 pub use fault::{Fault, Finish};
 pub use floor::run_floor;

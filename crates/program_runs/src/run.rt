@@ -6,11 +6,11 @@ ghost use Rattle.program_runs.specs.FileRun.{ends_by, ends_of};
 ghost use Rattle.program_runs.specs.KeptEntries.{KeepsDay, KeepsDayOfText};
 ghost use Rattle.journal.specs.DayWithCalls.{DayWithCalls, run_input};
 
+use crate::blocks::keep_file;
 use crate::fault::{Fault, Finish};
-use crate::journals::keep_input;
 use crate::kept_day::KeptDay;
-use crate::orders::keep_file;
 use crate::printing::write_kept;
+use crate::whole_input::keep_input;
 use byte_streams::{Sink, Source};
 use journal::{DayHeader, MAX_JOURNAL_BYTES};
 use order_file::{FileFault, bytes_after, read_start};

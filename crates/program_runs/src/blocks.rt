@@ -1,25 +1,26 @@
-//! The commands of an order file, applied to an auction as they are read.
+//! The commands of an order file, applied to an auction block by block, as they are read.
 
 ghost use Rattle.std.specs.Prelude.{◌≡◌, ◌≢◌, ◌<◌, ◌≤◌, ◌↔◌, ℕ, [], List, length, Option, None, unwrap_or, Ok, Err};
 ghost use Rattle.std.specs.Prelude.{IfErr, IfOk, IfSome, IsErrOf};
 ghost use Rattle.std.specs.Io.KnownBytes.{prepend_known};
-ghost use Rattle.auction_terms.specs.declared.Entry.{Entry};
 ghost use Rattle.auction_terms.specs.Auxiliary.RunningAuction.{opened_auction};
 ghost use Rattle.auction.specs.ConfigFault.{open_fault};
+ghost use Rattle.day_road.specs.Heard.{HeardEntry, HearsAll};
 ghost use Rattle.journal.specs.DayWithCalls.{orders_for};
 ghost use Rattle.order_file.specs.Blocks.{OpensBlock, block_rows};
 ghost use Rattle.order_file.specs.File.{IsOfRecord, calls_after, calls_of_file};
-ghost use Rattle.program_runs.specs.KeptEntries.{KeepsEntries, KeepsCalls, KeepsDay, KeepsDayOfText, calls_for};
-ghost use Rattle.program_runs.specs.KeptEntries.{KeepsCallsOfText, form_kept};
+ghost use Rattle.program_runs.specs.KeptEntries.{KeepsCallsOfText, KeepsDay, KeepsDayOfText, KeepsHeard, calls_for};
+ghost use Rattle.program_runs.specs.KeptEntries.{form_kept, unanswered};
 
 use crate::fault::Fault;
 use crate::kept::Kept;
 use crate::kept_day::{KeptDay, close_day};
+use crate::whole_input::refused;
 use auction::{Auction, OpenFault};
 use byte_streams::Source;
 use day_road::hear_all;
 use journal::DayHeader;
-use order_file::{Blocks, FileFault, MAX_BYTES, bytes_after, calls_of_file};
+use order_file::{Blocks, Calls, FileFault, MAX_BYTES, bytes_after};
 use settings::Form;
 use std::alloc::Global;
 
@@ -34,9 +35,10 @@ fn keep_block(
 ) -> Result<(), FileFault>
     requires { auction.old.calls ≤ auction.old.config.max_calls }
     ensures form { form_kept kept.new ≡ form_kept kept.old }
-    ensures kept { (entries : List Entry) → KeepsEntries kept.old auction.old entries
-        → KeepsCalls (KeepsEntries kept.new auction.new) entries auction.old auction.new result
-        (calls_after members auction.old.config.max_calls auction.old.calls (block_rows blocks.now)) }
+    ensures kept { (heard : List HeardEntry) → KeepsHeard kept.old auction.old heard
+        → HearsAll (KeepsHeard kept.new auction.new) heard auction.old auction.new
+        (unanswered (calls_after members auction.old.config.max_calls auction.old.calls (block_rows blocks.now)))
+        result }
     ensures room { auction.new.calls ≤ auction.old.config.max_calls }
     ensures parsed { IfErr result IsOfRecord }
 {
@@ -56,13 +58,13 @@ fn keep_blocks<R: Source>(
     members: u8,
 ) -> Result<(), FileFault>
     requires opened { auction.old ≡ opened_auction auction.old.config }
-    requires none { KeepsEntries kept.old auction.old [] }
+    requires none { KeepsHeard kept.old auction.old [] }
     ensures failed { IsErrOf result FileFault.ReadFailed ↔ (R.failures reader.old < R.failures reader.new) }
     ensures form { form_kept kept.new ≡ form_kept kept.old }
     ensures room { auction.new.calls ≤ auction.old.config.max_calls }
     ensures kept { (text : Option (List ℕ))
         → IfSome text (OpensBlock (Ok blocks.old) MAX_BYTES (R.left reader.old))
-        → KeepsCallsOfText (KeepsEntries kept.new auction.new) auction.old auction.new result text members }
+        → KeepsCallsOfText (KeepsHeard kept.new auction.new) auction.old auction.new result text members }
 {
     'turns: loop {
         if let Err(fault) = keep_block(alloc, blocks, auction, kept, members) {
@@ -82,10 +84,10 @@ fn refused_orders(alloc: Global, bytes: &[u8], day: DayHeader, fault: OpenFault)
         → KeepsDay form (calls_for day (calls_of_file day.members day.config.max_calls bytes.now)) (Err result) }
     ensures read { result ≢ Fault.File FileFault.ReadFailed }
 {
-    if let Err(fault) = calls_of_file(alloc, bytes, day.members, day.config.max_calls) {
-        return Fault::File(fault);
+    match Calls::open(alloc, bytes, day.members, day.config.max_calls) {
+        Ok(mut calls) => refused(&mut calls, day, fault),
+        Err(fault) => Fault::File(fault),
     }
-    Fault::Open(fault)
 }
 
 /// What an order file owes whose day can't be opened, and of which these bytes at the start were read: a fault of its
@@ -122,11 +124,11 @@ fn keep_text<R: Source>(
 ) -> Result<(), FileFault>
     requires short { length start.items ≤ MAX_BYTES }
     requires opened { auction.old ≡ opened_auction auction.old.config }
-    requires none { KeepsEntries kept.old auction.old [] }
+    requires none { KeepsHeard kept.old auction.old [] }
     ensures failed { IsErrOf result FileFault.ReadFailed ↔ (R.failures reader.old < R.failures reader.new) }
     ensures form { form_kept kept.new ≡ form_kept kept.old }
     ensures room { IfOk result (λ _. auction.new.calls ≤ auction.old.config.max_calls) }
-    ensures kept { KeepsCallsOfText (KeepsEntries kept.new auction.new) auction.old auction.new result
+    ensures kept { KeepsCallsOfText (KeepsHeard kept.new auction.new) auction.old auction.new result
         (prepend_known start.items (R.left reader.old)) members }
 {
     let mut blocks = Blocks::open(alloc, start.as_slice(), reader, MAX_BYTES)?;

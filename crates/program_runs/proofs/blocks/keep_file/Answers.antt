@@ -1,7 +1,7 @@
--- Answers of `keep_file` (src/orders.rt): what the prover left open; rt looks here.
+-- Answers of `keep_file` (src/blocks.rt): what the prover left open; rt looks here.
 use Rattle.auction.specs.ConfigFault.{open_fault}
 use Rattle.program_runs.proofs.OpeningLaws.{none_refused}
-use Rattle.program_runs.proofs.orders.keep_file.Goals as goal
+use Rattle.program_runs.proofs.blocks.keep_file.Goals as goal
 
 pub keep_opened-requires-clause-opens : goal.keep_opened-requires-clause-opens
 keep_opened-requires-clause-opens g c =

@@ -1,9 +1,9 @@
--- Answers of `keep_on` (src/journals.rt): what the prover left open; rt looks here.
+-- Answers of `keep_on` (src/whole_input.rt): what the prover left open; rt looks here.
 use Rattle.std.proofs.Common.{◌∙◌, []}
 use Rattle.program_runs.proofs.ComingLaws.{coming-fails, coming-kept}
 use Rattle.program_runs.proofs.FileSaidLaws.{closed-read}
 use Rattle.program_runs.proofs.KeptLaws.{opened_so}
-use Rattle.program_runs.proofs.journals.keep_on.Goals as goal
+use Rattle.program_runs.proofs.whole_input.keep_on.Goals as goal
 
 pub returns-in-Ok-hear_all-clause-kept : goal.returns-in-Ok-hear_all-clause-kept
 returns-in-Ok-hear_all-clause-kept g c =

@@ -1,4 +1,4 @@
--- Answers of `keep_orders` (src/journals.rt): what the prover left open; rt looks here.
+-- Answers of `keep_orders` (src/whole_input.rt): what the prover left open; rt looks here.
 use Rattle.std.proofs.Common.{◌∙◌, ap, arith, subst, sym}
 use Rattle.journal.specs.DayWithCalls.{DayWithCalls}
 use Rattle.std.proofs.Common.{Result}
@@ -6,7 +6,7 @@ use Rattle.order_file.specs.declared.fault.FileFault.{FileFault}
 use Rattle.program_runs.specs.KeptEntries.{KeepsDay, calls_for}
 use Rattle.program_runs.proofs.ComingLaws.{coming-orders}
 use Rattle.program_runs.proofs.KeptLaws.{orders-long, orders-short}
-use Rattle.program_runs.proofs.journals.keep_orders.Goals as goal
+use Rattle.program_runs.proofs.whole_input.keep_orders.Goals as goal
 
 pub returns-then-bytes-gt-MAX_BYTES-clause-kept : goal.returns-then-bytes-gt-MAX_BYTES-clause-kept
 returns-then-bytes-gt-MAX_BYTES-clause-kept c =

@@ -1,9 +1,9 @@
--- Answers of `refused_file` (src/orders.rt): what the prover left open; rt looks here.
+-- Answers of `refused_file` (src/blocks.rt): what the prover left open; rt looks here.
 use Rattle.std.proofs.Common.{ℕ, List, Err, subst}
 use Rattle.order_file.specs.File.{calls_of_file}
 use Rattle.program_runs.specs.KeptEntries.{KeepsDay, calls_for}
 use Rattle.program_runs.proofs.FileSaidLaws.{file-read, file-unread}
-use Rattle.program_runs.proofs.orders.refused_file.Goals as goal
+use Rattle.program_runs.proofs.blocks.refused_file.Goals as goal
 
 pub returns-in-Ok-clause-kept : goal.returns-in-Ok-clause-kept
 returns-in-Ok-clause-kept g c = λ form.

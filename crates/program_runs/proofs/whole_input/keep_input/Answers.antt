@@ -1,7 +1,7 @@
--- Answers of `keep_input` (src/journals.rt): what the prover left open; rt looks here.
+-- Answers of `keep_input` (src/whole_input.rt): what the prover left open; rt looks here.
 use Rattle.program_runs.proofs.ComingLaws.{entries-said}
 use Rattle.program_runs.proofs.KeptLaws.{no-journal}
-use Rattle.program_runs.proofs.journals.keep_input.Goals as goal
+use Rattle.program_runs.proofs.whole_input.keep_input.Goals as goal
 
 pub returns-in-Ok-clause-kept : goal.returns-in-Ok-clause-kept
 returns-in-Ok-clause-kept c =

@@ -1,6 +1,6 @@
--- Answers of `refused` (src/journals.rt): what the prover left open; rt looks here.
+-- Answers of `refused` (src/whole_input.rt): what the prover left open; rt looks here.
 use Rattle.program_runs.proofs.ComingLaws.{coming-refused}
-use Rattle.program_runs.proofs.journals.refused.Goals as goal
+use Rattle.program_runs.proofs.whole_input.refused.Goals as goal
 
 pub returns-in-Ok-clause-kept : goal.returns-in-Ok-clause-kept
 returns-in-Ok-clause-kept g c = λ form.

@@ -1,7 +1,7 @@
--- Answers of `keep_calls` (src/journals.rt): what the prover left open; rt looks here.
+-- Answers of `keep_calls` (src/whole_input.rt): what the prover left open; rt looks here.
 use Rattle.auction.specs.ConfigFault.{open_fault}
 use Rattle.program_runs.proofs.OpeningLaws.{none_refused}
-use Rattle.program_runs.proofs.journals.keep_calls.Goals as goal
+use Rattle.program_runs.proofs.whole_input.keep_calls.Goals as goal
 
 pub keep_on-requires-clause-opens : goal.keep_on-requires-clause-opens
 keep_on-requires-clause-opens g c =

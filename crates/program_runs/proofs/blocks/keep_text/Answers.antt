@@ -1,7 +1,7 @@
--- Answers of `keep_text` (src/orders.rt): what the prover left open; rt looks here.
+-- Answers of `keep_text` (src/blocks.rt): what the prover left open; rt looks here.
 use Rattle.order_file.proofs.BlockCallLaws.{fails-file}
 use Rattle.program_runs.proofs.FileSaidLaws.{blocks-stop}
-use Rattle.program_runs.proofs.orders.keep_text.Goals as goal
+use Rattle.program_runs.proofs.blocks.keep_text.Goals as goal
 
 pub returns-in_err-blocks-clause-kept : goal.returns-in_err-blocks-clause-kept
 returns-in_err-blocks-clause-kept g c =

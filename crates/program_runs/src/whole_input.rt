@@ -1,4 +1,4 @@
-//! The commands of an input that was read whole, a journal or an order file, applied to an auction.
+//! The commands of an input that was read whole, a journal or an order file, or of a history, applied to an auction.
 
 ghost use Rattle.std.specs.Prelude.{◌≡◌, ◌≢◌, ◌≤◌, Err, None, unwrap_or};
 ghost use Rattle.auction_terms.specs.Auxiliary.RunningAuction.{opened_auction};
@@ -17,7 +17,7 @@ use settings::Form;
 use std::alloc::Global;
 
 /// What an input owes whose day can't be opened: a fault of its own comes first.
-fn refused<I: Input>(input: &mut I, day: DayHeader, fault: OpenFault) -> Fault
+pub fn refused<I: Input>(input: &mut I, day: DayHeader, fault: OpenFault) -> Fault
     requires ready { I.CanRead input.old }
     requires fault { fault ≡ unwrap_or (open_fault day.config) OpenFault.NoMemory }
     ensures kept { (form : Form) → KeepsDay form (calls_coming day (I.coming input.old)) (Err result) }

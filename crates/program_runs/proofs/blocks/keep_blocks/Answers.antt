@@ -1,10 +1,14 @@
--- Answers of `keep_blocks` (src/orders.rt): what the prover left open; rt looks here.
+-- Answers of `keep_blocks` (src/blocks.rt): what the prover left open; rt looks here.
 use Rattle.std.proofs.Common.{◌∙◌, ◌++◌, [], Err, ap, arith, refl}
 use Rattle.auction_terms.specs.Auxiliary.RunningAuction.{RunningAuction}
+use Rattle.order_file.specs.Blocks.{block_rows}
+use Rattle.order_file.specs.File.{calls_after}
 use Rattle.order_file.proofs.BlockCallLaws.{carries-bad, carries-fault, carries-last, carries-next, carries-open}
+use Rattle.program_runs.specs.KeptEntries.{KeepsHeard}
 use Rattle.program_runs.proofs.BlockRunLaws.{block-after, block-calls, block-fault, block-follows, no_calls}
+use Rattle.program_runs.proofs.EntriesHeardLaws.{heard-calls, heard-fault}
 use Rattle.program_runs.proofs.FileSaidLaws.{blocks-end, blocks-stop}
-use Rattle.program_runs.proofs.orders.keep_blocks.Goals as goal
+use Rattle.program_runs.proofs.blocks.keep_blocks.Goals as goal
 
 pub turns-init : goal.turns-init
 turns-init g c = record {
@@ -34,8 +38,10 @@ returns-in-Err-clause-kept g c = λ text opens.
     let (front, is, carries, follows) = c.turns.invariant.calls in
     blocks-stop c.keep_block.new.kept c.args.auction.now c.keep_block.new.auction (Err f) f text c.args.members refl
     (carries-bad _ _ _ _ front c.turns.blocks f (carries text opens) c.in_ok-drain.ensures.rows
-    (block-fault c.args.members c.args.auction.now c.turns.auction front f _ c.requires.opened is
-    (c.in-Err.ensures.kept _ follows)))
+    (block-fault c.args.members c.args.auction.now c.turns.auction front f (block_rows c.turns.blocks)
+    c.requires.opened is
+    (heard-fault f (calls_after c.args.members c.turns.auction.config.max_calls c.turns.auction.calls
+    (block_rows c.turns.blocks)) (c.in-Err.ensures.kept _ follows))))
 
 pub returns-in_err-next-clause-kept : goal.returns-in_err-next-clause-kept
 returns-in_err-next-clause-kept g c = λ text opens.
@@ -48,20 +54,26 @@ returns-in_err-next-clause-kept g c = λ text opens.
 pub returns-then-not-branch-clause-kept : goal.returns-then-not-branch-clause-kept
 returns-then-not-branch-clause-kept g c = λ text opens.
     let (front, is, carries, follows) = c.turns.invariant.calls in
-    let (calls, says, came, more) = c.in_default.ensures.kept _ follows in
+    let (calls, says, came, more) =
+    heard-calls (KeepsHeard c.keep_block.new.kept c.keep_block.new.auction) _ c.turns.auction c.keep_block.new.auction
+    (calls_after c.args.members c.turns.auction.config.max_calls c.turns.auction.calls (block_rows c.turns.blocks))
+    (c.in_default.ensures.kept _ follows) in
     let start = c.args.auction.now in
     blocks-end c.keep_block.new.kept start c.keep_block.new.auction (front ++ calls) text c.args.members
     (carries-last _ _ _ _ front _ c.turns.blocks (carries text opens)
     (rw c.if-not-branch.true at c.in_ok-next.ensures.rows)
     (block-calls c.args.members start c.turns.auction front calls _ c.requires.opened is says))
     (block-after start c.turns.auction c.keep_block.new.auction front calls is came)
-    (block-follows c.keep_block.new.kept start c.turns.auction c.keep_block.new.auction [] front calls is more)
+    (block-follows c.keep_block.new.kept start c.turns.auction c.keep_block.new.auction front calls is more)
 
 pub turns-preserved : goal.turns-preserved
 turns-preserved g c =
     let inv = c.turns.invariant in
     let (front, is, carries, follows) = inv.calls in
-    let (calls, says, came, more) = c.in_default.ensures.kept _ follows in
+    let (calls, says, came, more) =
+    heard-calls (KeepsHeard c.keep_block.new.kept c.keep_block.new.auction) _ c.turns.auction c.keep_block.new.auction
+    (calls_after c.args.members c.turns.auction.config.max_calls c.turns.auction.calls (block_rows c.turns.blocks))
+    (c.in_default.ensures.kept _ follows) in
     let start = c.args.auction.now in
     record {
       steady = c.in_ok-next.ensures.steady ∙ inv.steady;
@@ -73,6 +85,6 @@ turns-preserved g c =
         λ text opens. carries-next text _ _ _ _ front _ c.turns.blocks c.next.new.self (carries text opens)
             (rw c.if-not-branch.false at c.in_ok-next.ensures.rows)
             (block-calls c.args.members start c.turns.auction front calls _ c.requires.opened is says),
-        block-follows c.keep_block.new.kept start c.turns.auction c.keep_block.new.auction [] front calls is more,
+        block-follows c.keep_block.new.kept start c.turns.auction c.keep_block.new.auction front calls is more,
       );
     }

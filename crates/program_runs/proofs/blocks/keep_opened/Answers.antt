@@ -1,9 +1,9 @@
--- Answers of `keep_opened` (src/orders.rt): what the prover left open; rt looks here.
+-- Answers of `keep_opened` (src/blocks.rt): what the prover left open; rt looks here.
 use Rattle.std.proofs.Common.{◌∙◌}
 use Rattle.journal.specs.DayWithCalls.{orders_for}
 use Rattle.program_runs.proofs.FileSaidLaws.{blocks-failed, blocks-kept, said-memory}
 use Rattle.program_runs.proofs.KeptLaws.{opened_so}
-use Rattle.program_runs.proofs.orders.keep_opened.Goals as goal
+use Rattle.program_runs.proofs.blocks.keep_opened.Goals as goal
 
 pub returns-in_default-clause-kept : goal.returns-in_default-clause-kept
 returns-in_default-clause-kept g c = said-memory c.args.form _ (orders_for c.args.day)
