@@ -22,7 +22,7 @@ def trade(member: Member) -> None:
 
 
 def main() -> None:
-    shares_of = numpy.zeros(AGENTS, int)
+    shares_of = numpy.zeros(AGENTS, numpy.uint64)
     with Board(THREADS + 1) as board:
         with ThreadPoolExecutor(THREADS) as threads:
             for task in [threads.submit(trade, it) for it in board.members[1:]]:
@@ -31,7 +31,7 @@ def main() -> None:
         reply = board[0].uncross().reply
         done = board[1].uncrossed_orders(AuctionKind.OPENING)
     assert isinstance(reply, Uncrossed) and reply.price is not None
-    shares_of[done["client"]] = done["filled"]
+    numpy.add.at(shares_of, done["client"], done["filled"])
     bought, sold = shares_of[SIDES == Side.BID].sum(), shares_of[SIDES == Side.ASK].sum()
     print(f"{count} agents entered an order each")
     print(f"price {reply.price.tick}: bought {bought}, sold {sold}, volume {reply.price.volume}")

@@ -6,10 +6,10 @@
  *
  * A handle of zeros holds nothing, and each call on it but an opening answers CALLAUCTION_ERROR_NO_AUCTION, or
  * CALLAUCTION_ERROR_NO_MEMBER, and does nothing else. Each call answers CALLAUCTION_DONE or the number of an error, and
- * an error changes nothing but a count that it writes as 0 (callauction_apply_many, callauction_board_apply_many and
- * callauction_journal_entries write how many commands or entries they had done before one, and
- * callauction_journal_open the fault of a text; after CALLAUCTION_ERROR_FULL on a board its member has seen at least
- * max_calls calls, or reserve fewer).
+ * an error changes nothing but the counts `copied`, `applied` and `written`, which it writes as 0; it leaves `calls`
+ * and `counts` as they were (callauction_apply_many, callauction_board_apply_many and callauction_journal_entries write
+ * how many commands or entries they had done before one, and callauction_journal_open the fault of a text; after
+ * CALLAUCTION_ERROR_FULL on a board its member has seen at least max_calls calls, or reserve fewer).
  *
  * docs/MODEL.md says what a command does, when it is refused and what it is answered. Limits and prices are ticks,
  * quantities whole shares. Members are numbered from 0, and member 0 is the operator, who alone uncrosses.
@@ -28,6 +28,10 @@
  *   it doesn't find a handle that was copied, moved or freed while a call has it.
  * - No pointer is NULL, but that of an array of length 0. Each points at as many structs as the call says, aligned as
  *   their type wants, and what one pointer of a call leads to doesn't overlap what another does.
+ *
+ * After a fork the child has handles of its own, copies of all. One that another thread was calling just then answers
+ * CALLAUCTION_ERROR_MISUSED at each call in the child, its closing among them, and its board may stay
+ * CALLAUCTION_ERROR_BUSY there; the board's other handles still look, and are given up.
  */
 #ifndef CALLAUCTION_H
 #define CALLAUCTION_H
@@ -294,6 +298,7 @@ typedef struct callauction_journal {
     uint32_t compared;       /* how many of them have a recorded reply, which was compared with the lawful one */
     uint32_t unlawful;       /* of how many of these it isn't the lawful one */
     uint32_t first_unlawful; /* the number of the first such call, from 1 on; 0 where there is none */
+    uint32_t taken;          /* how many bytes its whole lines have, which were read; more may follow them */
 } callauction_journal;
 
 /* ---- the library ---- */
@@ -503,11 +508,16 @@ CALLAUCTION_RESULT callauction_error callauction_journal_entries(const callaucti
                                                                  char *text, size_t text_count, size_t *copied,
                                                                  size_t *written);
 
-/* Opens an auction of the day of a journal, applies all its calls, and compares each recorded reply, byte for byte,
- * with the lawful one, whatever was found before. The handle holds the auction after them, without a reserve, to go on
- * with, and its orders have the client 0. IN_USE where the handle holds an auction; else BAD_JOURNAL, with the first
- * fault; else the fault of the day's config; else NO_MEMORY. At any error but BAD_JOURNAL nothing is written. The file
- * of a session that runs has NULs behind its lines: give the bytes before them. */
+/* Opens an auction of the day of a journal, applies the calls of its whole lines, and compares each recorded reply,
+ * byte for byte, with the lawful one, whatever was found before. The handle holds the auction after them, without a
+ * reserve, to go on with, and its orders have the client 0. IN_USE where the handle holds an auction; else BAD_JOURNAL,
+ * with the first fault; else the fault of the day's config; else NO_MEMORY. At any error but BAD_JOURNAL nothing is
+ * written.
+ *
+ * The whole lines are those up to the last LF, or the last one before a NUL: `taken` says how many bytes they have.
+ * Where that is less than text_count, what follows wasn't read: a line that a crash has cut, which may read as another
+ * call, or the NULs behind the lines of a session that runs. Who goes on with the file cuts it there first. Without any
+ * LF a text is NOT_A_DAY; of its length all bytes count. */
 CALLAUCTION_RESULT callauction_error callauction_journal_open(callauction_handle *handle, const char *text,
                                                               size_t text_count, callauction_journal *found);
 
@@ -521,7 +531,7 @@ CALLAUCTION_RESULT callauction_error callauction_journal_open(callauction_handle
 /* As callauction_board_call, but waits while another call has the board: its thread sleeps at the mutex, one for a
  * board, which its callers share. Nothing of this function is proved, and nothing that is proved rests on it. BUSY is
  * answered where a call that doesn't wait at the mutex has the board. A thread that is ended within a call leaves the
- * board BUSY for good. */
+ * board BUSY for good. A mutex that a thread had at a fork is never given back in the child. */
 static inline callauction_error callauction_board_call_waiting(pthread_mutex_t *mutex, callauction_member *member,
                                                                const callauction_command *command,
                                                                callauction_receipt *receipt)
@@ -668,6 +678,7 @@ CALLAUCTION_AT(journal, calls, 20);
 CALLAUCTION_AT(journal, compared, 24);
 CALLAUCTION_AT(journal, unlawful, 28);
 CALLAUCTION_AT(journal, first_unlawful, 32);
+CALLAUCTION_AT(journal, taken, 36);
 
 #undef CALLAUCTION_AT
 #undef CALLAUCTION_SIZE

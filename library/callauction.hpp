@@ -543,8 +543,9 @@ struct UncrossedOrders {
     std::vector<callauction_outcome> orders;
 };
 
-// What is left of a day: the open orders that are for every auction, as commands in time order that enter them into the
-// next day's auction, whose ids there are 1, 2 and so on; their ids of this day; and the next day's reference.
+// What is left of a day: the open orders that are for every auction, as commands that enter them into the next day's
+// auction, whose ids there are 1, 2 and so on; their ids of this day; and the next day's reference. The commands are in
+// time order within each limit of a side and among its market orders, which is all that price-time priority asks.
 struct CarriedOver {
     std::vector<callauction_command> commands;
     std::vector<std::uint32_t> ids;
@@ -641,7 +642,8 @@ public:
     }
 
     // By the text of a journal: the auction of its day after all its calls, to go on with, and what was found of its
-    // replies. Where it is no journal, Error::bad_journal, and its first fault in `fault`, if that is given.
+    // replies. Where it is no journal, Error::bad_journal, and its first fault in `fault`, if that is given. Its whole
+    // lines alone are read, the first `taken` bytes: what follows, as a line that a crash has cut, isn't.
     static Result<Resumed> resumed(std::string_view journal, BadRecord *fault = nullptr);
 
     Auction(Auction &&other) noexcept : handle_(std::exchange(other.handle_, callauction_handle{})) {}
@@ -774,7 +776,7 @@ public:
     }
 
     // Makes another auction with the same bounds, max_open and max_calls a copy of this one, and takes no memory. Where
-    // it has others, Error::in_use. Of itself it is a copy.
+    // it has others, Error::in_use. Of itself it is a copy. One that was moved from is filled, which takes memory.
     Result<Done> copy_into(Auction &other) const {
         if (&other == this) return calls() ? Result<Done>(Done{}) : Error::no_auction;
         if (const auto error = detail::error_of(callauction_clone(&handle_, &other.handle_))) return *error;
@@ -805,11 +807,13 @@ private:
 };
 
 // An auction that a journal was gone on with: how many members its day is for, how many calls it has, how many of them
-// have a recorded reply, of how many of these it isn't the lawful one, and the number of the first, from 1 on.
+// have a recorded reply, of how many of these it isn't the lawful one, and the number of the first, from 1 on; and how
+// many bytes of the text its whole lines have.
 struct Resumed {
     Auction auction;
     std::uint32_t members, calls, compared, unlawful;
     std::optional<std::uint32_t> first_unlawful;
+    std::size_t taken;
 };
 
 inline Result<Resumed> Auction::resumed(std::string_view journal, BadRecord *fault) {
@@ -818,7 +822,7 @@ inline Result<Resumed> Auction::resumed(std::string_view journal, BadRecord *fau
     const auto answer = callauction_journal_open(&made.handle_, journal.data(), journal.size(), &found);
     if (fault) *fault = {static_cast<JournalFault>(found.fault), found.record_number, found.field_number};
     if (const auto error = detail::error_of(answer)) return *error;
-    Resumed resumed{std::move(made), found.members, found.calls, found.compared, found.unlawful, {}};
+    Resumed resumed{std::move(made), found.members, found.calls, found.compared, found.unlawful, {}, found.taken};
     if (found.first_unlawful) resumed.first_unlawful = found.first_unlawful;
     return resumed;
 }
@@ -1047,7 +1051,7 @@ public:
     }
 
     // Makes an auction with the board's bounds, max_open and max_calls a copy of the board's, and takes no memory.
-    // Where it has others, Error::in_use.
+    // Where it has others, Error::in_use. One that was moved from is filled, which takes memory.
     Result<Done> copy_into(Auction &other) {
         if (!handle_) return Error::no_member;
         if (const auto error = detail::error_of(callauction_board_clone(handle_, &other.handle_))) return *error;

@@ -302,13 +302,15 @@ void a_day_is_kept_as_a_journal() {
                                 "0,uncross,opening price 510 volume 20 surplus 10 bid trades 1\n");
     auto resumed = ca::Auction::resumed(*journal);
     WANT(resumed && resumed->members == 3 && resumed->calls == 3 && resumed->compared == 3 && resumed->unlawful == 0);
+    WANT(resumed->taken == journal->size());
     WANT(!resumed->first_unlawful && *resumed->auction.calls() == 3 && resumed->auction.config()->range == 50);
     WANT(resumed->auction.orders()->at(0).quantity == 10 && resumed->auction.orders()->at(0).client == 0);
     WANT(reply<ca::Entered>(resumed->auction.apply(2, ca::Enter{ca::Side::ask, 10, 510})).id == 3);
     WANT(resumed->auction.trades()->size() == 1 && resumed->auction.state()->calls_left_to_members == 96);
     const auto other = ca::Auction::resumed(
-        "day,1,1000,500,3,10,100,\n1,ask,\n1,ask,entered 1\n1,ask,no price bid - ask -");
+        "day,1,1000,500,3,10,100,\n1,ask,\n1,ask,entered 1\n1,ask,no price bid - ask -\n1,enter,bid,30,50");
     WANT(other && other->calls == 3 && other->compared == 2 && other->unlawful == 1 && other->first_unlawful == 2u);
+    WANT(other->taken == 75); // 25, 7, 16 and 27: what follows lacks its end
     ca::BadRecord fault;
     WANT(ca::Auction::resumed("day,1,1000,500,3,10,100,\n1,delete,x,\n", &fault).error() == ca::Error::bad_journal);
     WANT(fault.fault == ca::JournalFault::bad_field && fault.record == 2 && fault.field == 3);

@@ -220,14 +220,14 @@ static bool is_found(const callauction_journal *one, const callauction_journal *
     return one->record_number == other->record_number && one->field_number == other->field_number &&
            one->fault == other->fault && one->members == other->members && one->calls == other->calls &&
            one->compared == other->compared && one->unlawful == other->unlawful &&
-           one->first_unlawful == other->first_unlawful;
+           one->first_unlawful == other->first_unlawful && one->taken == other->taken;
 }
 
 /* A text has this fault, of this record and field; the handle is as it was. */
 static void fault_is(const char *text, size_t length, uint32_t fault, uint64_t record, uint32_t field) {
     callauction_handle auction = {0}, zeros = {0};
     const callauction_journal wanted = {.record_number = record, .field_number = field, .fault = fault};
-    callauction_journal found = {77, 77, 77, 77, 77, 77, 77, 77};
+    callauction_journal found = {77, 77, 77, 77, 77, 77, 77, 77, 77};
     WANT(callauction_journal_open(&auction, text, length, &found) == CALLAUCTION_ERROR_BAD_JOURNAL);
     WANT(is_found(&found, &wanted) && memcmp(&auction, &zeros, sizeof zeros) == 0);
 }
@@ -294,8 +294,9 @@ static void a_day_is_opened(void) {
                                "1,enter,bid,300,200,100,\n"
                                "2,enter,ask,100,market,,closing,entered 4\n"
                                "0,uncross,opening no price\n"
-                               "3,ask,no price bid 202 ask 1";
-    const callauction_journal wanted = {.members = 4, .calls = 5, .compared = 4, .unlawful = 2, .first_unlawful = 3};
+                               "3,ask,no price bid 202 ask 1\n";
+    const callauction_journal wanted = {
+        .members = 4, .calls = 5, .compared = 4, .unlawful = 2, .first_unlawful = 3, .taken = sizeof text - 1};
     callauction_handle auction = {0}, second = {0};
     callauction_journal found;
     callauction_config config;
@@ -320,8 +321,73 @@ static void a_day_is_opened(void) {
     WANT(callauction_clone(&auction, &second) == CALLAUCTION_DONE);
     WANT(callauction_close(&auction) == CALLAUCTION_DONE && callauction_close(&second) == CALLAUCTION_DONE);
     WANT(callauction_journal_open(&auction, text, 29, &found) == CALLAUCTION_DONE && found.calls == 0);
-    WANT(found.members == 4 && found.compared == 0 && found.first_unlawful == 0);
+    WANT(found.members == 4 && found.compared == 0 && found.first_unlawful == 0 && found.taken == 29);
     WANT(callauction_close(&auction) == CALLAUCTION_DONE);
+}
+
+/* ---- texts that a crash has cut ---- */
+
+#define DAY "day,1,1000,200,4,4096,65536,\n"
+enum { DAY_LENGTH = sizeof DAY - 1 };
+
+/* Of this text as many calls are taken, those of its first `taken` bytes; its open orders have so many shares. */
+static void takes(const char *text, size_t length, uint32_t calls, size_t taken, uint64_t shares) {
+    callauction_handle auction = {0};
+    callauction_journal found;
+    callauction_order orders[8];
+    size_t listed = 0;
+    WANT(callauction_journal_open(&auction, text, length, &found) == CALLAUCTION_DONE);
+    WANT(found.calls == calls && found.taken == taken && found.fault == 0 && found.unlawful == 0);
+    WANT(callauction_orders(&auction, CALLAUCTION_ALL_MEMBERS, orders, 8, &listed) == CALLAUCTION_DONE);
+    for (size_t i = 0; i < listed; i++) shares -= orders[i].quantity;
+    WANT(shares == 0);
+    WANT(callauction_close(&auction) == CALLAUCTION_DONE);
+}
+
+/* A line that lacks its end is no call, though what is left of it reads as one; nor is what follows a NUL. */
+static void whole_lines_are_taken(void) {
+    static const char first[] = DAY "1,enter,bid,500,200,entered 1\n";
+    static const char changed[] = DAY "1,enter,bid,500,200,entered 1\n1,change,1,50,200,changed kept";
+    static const char silent[] = DAY "1,enter,bid,500,200,";
+    static const char peak[] = DAY "1,enter,bid,500,200,entered 1\n1,enter,bid,300,200,10";
+    static const char fault[] = DAY "1,enter,bid,500,200,entered 1\n9,x";
+    static const char returns[] = "day,1,1000,200,4,4096,65536,\r\n1,enter,bid,500,200,entered 1\r\n";
+    static const char room[] = DAY "1,enter,bid,500,200,entered 1\n\0\0\0";
+    static const char behind[] = DAY "1,enter,bid,500,200,entered 1\n\0" "1,enter,bid,7,200,entered 2\n";
+    const size_t whole = sizeof first - 1;
+    takes(first, whole, 1, whole, 500);
+    takes(first, whole - 1, 0, DAY_LENGTH, 0);
+    takes(changed, sizeof changed - 1, 1, whole, 500);
+    takes(silent, sizeof silent - 1, 0, DAY_LENGTH, 0);
+    takes(peak, sizeof peak - 1, 1, whole, 500);
+    takes(fault, sizeof fault - 1, 1, whole, 500);
+    takes(returns, sizeof returns - 1, 1, sizeof returns - 1, 500);
+    takes(returns, sizeof returns - 2, 0, DAY_LENGTH + 1, 0);
+    takes(room, sizeof room - 1, 1, whole, 500);
+    takes(behind, sizeof behind - 1, 1, whole, 500);
+    fault_is(DAY, DAY_LENGTH - 1, CALLAUCTION_JOURNAL_NOT_A_DAY, 1, 0);
+    fault_is(returns, DAY_LENGTH, CALLAUCTION_JOURNAL_NOT_A_DAY, 1, 0);
+    fault_is("\0" DAY, DAY_LENGTH + 1, CALLAUCTION_JOURNAL_NOT_A_DAY, 1, 0);
+}
+
+/* Cut behind any byte, a text is its whole lines. */
+static void any_cut_leaves_whole_lines(void) {
+    static const char text[] = DAY "1,enter,bid,500,200,entered 1\n"
+                                   "2,enter,ask,40,market,,closing,entered 2\n"
+                                   "1,enter,bid,300,200,100,entered 3\n";
+    static const uint64_t shares[] = {0, 500, 540, 840};
+    size_t ends = 0, taken = 0;
+    for (size_t length = 0; length < sizeof text; length++) {
+        if (length > 0 && text[length - 1] == '\n') {
+            ends++;
+            taken = length;
+        }
+        if (ends == 0)
+            fault_is(text, length, CALLAUCTION_JOURNAL_NOT_A_DAY, 1, 0);
+        else
+            takes(text, length, (uint32_t)ends - 1, taken, shares[ends - 1]);
+    }
+    WANT(ends == 4);
 }
 
 /* ---- random days ---- */
@@ -428,9 +494,10 @@ static void is_printed(const char *text, size_t length, const callauction_entry 
     free(printed);
 }
 
-/* The program's audit of the text counts the same. */
+/* The program's audit of the text counts the same, and as many bytes behind its whole lines. */
 static void is_audited(const char *program, const char *text, size_t length, const callauction_journal *found) {
-    char path[] = "/tmp/journal-XXXXXX", words[4096], wanted[4][64], line[512];
+    char path[] = "/tmp/journal-XXXXXX", words[4096], wanted[5][64], line[512];
+    const int lines_wanted = found->taken < length ? 5 : 4;
     int file = mkstemp(path), seen = 0;
     WANT(file >= 0 && write(file, text, length) == (ssize_t)length && close(file) == 0);
     snprintf(wanted[0], sizeof *wanted, "entries %" PRIu32 "\n", found->calls);
@@ -438,17 +505,31 @@ static void is_audited(const char *program, const char *text, size_t length, con
     snprintf(wanted[2], sizeof *wanted, "unlawful %" PRIu32 "\n", found->unlawful);
     snprintf(wanted[3], sizeof *wanted, "audit bad %" PRIu32 "\n", found->first_unlawful - 1);
     if (!found->first_unlawful) snprintf(wanted[3], sizeof *wanted, "audit legal\n");
+    snprintf(wanted[4], sizeof *wanted, "incomplete: %zu bytes follow entry %" PRIu32 "\n", length - found->taken,
+             found->calls);
     WANT(snprintf(words, sizeof words, "'%s' --audit < %s", program, path) < (int)sizeof words);
     FILE *printed = popen(words, "r");
     WANT(printed);
     while (fgets(line, sizeof line, printed))
         if (strstr(line, ": recorded ") == NULL) {
-            WANT(seen < 4 && strcmp(line, wanted[seen]) == 0);
+            WANT(seen < lines_wanted && strcmp(line, wanted[seen]) == 0);
             seen++;
         }
     pclose(printed);
     unlink(path);
-    WANT(seen == 4);
+    WANT(seen == lines_wanted);
+}
+
+/* Of a text that was cut anywhere behind its first line the program's audit says the same. */
+static void is_audited_when_cut(const char *program, const char *text, size_t length) {
+    callauction_handle auction = {0};
+    callauction_journal found;
+    const size_t first = (size_t)(strchr(text, '\n') + 1 - text);
+    const size_t cut = first + random_below((uint32_t)(length - first));
+    WANT(callauction_journal_open(&auction, text, cut, &found) == CALLAUCTION_DONE);
+    WANT(found.taken <= cut && cut - found.taken < LONGEST && text[found.taken - 1] == '\n');
+    WANT(callauction_close(&auction) == CALLAUCTION_DONE);
+    if (program) is_audited(program, text, cut, &found);
 }
 
 static void random_day(const char *program, size_t count) {
@@ -464,9 +545,10 @@ static void random_day(const char *program, size_t count) {
     is_printed(day_end, length - (size_t)(day_end - text), entries, count);
     WANT(callauction_journal_open(&again, text, length, &found) == CALLAUCTION_DONE);
     WANT(found.members == 4 && found.calls == count && found.compared == count);
-    WANT(found.unlawful == 0 && found.first_unlawful == 0 && found.fault == 0);
+    WANT(found.unlawful == 0 && found.first_unlawful == 0 && found.fault == 0 && found.taken == length);
     is_same_auction(&auction, &again);
     if (program) is_audited(program, text, length, &found);
+    is_audited_when_cut(program, text, length);
     for (size_t i = count; i < 2 * count; i++) { /* the day goes on in both */
         callauction_reply reply;
         entries[i].command = random_command();
@@ -512,6 +594,8 @@ int main(int count, char **words) {
     what_is_no_entry();
     faults_of_texts();
     a_day_is_opened();
+    whole_lines_are_taken();
+    any_cut_leaves_whole_lines();
     two_calls_at_once();
     for (int day = 0; day < 40; day++) random_day(count > 1 ? words[1] : NULL, 20 + random_below(1000));
     return 0;

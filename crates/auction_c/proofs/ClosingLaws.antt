@@ -1,5 +1,6 @@
 -- A closing with the members' accounts.
-use Rattle.std.proofs.Common.{◌≡◌, ◌<◌, ◌∙◌, ℕ, All, List, [], ◌∷◌, ap, length, get_or, subst, sym, inr, false}
+use Rattle.std.proofs.Common.{◌≡◌, ◌<◌, ◌∙◌, ◌++◌, ℕ, All, List, [], ◌∷◌, ap, drop, length, map, get_or, subst}
+use Rattle.std.proofs.Common.{sym, inr, false}
 use Rattle.std.proofs.lemmas.List.Elements.{All-head, All-weaker}
 use Rattle.std.specs.Prelude.{◌==◌, Option, None, Some, IfSome, IsSomeAnd}
 use Rattle.auction_terms.specs.declared.Entry.{Entry}
@@ -7,18 +8,18 @@ use Rattle.board_terms.specs.declared.closing.Closing.{Closing}
 use Rattle.board_terms.specs.BoardViews.{BoardMember, FloorView, IsClosingOf, OpenedBoard, floor_view}
 use Rattle.auction_c.specs.declared.member_handle.AuctionMember.{AuctionMember}
 use Rattle.auction_c.specs.declared.structs.AuctionEntry.{AuctionEntry}
-use Rattle.auction_c.specs.Entries.{AreEntries}
+use Rattle.auction_c.specs.Encoding.{entry_out}
 use Rattle.auction_c.specs.BoardCalls.{AreOfBoards, HoldAccounts, IsAccountsError, IsCloseError, WritesClosing}
 use Rattle.auction_c.specs.BoardCalls.{first_boxed}
 use Rattle.auction_c.specs.BoardCalls.{lacks_room}
 
-pub writes_closing : (f : FloorView) (handles : List AuctionMember) (entries : List AuctionEntry) (counts : List ℕ)
-    (written : ℕ) → HoldAccounts f handles
+pub writes_closing : (f : FloorView) (handles : List AuctionMember) (room entries : List AuctionEntry)
+    (counts : List ℕ) (written : ℕ) → HoldAccounts f handles
     → ((c : Closing) × IsClosingOf f.board c × (c.history.items ≡ f.history)
-    × AreEntries written c.history.items entries
+    × (entries ≡ map entry_out c.history.items ++ drop written room)
     × (written ≡ length c.history.items) × (counts ≡ c.calls.items))
-    → WritesClosing f.board handles entries counts written
-writes_closing f handles entries counts written accounts c = record {
+    → WritesClosing f.board handles room entries counts written
+writes_closing f handles room entries counts written accounts c = record {
   closing = c.0;
   closed = c.1;
   accounts = subst (λ (h : List Entry). HoldAccounts (floor_view f.board h) handles) (sym c.2) accounts;

@@ -1,7 +1,7 @@
 -- What is found of a journal's replies, call by call, and in all.
 use Rattle.std.proofs.Common.{◌≡◌, ◌≤◌, ◌<◌, ◌+◌, ◌-◌, ◌++◌, ◌∷◌, ◌∙◌, [], ℕ, zero, suc, Bool, true, false, List}
-use Rattle.std.proofs.Common.{length, map, Option, Some, None, Result, Ok, Err, refl, ap, sym, subst, arith, rules, inl}
-use Rattle.std.proofs.Common.{inr}
+use Rattle.std.proofs.Common.{length, map, Option, Some, None, Result, Ok, Err, refl, ap, sym, subst, arith, rules}
+use Rattle.std.proofs.Common.{inl, inr}
 use Rattle.std.proofs.lemmas.List.{length-map, length_push, map-append}
 use Rattle.std.proofs.lemmas.List.Sums.{count_by-le-length, sum_by_push}
 use Rattle.std.proofs.Math.Dec.{eqb-suc-zero}
@@ -18,17 +18,18 @@ use Rattle.auction_terms.specs.Day.{State, opening_state, replies_from, state_af
 use Rattle.day_road.specs.Heard.{HeardEntry, HearsAll, after_all, heard_from}
 use Rattle.journal.specs.EntryRecord.{RecordedCall, call_part, reply_part}
 use Rattle.journal.specs.JournalEntries.{day_left, entries_left}
-use Rattle.journal.specs.JournalFile.{RecordedDay, journal, journal_of, recorded_day}
+use Rattle.journal.specs.JournalFile.{RecordedDay, journal_of, recorded_day}
 use Rattle.journal.specs.declared.day.DayHeader.{DayHeader}
 use Rattle.journal.specs.declared.entries.Entries.{Entries}
 use Rattle.journal.specs.declared.reading.TheConstants.{MAX_JOURNAL_BYTES}
+use Rattle.journal_file.specs.Committed.{committed}
 use Rattle.order_file.specs.File.{FailsAsWanted, within_limit}
 use Rattle.order_file.specs.declared.fault.FileFault.{FileFault}
 use Rattle.order_file.specs.declared.fault.FileFault.TheVariants as file
 use Rattle.auction_c.specs.Calling.{fault_number}
 use Rattle.auction_c.specs.Journals.{ReplyPair, auction_in, fault_found, is_compared}
-use Rattle.auction_c.specs.Journals.{is_unlawful, journal_error, journal_found, pair_of, paired, pairs_in}
-use Rattle.auction_c.specs.JournalReading.{HasCompared, Reads, ReadsOrRefuses, Refuses, pair_in, compared_of}
+use Rattle.auction_c.specs.Journals.{is_unlawful, journal_error, journal_found, journal_in, pair_of, paired, pairs_in}
+use Rattle.auction_c.specs.JournalReading.{HasCompared, Reads, ReadsText, Refuses, pair_in, compared_of}
 use Rattle.auction_c.specs.JournalReading.{compared_with, first_with, is_of_journal, told}
 use Rattle.auction_c.specs.declared.errors.TheConstants.{BAD_JOURNAL, DONE, NO_MEMORY}
 use Rattle.auction_c.specs.declared.journals.comparing.Compared.{Compared}
@@ -232,21 +233,28 @@ open-none (Some w) x h = absurd (cc h)
 
 -- ---- the text
 
-pub too-long : (text : List ℕ) → MAX_JOURNAL_BYTES < length text → FailsAsWanted file.TooLong (journal text)
-unfolding journal within_limit
+pub too-long : (text : List ℕ) → MAX_JOURNAL_BYTES < length text → FailsAsWanted file.TooLong (journal_in text)
+unfolding journal_in within_limit
 too-long text long = search (rules, long)
 
-pub short-text : (text : List ℕ) → length text ≤ MAX_JOURNAL_BYTES → journal text ≡ journal_of text
-unfolding journal within_limit
+pub short-text : (text : List ℕ) → length text ≤ MAX_JOURNAL_BYTES → journal_in text ≡ journal_of (committed text)
+unfolding journal_in within_limit
 short-text text short = search (rules, short)
 
-pub read-of : (text : List ℕ) (old new : AuctionJournal) (r : Result RunningAuction ℕ)
-    (said : Result RecordedDay FileFault) → length text ≤ MAX_JOURNAL_BYTES → journal_of text ≡ said
-    → ReadsOrRefuses said old new r → ReadsOrRefuses (journal text) old new r
-read-of text old new r said short is read =
-    subst (λ (s : Result RecordedDay FileFault). ReadsOrRefuses s old new r) (sym (short-text text short ∙ is)) read
+pub read-of-lines : (text lines : List ℕ) (old new : AuctionJournal) (auction : RunningAuction) (taken : ℕ)
+    → length text ≤ MAX_JOURNAL_BYTES → taken ≡ length (committed text) → lines ≡ committed text
+    → Reads (journal_of lines) auction new → ReadsText text old (record new { taken = taken }) (Ok auction)
+read-of-lines text lines old new auction taken short count whole (opens, is, found) =
+    let said : journal_in text ≡ journal_of lines = short-text text short ∙ ap journal_of (sym whole) in (
+      ap journal_error said ∙ opens,
+      ap auction_in said ∙ is,
+      ap (λ (f : AuctionJournal). record f { taken = taken }) (found ∙ ap journal_found (sym said))
+          ∙ ap (λ (n : ℕ). record (journal_found (journal_in text)) { taken = n }) count,
+    )
 
-pub refused-of : (text : List ℕ) (old new : AuctionJournal) (error : ℕ) → length text ≤ MAX_JOURNAL_BYTES
-    → Refuses (journal_of text) old new error → Refuses (journal text) old new error
-refused-of text old new error short refuses =
-    subst (λ (s : Result RecordedDay FileFault). Refuses s old new error) (sym (short-text text short)) refuses
+pub refused-of-lines : (text lines : List ℕ) (old new : AuctionJournal) (error : ℕ)
+    → length text ≤ MAX_JOURNAL_BYTES → lines ≡ committed text → Refuses (journal_of lines) old new error
+    → Refuses (journal_in text) old new error
+refused-of-lines text lines old new error short whole refuses =
+    subst (λ (s : Result RecordedDay FileFault). Refuses s old new error)
+    (ap journal_of whole ∙ sym (short-text text short)) refuses

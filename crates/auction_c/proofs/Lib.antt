@@ -1,9 +1,11 @@
-mod AsBox
+mod Boxes
+mod HeldBox
+mod HeldLends
+mod HeldMakes
+mod HeldSends
 mod BoardErrorLaws
-mod MemberAsBox
 mod CopyLaws
 mod ClosingLaws
-mod CopiedEntryLaws
 pub mod LadderTicksLaws
 mod ManyLaws
 mod OpenLaws
@@ -11,3 +13,5 @@ mod ManyCallLaws
 mod OutcomeLaws
 mod JournalLineLaws
 mod JournalFoundLaws
+pub mod TakenEntryLaws
+pub mod TornTextLaws

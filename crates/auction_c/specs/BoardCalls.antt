@@ -30,9 +30,7 @@ use Rattle.auction_c.specs.declared.structs.AuctionTrade.{AuctionTrade}
 use Rattle.auction_c.specs.declared.errors.TheConstants.{BAD_LENGTH, BEHIND, BUSY, CLOSED, FULL, MISSING_MEMBER}
 use Rattle.auction_c.specs.declared.errors.TheConstants.{NO_MEMBER, NO_MEMORY, OVERTAKEN}
 use Rattle.auction_c.specs.Calling.{ladder_error, ticks_of}
-use Rattle.auction_c.specs.Encoding.{display_out, market_out, order_out, reply_out, state_out}
-use Rattle.auction_c.specs.Encoding.{trade_out}
-use Rattle.auction_c.specs.Entries.{AreEntries}
+use Rattle.auction_c.specs.Encoding.{display_out, entry_out, market_out, order_out, reply_out, state_out, trade_out}
 
 abbrev pub receipt_out : Receipt → AuctionReceipt
 receipt_out r = record { reply = reply_out r.reply; number = r.number }
@@ -158,7 +156,7 @@ pub record ShowsEntries (seen : ℕ) (room entries : List AuctionEntry) (copied 
   pub history : List Entry
   pub sees : SeesHistory old new history
   pub copied_is : copied ≡ min (length (drop seen history)) (length room)
-  pub entries_are : AreEntries copied (drop seen history) entries
+  pub entries_are : entries ≡ map entry_out (take copied (drop seen history)) ++ drop copied room
 
 -- the handle holds the member with this number of this board, whose account is one of this history
 abbrev pub HoldsAccount : FloorView → ℕ → Option BoardMember → Type 0
@@ -212,13 +210,14 @@ IsCloseError board handles error =
     IsLockError error
     ⊎ ((history : List Entry) × IsAccountsError (floor_view board history) handles error)
 
--- the board's history was written, with the counts of its members: it is a closing of the board of all these handles
-pub record WritesClosing (board : OpenedBoard) (handles : List AuctionMember) (entries : List AuctionEntry)
+-- the board's history was written into this room, with the counts of its members: it is a closing of the board of all
+-- these handles
+pub record WritesClosing (board : OpenedBoard) (handles : List AuctionMember) (room entries : List AuctionEntry)
     (counts : List ℕ) (written : ℕ) : Type 0 where
   pub closing : Closing
   pub closed : IsClosingOf board closing
   pub accounts : HoldAccounts (floor_view board closing.history.items) handles
-  pub entries_are : AreEntries written closing.history.items entries
+  pub entries_are : entries ≡ map entry_out closing.history.items ++ drop written room
   pub written_is : written ≡ length closing.history.items
   pub counts_are : counts ≡ closing.calls.items
 

@@ -1,6 +1,10 @@
--- How replies, displays, trades, ladders, states and configs are written for C.
+-- How replies, displays, trades, ladders, states, configs, commands and entries are written for C.
 use Rattle.std.specs.Prelude.{ℕ, ◌-◌, Bool, Option, Some, None, if◌then◌else◌, is_some, unwrap_or}
+use Rattle.auction_terms.specs.declared.Command.{Command}
+use Rattle.auction_terms.specs.declared.Command.TheVariants.{Enter, Change, Delete, OrderStatus, Indicate, ReadTrade}
+use Rattle.auction_terms.specs.declared.Command.TheVariants.{Uncross}
 use Rattle.auction_terms.specs.declared.Config.{Config}
+use Rattle.auction_terms.specs.declared.Entry.{Entry}
 use Rattle.auction_terms.specs.declared.Side.{Side}
 use Rattle.auction_terms.specs.declared.Side.TheVariants.{Bid, Ask}
 use Rattle.auction_terms.specs.declared.Limit.{Limit}
@@ -24,6 +28,7 @@ use Rattle.auction_terms.specs.Refusals.{refusal_number}
 use Rattle.auction_c.specs.declared.structs.AuctionCommand.{AuctionCommand}
 use Rattle.auction_c.specs.declared.structs.AuctionConfig.{AuctionConfig}
 use Rattle.auction_c.specs.declared.structs.AuctionDayState.{AuctionDayState}
+use Rattle.auction_c.specs.declared.structs.AuctionEntry.{AuctionEntry}
 use Rattle.auction_c.specs.declared.structs.AuctionMarketOrders.{AuctionMarketOrders}
 use Rattle.auction_c.specs.declared.structs.AuctionOrder.{AuctionOrder}
 use Rattle.auction_c.specs.declared.structs.AuctionReply.{AuctionReply}
@@ -180,3 +185,33 @@ command_tagged member tag id = record {
   has_limit = 0;
   has_peak = 0;
 }
+
+-- an enter of a member as a struct
+abbrev pub enter_out : ℕ → Side → Restriction → Limit → ℕ → Option ℕ → AuctionCommand
+enter_out member side restriction limit quantity peak = record (command_tagged member 1 0) {
+  side = side_out side;
+  restriction = restriction_out restriction;
+  has_limit = flag_out (is_some (tick_of limit));
+  limit = unwrap_or (tick_of limit) 0;
+  quantity = quantity;
+  has_peak = flag_out (is_some peak);
+  peak = unwrap_or peak 0;
+}
+
+-- a member's command as a struct
+abbrev pub command_out : ℕ → Command → AuctionCommand
+command_out member (Enter side restriction limit quantity peak) =
+    enter_out member side restriction limit quantity peak
+command_out member (Change id limit quantity) = record (command_tagged member 2 id) {
+  has_limit = flag_out (is_some (tick_of limit));
+  limit = unwrap_or (tick_of limit) 0;
+  quantity = quantity;
+}
+command_out member (Delete id) = command_tagged member 3 id
+command_out member (OrderStatus id) = command_tagged member 4 id
+command_out member Indicate = command_tagged member 5 0
+command_out member (ReadTrade number) = command_tagged member 6 number
+command_out member Uncross = command_tagged member 7 0
+
+abbrev pub entry_out : Entry → AuctionEntry
+entry_out e = record { command = command_out e.member e.command; reply = reply_out e.reply }

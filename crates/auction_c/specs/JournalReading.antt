@@ -15,7 +15,7 @@ use Rattle.order_file.specs.declared.fault.FileFault.TheVariants.{NoMemory as Me
 use Rattle.auction_c.specs.Encoding.{flag_out}
 use Rattle.auction_c.specs.Journals.{ReplyPair, StopsAt, pair_of, auction_in, first_unlawful_call, journal_found}
 use Rattle.auction_c.specs.Journals.{is_compared}
-use Rattle.auction_c.specs.Journals.{is_unlawful, journal_error}
+use Rattle.auction_c.specs.Journals.{is_unlawful, journal_error, journal_in, lines_found}
 use Rattle.auction_c.specs.ReadBack.{price_back}
 use Rattle.auction_c.specs.declared.errors.TheConstants.{BAD_JOURNAL, DONE, NO_MEMORY}
 use Rattle.auction_c.specs.declared.journals.comparing.Compared.{Compared}
@@ -71,6 +71,7 @@ told c members calls = record {
   compared = c.compared;
   unlawful = c.unlawful;
   first_unlawful = c.first_unlawful;
+  taken = 0;
 }
 
 -- a recorded text beside the lawful reply
@@ -111,3 +112,9 @@ abbrev pub ReadsOrRefuses : Result RecordedDay FileFault → AuctionJournal → 
     → Type 0
 ReadsOrRefuses said old new (Ok auction) = Reads said auction new
 ReadsOrRefuses said old new (Err error) = Refuses said old new error
+
+-- what came of a text: the auction of its whole lines, and what is told of them
+abbrev pub ReadsText : List ℕ → AuctionJournal → AuctionJournal → Result RunningAuction ℕ → Type 0
+ReadsText text old new (Ok auction) = (journal_error (journal_in text) ≡ DONE)
+    × (auction_in (journal_in text) ≡ Some auction) × (new ≡ lines_found text)
+ReadsText text old new (Err error) = Refuses (journal_in text) old new error

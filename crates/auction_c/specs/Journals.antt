@@ -17,10 +17,14 @@ use Rattle.auction_terms.specs.declared.Reply.{Reply}
 use Rattle.auction_terms.specs.declared.limits.TheConstants.{MAX_MEMBERS, MAX_TICK}
 use Rattle.auction_terms.specs.Auxiliary.RunningAuction.{RunningAuction, auction_after}
 use Rattle.auction_terms.specs.Day.{replay}
-use Rattle.journal.specs.JournalFile.{RecordedDay}
+use Rattle.auction_terms.specs.Results.{◌>>=◌}
+use Rattle.journal.specs.JournalFile.{RecordedDay, journal_of}
 use Rattle.journal.specs.JournalText.{journal_text}
 use Rattle.journal.specs.PrintedJournal.{call_line, call_lines}
 use Rattle.journal.specs.declared.day.DayHeader.{DayHeader}
+use Rattle.journal.specs.declared.reading.TheConstants.{MAX_JOURNAL_BYTES}
+use Rattle.journal_file.specs.Committed.{committed}
+use Rattle.order_file.specs.File.{within_limit}
 use Rattle.order_file.specs.declared.fault.FileFault.{FileFault}
 use Rattle.order_file.specs.declared.fault.FileFault.TheVariants.{TooLong, ReadFailed, BadMember, BadCommand, BadCount}
 use Rattle.order_file.specs.declared.fault.FileFault.TheVariants.{BadField, TooManyCommands, NotADay}
@@ -145,6 +149,11 @@ pub record WritesLines (entries : List AuctionEntry) (old new : List ℕ) (copie
 
 -- ---- what is found in a journal's text
 
+-- what the whole lines of a text say, those up to its last line end before any NUL, or their first fault; before it
+-- comes that all of the text is too long
+unfoldable pub journal_in : List ℕ → Result RecordedDay FileFault
+journal_in text = within_limit MAX_JOURNAL_BYTES text >>= λ whole. journal_of (committed whole)
+
 -- a recorded reply, empty where none was recorded, beside the lawful one
 pub record ReplyPair : Type 0 where
   pub recorded : List ℕ
@@ -188,6 +197,7 @@ counts_found members calls list = record {
   compared = count_by is_compared list;
   unlawful = count_by is_unlawful list;
   first_unlawful = first_unlawful_call list;
+  taken = 0;
 }
 
 -- a fault of this kind, of the record and the field with these numbers
@@ -201,6 +211,7 @@ fault_at kind number field = record {
   compared = 0;
   unlawful = 0;
   first_unlawful = 0;
+  taken = 0;
 }
 
 -- a fault of a journal
@@ -219,6 +230,10 @@ fault_found MemoryRefused = fault_at 0 0 0
 abbrev pub journal_found : Result RecordedDay FileFault → AuctionJournal
 journal_found (Ok j) = counts_found j.day.members (length j.calls) (pairs_in j)
 journal_found (Err fault) = fault_found fault
+
+-- what is told of a text whose whole lines are a journal, and how many bytes they have
+abbrev pub lines_found : List ℕ → AuctionJournal
+lines_found text = record (journal_found (journal_in text)) { taken = length (committed text) }
 
 -- the error of a journal, or of its config; memory apart
 abbrev pub journal_error : Result RecordedDay FileFault → ℕ

@@ -11,5 +11,5 @@ abbrev pub with_auction : AuctionBox → RunningAuction → AuctionBox
 with_auction h w = record { at = h.at; alloc = h.alloc; value = Some w }
 
 -- h ends with the last auction behind r
-abbrev pub BoxLends : MutBor AuctionBox → MutBor RunningAuction → Fml
-BoxLends h r = Lends the_row auction_row h r (with_auction h.now)
+abbrev pub AuctionBoxLends : MutBor AuctionBox → MutBor RunningAuction → Fml
+AuctionBoxLends h r = Lends the_row auction_row h r (with_auction h.now)

@@ -1,12 +1,10 @@
 pub mod Calling
-pub mod AuctionBox
-pub mod MemberBox
+pub mod HeapBox
 pub mod Decoding
 pub mod Lending
 pub mod MemberLending
 pub mod Encoding
 pub mod ReadBack
-pub mod Entries
 pub mod BoardCalls
 pub mod ManyCalls
 pub mod Outcomes

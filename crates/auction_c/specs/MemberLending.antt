@@ -11,5 +11,5 @@ abbrev pub holding_this : MemberBox → BoardMember → MemberBox
 holding_this h w = record { at = h.at; alloc = h.alloc; value = Some w }
 
 -- h ends with the last member behind r
-abbrev pub BoxLends : MutBor MemberBox → MutBor BoardMember → Fml
-BoxLends h r = Lends the_row member_row h r (holding_this h.now)
+abbrev pub MemberBoxLends : MutBor MemberBox → MutBor BoardMember → Fml
+MemberBoxLends h r = Lends the_row member_row h r (holding_this h.now)

@@ -1,7 +1,9 @@
 //! An auction on the heap, or none.
 ghost use Rattle.std.specs.Prelude.{◌≡◌, Option, Some, None, IsSome};
+ghost use Rattle.std.specs.Coded.{coded_option};
 ghost use Rattle.auction_terms.specs.Auxiliary.RunningAuction.{RunningAuction};
-ghost use Rattle.auction_c.specs.AuctionBox.{auction_coded, optional_box_owns};
+ghost use Rattle.auction.specs.contracts.Auction.{the_row};
+ghost use Rattle.auction_c.specs.HeapBox.{optional_box_owns};
 
 pub(crate) mod parts;
 
@@ -17,18 +19,18 @@ use std::{mem, ptr};
 pub struct AuctionBox {
     at: *mut u8,
     alloc: Global,
-    pub ghost value: { Option RunningAuction } by { auction_coded },
+    pub ghost value: { Option RunningAuction } by { coded_option the_row.coded },
 }
 
 impl Model for AuctionBox {
-    ghost also_owns = { λ h. optional_box_owns h.alloc h.at h.value };
+    ghost also_owns = { λ h. optional_box_owns the_row h.alloc h.at h.value };
 }
 
 // A handle goes from thread to thread as the auction that it holds.
 unsafe impl Send for AuctionBox {}
 
 impl AuctionBox {
-    ghost use Rattle.auction_c.specs.Lending.{BoxLends};
+    ghost use Rattle.auction_c.specs.Lending.{AuctionBoxLends};
     ghost use Rattle.std.specs.Borrow.{sem};
 
     pub fn of(b: Box<Auction>) -> AuctionBox
@@ -47,7 +49,7 @@ impl AuctionBox {
     /// The auction itself.
     pub fn get_mut(&mut self) -> &mut Auction
         requires { IsSome self.old.value }
-        ensures* writes_back { sem 𝓛 (BoxLends self.entry result) }
+        ensures* writes_back { sem 𝓛 (AuctionBoxLends self.entry result) }
         ensures value { Some result.now ≡ self.old.value }
     {
         unsafe { &mut *(self.at as *mut Auction) }

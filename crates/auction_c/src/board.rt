@@ -4,7 +4,6 @@ pub(crate) mod calling;
 pub(crate) mod calling_many;
 pub(crate) mod cloning;
 pub(crate) mod closing;
-pub(crate) mod copying;
 pub(crate) mod listing;
 pub(crate) mod opening;
 pub(crate) mod showing;

@@ -97,6 +97,7 @@ pub extern "C" fn callauction_board_call(
     ensures full { result ≡ FULL →
         HoldsAfter (FindsFull member.old.reserve) member.old.boxed.value member.new.boxed.value }
     ensures behind { result ≡ BEHIND → IsSomeAnd member.old.boxed.value IsBehindBoard }
+    ensures clients { member.new.clients ≡ member.old.clients }
 {
     if !member.is_open {
         return NO_MEMBER;
@@ -130,6 +131,7 @@ pub extern "C" fn callauction_board_apply_many(
     ensures missing { IfNone member.old.boxed.value
         ((result ≡ NO_MEMBER) × (applied.new ≡ 0) × (member.new.boxed.value ≡ None)) }
     ensures rest { IsSameFrom applied.new receipts.old receipts.new }
+    ensures clients { member.new.clients ≡ member.old.clients }
 {
     *applied = 0;
     if !member.is_open {
@@ -152,6 +154,7 @@ pub extern "C" fn callauction_board_look(
     ensures reserve { member.new.reserve ≡ member.old.reserve }
     ensures none { 0 < result → (member.old.boxed.value ≡ None) × (result ≡ NO_MEMBER) }
     ensures fault { 0 < result → (member.new.boxed.value ≡ member.old.boxed.value) × (shown.new ≡ shown.old) }
+    ensures clients { member.new.clients ≡ member.old.clients }
 {
     if !member.is_open {
         return NO_MEMBER;
@@ -181,6 +184,7 @@ pub extern "C" fn callauction_board_ladder(
         ladder_error (ticks_of m.board.config) (length bids.old) (length asks.old) ≡ 0) }
     ensures arrays { 0 < result → (bids.new ≡ bids.old) × (asks.new ≡ asks.old) }
     ensures numbers { 0 < result → (market.new ≡ market.old) × (calls.new ≡ calls.old) }
+    ensures clients { member.new.clients ≡ member.old.clients }
 {
     if !member.is_open {
         return NO_MEMBER;
@@ -205,6 +209,7 @@ pub extern "C" fn callauction_board_trades(
     ensures missing { IfNone member.old.boxed.value (result ≡ NO_MEMBER) }
     ensures error { IfSome member.old.boxed.value (λ m. 0 < result → IsShowError m result) }
     ensures same { 0 < result → (trades.new ≡ trades.old) × (copied.new ≡ copied.old) × (calls.new ≡ calls.old) }
+    ensures clients { member.new.clients ≡ member.old.clients }
 {
     if !member.is_open {
         return NO_MEMBER;
@@ -238,6 +243,8 @@ pub extern "C" fn callauction_board_clone(
         limits.has_same_limits m.board.config a.config ≡ true → 0 < result → IsShowError m result)) }
     ensures fresh { IfSome member.old.boxed.value (λ m. IfNone other.old.boxed.value (
         0 < result → IsListError m result)) }
+    ensures clients { member.new.clients ≡ member.old.clients }
+    ensures other_clients { other.new.clients ≡ other.old.clients }
 {
     if !member.is_open {
         return NO_MEMBER;
@@ -274,6 +281,7 @@ pub extern "C" fn callauction_board_state(
     ensures missing { IfNone member.old.boxed.value (result ≡ NO_MEMBER) }
     ensures error { IfSome member.old.boxed.value (λ m. 0 < result → IsShowError m result) }
     ensures same { 0 < result → state.new ≡ state.old }
+    ensures clients { member.new.clients ≡ member.old.clients }
 {
     if !member.is_open {
         return NO_MEMBER;
@@ -298,6 +306,7 @@ pub extern "C" fn callauction_board_history(
     ensures missing { IfNone member.old.boxed.value (result ≡ NO_MEMBER) }
     ensures error { IfSome member.old.boxed.value (λ m. 0 < result → IsShowError m result) }
     ensures same { 0 < result → (entries.new ≡ entries.old) × (copied.new ≡ copied.old) }
+    ensures clients { member.new.clients ≡ member.old.clients }
 {
     if !member.is_open {
         return NO_MEMBER;
@@ -311,6 +320,7 @@ pub extern "C" fn callauction_board_calls(member: &mut AuctionMember, calls: &mu
     ensures done { result ≡ 0 → IsSomeAnd member.old.boxed.value (λ m. calls.new ≡ m.view.calls) }
     ensures none { 0 < result → (member.old.boxed.value ≡ None) × (result ≡ NO_MEMBER) × (calls.new ≡ calls.old) }
     ensures member { (member.new.boxed.value ≡ member.old.boxed.value) × (member.new.reserve ≡ member.old.reserve) }
+    ensures clients { member.new.clients ≡ member.old.clients }
 {
     if !member.is_open {
         return NO_MEMBER;
@@ -330,6 +340,7 @@ pub extern "C" fn callauction_board_config_of(
         config.new ≡ encoded_as.config_out m.board.config member.old.reserve) }
     ensures none { 0 < result → (member.old.boxed.value ≡ None) × (result ≡ NO_MEMBER) × (config.new ≡ config.old) }
     ensures member { (member.new.boxed.value ≡ member.old.boxed.value) × (member.new.reserve ≡ member.old.reserve) }
+    ensures clients { member.new.clients ≡ member.old.clients }
 {
     if !member.is_open {
         return NO_MEMBER;
@@ -359,7 +370,7 @@ pub extern "C" fn callauction_board_close(
     requires identities { (boards : ℕ → OpenedBoard) × AreOfBoards boards members.old }
     ensures same { members.new ≡ members.old }
     ensures done { result ≡ 0 →
-        (board : OpenedBoard) × WritesClosing board members.old entries.new counts.new written.new }
+        (board : OpenedBoard) × WritesClosing board members.old entries.old entries.new counts.new written.new }
     ensures fault { 0 < result →
         (entries.new ≡ entries.old) × (counts.new ≡ counts.old) × (written.new ≡ written.old) }
     ensures empty { length members.old ≡ 0 → result ≡ BAD_LENGTH }
@@ -379,6 +390,7 @@ pub extern "C" fn callauction_board_leave(alloc: Global, member: &mut AuctionMem
     ensures member { member.new.boxed.value ≡ None }
     ensures none { IfNone member.old.boxed.value (result ≡ NO_MEMBER) }
     ensures done { IfSome member.old.boxed.value (λ m. result ≡ DONE) }
+    ensures clients { member.new.clients ≡ member.old.clients }
 {
     match member.take(alloc) {
         Some(_member) => DONE,

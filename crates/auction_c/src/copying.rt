@@ -6,10 +6,11 @@ ghost use Rattle.auction_c.specs.Encoding as encoded_as;
 ghost use Rattle.auction_c.specs.declared.errors.TheConstants.{DONE, IN_USE};
 
 use crate::encoding::{order_out, trade_out};
+use crate::entries::entry_out;
 use crate::errors::{BAD_LENGTH, DONE, IN_USE};
-use crate::structs::{AuctionMarketOrders, AuctionOrder, AuctionTrade};
+use crate::structs::{AuctionEntry, AuctionMarketOrders, AuctionOrder, AuctionTrade};
 use auction::Auction;
-use auction_terms::{Config, OpenOrder, Side, Trade};
+use auction_terms::{Config, Entry, OpenOrder, Side, Trade};
 use tick_ladder::Ladder;
 
 /// Writes this auction over one of the same limits, and answers `DONE`. Where that has other limits it changes nothing,
@@ -57,6 +58,18 @@ pub(crate) fn copy_orders(listed: &[OpenOrder], to: &mut [AuctionOrder]) -> usiz
     let most = listed.len().min(to.len());
     for i in 0..most {
         to[i] = order_out(listed[i]);
+    }
+    most
+}
+
+/// Writes entries of a history for C, as many as there is room for, and answers how many.
+pub(crate) fn copy_entries(history: &[Entry], to: &mut [AuctionEntry]) -> usize
+    ensures count { result ≡ min (length history.now) (length to.old) }
+    ensures copied { to.new ≡ map encoded_as.entry_out (take result history.now) ++ drop result to.old }
+{
+    let most = history.len().min(to.len());
+    for i in 0..most {
+        to[i] = entry_out(history[i]);
     }
     most
 }

@@ -165,7 +165,7 @@ pub(crate) fn reply_out(reply: Reply) -> AuctionReply
     }
 }
 
-fn restriction_out(restriction: Restriction) -> u8
+pub(crate) fn restriction_out(restriction: Restriction) -> u8
     ensures { result ≡ encoded_as.restriction_out restriction }
 {
     match restriction {

@@ -1,29 +1,19 @@
 //! Commands and entries of a history as C reads them.
-ghost use Rattle.std.specs.Prelude.{◌≡◌, Some};
-ghost use Rattle.auction_c.specs.Decoding as decoded_as;
+ghost use Rattle.std.specs.Prelude.{◌≡◌, is_some, unwrap_or};
+ghost use Rattle.auction_terms.specs.Book.{tick_of};
 ghost use Rattle.auction_c.specs.Encoding as encoded_as;
-ghost use Rattle.auction_c.specs.Entries.{IsEntry};
 
-use crate::encoding::{reply_out, side_out};
+use crate::encoding::{reply_out, restriction_out, side_out};
 use crate::structs::{AuctionCommand, AuctionEntry};
-use auction_terms::{Command, Entry, Limit, Restriction};
+use auction_terms::{Command, Entry, Limit};
 
 fn limit_out(limit: Limit) -> (u8, u32)
-    ensures { decoded_as.limit_in result.0 result.1 ≡ Some limit }
+    ensures flag { result.0 ≡ encoded_as.flag_out (is_some (tick_of limit)) }
+    ensures tick { result.1 ≡ unwrap_or (tick_of limit) 0 }
 {
     match limit {
         Limit::Market => (0, 0),
         Limit::At(tick) => (1, tick),
-    }
-}
-
-fn restriction_out(restriction: Restriction) -> u8
-    ensures { decoded_as.decoded_restriction result ≡ Some restriction }
-{
-    match restriction {
-        Restriction::Unrestricted => 0,
-        Restriction::OpeningOnly => 1,
-        Restriction::ClosingOnly => 2,
     }
 }
 
@@ -45,10 +35,9 @@ fn command_tagged(member: u8, tag: u8, id: u32) -> AuctionCommand
     }
 }
 
-/// A member's command as C reads it. It reads back as this command.
-pub(crate) fn command_out(member: u8, command: Command) -> AuctionCommand
-    ensures member { result.member ≡ member }
-    ensures reads_back { decoded_as.command_in result ≡ Some command }
+/// A member's command as C reads it.
+fn command_out(member: u8, command: Command) -> AuctionCommand
+    ensures { result ≡ encoded_as.command_out member command }
 {
     match command {
         Command::Enter {
@@ -93,7 +82,7 @@ pub(crate) fn command_out(member: u8, command: Command) -> AuctionCommand
 
 /// An entry of a history as C reads it. It reads back as this entry.
 pub(crate) fn entry_out(entry: Entry) -> AuctionEntry
-    ensures { IsEntry entry result }
+    ensures { result ≡ encoded_as.entry_out entry }
 {
     AuctionEntry {
         command: command_out(entry.member, entry.command),

@@ -29,6 +29,7 @@ impl AuctionHandle {
         ensures refused { 0 < result →
             (self.new.boxed.value ≡ self.old.boxed.value) × (self.new.reserve ≡ self.old.reserve) }
         ensures memory { 0 < result → result ≡ NO_MEMORY }
+        ensures clients { self.new.clients ≡ self.old.clients }
     {
         let Ok(made) = Box::new(alloc, auction) else {
             return NO_MEMORY;
@@ -41,6 +42,7 @@ impl AuctionHandle {
     pub(crate) fn hold_boxed(&mut self, made: Box<Auction>, reserve: u32)
         ensures value { self.new.boxed.value ≡ Some made.value }
         ensures reserve { self.new.reserve ≡ reserve }
+        ensures clients { self.new.clients ≡ self.old.clients }
     {
         *self = AuctionHandle {
             boxed: AuctionBox::of(made),

@@ -1,6 +1,5 @@
 //! The exports of journals: their text is in memory, and files are the caller's.
 ghost use Rattle.std.specs.Prelude.{◌≡◌, ◌<◌, ◌≤◌, ◌⊎◌, [], length, IfErr, IfOk, IsNone, IsSome};
-ghost use Rattle.journal.specs.JournalFile.{journal};
 ghost use Rattle.journal.specs.JournalText.{journal_text};
 ghost use Rattle.auction_c.specs.Journals as recorded_as;
 ghost use Rattle.auction_c.specs.declared.errors.TheConstants.{BAD_JOURNAL, BAD_LENGTH, IN_USE, NO_MEMORY};
@@ -74,10 +73,12 @@ pub extern "C" fn callauction_journal_entries(
     write_lines(&mut lines, entries, text, copied, written)
 }
 
-/// Opens an auction of the day of a journal, applies all its calls, and compares each recorded reply with the lawful
-/// one. The handle then holds the auction after them, none of whose calls is the operator's alone. It writes for how
-/// many members the day is, how many calls there are, how many of them have a recorded reply, of how many of these it
-/// isn't the lawful one, and the number of the first of them.
+/// Opens an auction of the day of a journal, applies the calls of its whole lines, and compares each recorded reply
+/// with the lawful one. The handle then holds the auction after them, none of whose calls is the operator's alone. It
+/// writes for how many members the day is, how many calls there are, how many of them have a recorded reply, of how
+/// many of these it isn't the lawful one, and the number of the first of them; and how many bytes the whole lines
+/// have, which are those up to the last line end before any NUL. What follows them, as a line that a crash has cut, is
+/// no call.
 ///
 /// Where the handle holds an auction already it answers `IN_USE`. Else it answers `BAD_JOURNAL`, and writes the fault,
 /// where the text is no journal; then the first fault of its config; and `NO_MEMORY` only where memory is refused.
@@ -88,16 +89,19 @@ pub extern "C" fn callauction_journal_open(
     text: &[u8],
     found: &mut AuctionJournal,
 ) -> u32
-    ensures auction { result ≡ 0 → handle.new.boxed.value ≡ recorded_as.auction_in (journal text.now) }
+    ensures auction { result ≡ 0 →
+        handle.new.boxed.value ≡ recorded_as.auction_in (recorded_as.journal_in text.now) }
     ensures reserve { result ≡ 0 → handle.new.reserve ≡ 0 }
-    ensures found { result ≡ 0 → found.new ≡ recorded_as.journal_found (journal text.now) }
-    ensures fault { result ≡ BAD_JOURNAL → found.new ≡ recorded_as.journal_found (journal text.now) }
+    ensures found { result ≡ 0 → found.new ≡ recorded_as.lines_found text.now }
+    ensures fault { result ≡ BAD_JOURNAL →
+        found.new ≡ recorded_as.journal_found (recorded_as.journal_in text.now) }
     ensures busy { IsSome handle.old.boxed.value → result ≡ IN_USE }
     ensures error { IsNone handle.old.boxed.value →
-        (result ≡ recorded_as.journal_error (journal text.now)) ⊎ (result ≡ NO_MEMORY) }
+        (result ≡ recorded_as.journal_error (recorded_as.journal_in text.now)) ⊎ (result ≡ NO_MEMORY) }
     ensures refused { 0 < result →
         (handle.new.boxed.value ≡ handle.old.boxed.value) × (handle.new.reserve ≡ handle.old.reserve) }
     ensures unchanged { 0 < result → (result ≡ BAD_JOURNAL → ⊥) → found.new ≡ found.old }
+    ensures clients { handle.new.clients ≡ handle.old.clients }
 {
     if handle.is_open {
         return IN_USE;

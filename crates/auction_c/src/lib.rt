@@ -81,6 +81,7 @@ pub extern "C" fn callauction_open(
         IfSome (open_fault c) (λ fault. result ≡ fault_number fault)) }
     ensures memory { IsNone handle.old.boxed.value → IfSome (decoded_as.config_in config.now) (λ c.
         open_fault c ≡ None → 0 < result → result ≡ NO_MEMORY) }
+    ensures clients { handle.new.clients ≡ handle.old.clients }
 {
     if handle.is_open {
         return IN_USE;
@@ -114,6 +115,7 @@ pub extern "C" fn callauction_apply(
     ensures reply { reply.new ≡
         option_map_or (λ a. (apply_struct handle.old.reserve a command.now reply.old).reply)
         handle.old.boxed.value reply.old }
+    ensures clients { handle.new.clients ≡ handle.old.clients }
 {
     if !handle.is_open {
         return NO_AUCTION;
@@ -145,6 +147,7 @@ pub extern "C" fn callauction_apply_many(
     ensures replies { replies.new ≡
         option_map_or (λ a. (apply_all handle.old.reserve a commands.now replies.old).replies)
         handle.old.boxed.value replies.old }
+    ensures clients { handle.new.clients ≡ handle.old.clients }
 {
     *applied = 0;
     if !handle.is_open {
@@ -165,6 +168,7 @@ pub extern "C" fn callauction_display(handle: &mut AuctionHandle, shown: &mut Au
     ensures reserve { handle.new.reserve ≡ handle.old.reserve }
     ensures shown { shown.new ≡
         option_map_or (λ a. encoded_as.display_out (display a.state)) handle.old.boxed.value shown.old }
+    ensures clients { handle.new.clients ≡ handle.old.clients }
 {
     if !handle.is_open {
         return NO_AUCTION;
@@ -194,6 +198,7 @@ pub extern "C" fn callauction_ladder(
     ensures market { result ≡ 0 → IfSome handle.old.boxed.value (λ a. market.new ≡
         encoded_as.market_out (ladder_now a)) }
     ensures unchanged { 0 < result → (bids.new ≡ bids.old) × (asks.new ≡ asks.old) × (market.new ≡ market.old) }
+    ensures clients { handle.new.clients ≡ handle.old.clients }
 {
     if !handle.is_open {
         return NO_AUCTION;
@@ -217,6 +222,7 @@ pub extern "C" fn callauction_trades(
     ensures trades { trades.new ≡
         map encoded_as.trade_out (take copied.new (unseen_trades seen handle.old.boxed.value))
         ++ drop copied.new trades.old }
+    ensures clients { handle.new.clients ≡ handle.old.clients }
 {
     *copied = 0;
     if !handle.is_open {
@@ -237,6 +243,7 @@ pub extern "C" fn callauction_calls(handle: &mut AuctionHandle, calls: &mut u32)
     ensures auction { handle.new.boxed.value ≡ handle.old.boxed.value }
     ensures reserve { handle.new.reserve ≡ handle.old.reserve }
     ensures calls { calls.new ≡ option_map_or (λ a. a.calls) handle.old.boxed.value calls.old }
+    ensures clients { handle.new.clients ≡ handle.old.clients }
 {
     if !handle.is_open {
         return NO_AUCTION;
@@ -254,6 +261,7 @@ pub extern "C" fn callauction_state(handle: &mut AuctionHandle, state: &mut Auct
     ensures reserve { handle.new.reserve ≡ handle.old.reserve }
     ensures state { state.new ≡
         option_map_or (λ a. encoded_as.state_out handle.old.reserve a) handle.old.boxed.value state.old }
+    ensures clients { handle.new.clients ≡ handle.old.clients }
 {
     if !handle.is_open {
         return NO_AUCTION;
@@ -274,6 +282,7 @@ pub extern "C" fn callauction_config_of(
     ensures reserve { handle.new.reserve ≡ handle.old.reserve }
     ensures config { config.new ≡
         option_map_or (λ a. encoded_as.config_out a.config handle.old.reserve) handle.old.boxed.value config.old }
+    ensures clients { handle.new.clients ≡ handle.old.clients }
 {
     if !handle.is_open {
         return NO_AUCTION;
@@ -289,6 +298,7 @@ pub extern "C" fn callauction_reset(handle: &mut AuctionHandle) -> u32
     ensures error { result ≡ option_map_or (λ a. DONE) handle.old.boxed.value NO_AUCTION }
     ensures auction { handle.new.boxed.value ≡ option_map (λ a. opened_auction a.config) handle.old.boxed.value }
     ensures reserve { handle.new.reserve ≡ handle.old.reserve }
+    ensures clients { handle.new.clients ≡ handle.old.clients }
 {
     if !handle.is_open {
         return NO_AUCTION;
@@ -321,6 +331,8 @@ pub extern "C" fn callauction_clone(
         has_same_limits a.config b.config ≡ true → result ≡ DONE)) }
     ensures memory { IsSome handle.old.boxed.value → IsNone other.old.boxed.value →
         0 < result → result ≡ NO_MEMORY }
+    ensures clients { handle.new.clients ≡ handle.old.clients }
+    ensures other_clients { other.new.clients ≡ other.old.clients }
 {
     if !handle.is_open {
         return NO_AUCTION;
@@ -345,6 +357,7 @@ pub extern "C" fn callauction_clone(
 pub extern "C" fn callauction_close(alloc: Global, handle: &mut AuctionHandle) -> u32
     ensures error { result ≡ option_map_or (λ a. DONE) handle.old.boxed.value NO_AUCTION }
     ensures auction { handle.new.boxed.value ≡ None }
+    ensures clients { handle.new.clients ≡ handle.old.clients }
 {
     if !handle.is_open {
         return NO_AUCTION;

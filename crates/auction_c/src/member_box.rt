@@ -1,7 +1,9 @@
 //! A member of a board on the heap, or none.
 ghost use Rattle.std.specs.Prelude.{◌≡◌, Option, Some, None, IsSome};
+ghost use Rattle.std.specs.Coded.{coded_option};
 ghost use Rattle.board_terms.specs.BoardViews.{BoardMember};
-ghost use Rattle.auction_c.specs.MemberBox.{member_coded, optional_box_owns};
+ghost use Rattle.shared_board.specs.contracts.member.SharedMember.{the_row};
+ghost use Rattle.auction_c.specs.HeapBox.{optional_box_owns};
 
 use crate::auction_box::parts::Parts;
 use shared_board::SharedMember;
@@ -15,18 +17,18 @@ use std::{mem, ptr};
 pub struct MemberBox {
     at: *mut u8,
     alloc: Global,
-    pub ghost value: { Option BoardMember } by { member_coded },
+    pub ghost value: { Option BoardMember } by { coded_option the_row.coded },
 }
 
 impl Model for MemberBox {
-    ghost also_owns = { λ h. optional_box_owns h.alloc h.at h.value };
+    ghost also_owns = { λ h. optional_box_owns the_row h.alloc h.at h.value };
 }
 
 // A handle goes from thread to thread as the member that it holds.
 unsafe impl Send for MemberBox {}
 
 impl MemberBox {
-    ghost use Rattle.auction_c.specs.MemberLending.{BoxLends};
+    ghost use Rattle.auction_c.specs.MemberLending.{MemberBoxLends};
     ghost use Rattle.std.specs.Borrow.{sem};
 
     pub fn of(b: Box<SharedMember>) -> MemberBox
@@ -45,7 +47,7 @@ impl MemberBox {
     /// The member itself.
     pub fn get_mut(&mut self) -> &mut SharedMember
         requires { IsSome self.old.value }
-        ensures* writes_back { sem 𝓛 (BoxLends self.entry result) }
+        ensures* writes_back { sem 𝓛 (MemberBoxLends self.entry result) }
         ensures value { Some result.now ≡ self.old.value }
     {
         unsafe { &mut *(self.at as *mut SharedMember) }

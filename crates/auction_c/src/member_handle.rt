@@ -36,6 +36,7 @@ impl AuctionMember {
     pub(crate) fn take(&mut self, alloc: Global) -> Option<Box<SharedMember>>
         ensures left { self.new.boxed.value ≡ None }
         ensures taken { option_map (λ b. b.value) result ≡ self.old.boxed.value }
+        ensures clients { self.new.clients ≡ self.old.clients }
     {
         if !self.is_open {
             return None;

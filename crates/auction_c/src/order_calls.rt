@@ -40,6 +40,7 @@ pub extern "C" fn callauction_orders(
         orders.new ≡ map encoded_as.order_out (take copied.new (orders_in_priority m a.state))
         ++ drop copied.new orders.old)) }
     ensures unchanged { 0 < result → (copied.new ≡ 0) × (orders.new ≡ orders.old) }
+    ensures clients { handle.new.clients ≡ handle.old.clients }
 {
     *copied = 0;
     if !handle.is_open {
@@ -78,6 +79,7 @@ pub extern "C" fn callauction_expiring(
         orders.new ≡ map encoded_as.order_out (take copied.new (orders_expiring a.config a.state))
         ++ drop copied.new orders.old) }
     ensures unchanged { 0 < result → (copied.new ≡ 0) × (orders.new ≡ orders.old) }
+    ensures clients { handle.new.clients ≡ handle.old.clients }
 {
     *copied = 0;
     if !handle.is_open {
@@ -116,6 +118,7 @@ pub extern "C" fn callauction_board_orders(
     ensures error { IfSome member.old.boxed.value (λ m. IsSome (decoded_as.decoded_member of) → 0 < result →
         IsListError m result) }
     ensures unchanged { 0 < result → (copied.new ≡ 0) × (orders.new ≡ orders.old) × (calls.new ≡ calls.old) }
+    ensures clients { member.new.clients ≡ member.old.clients }
 {
     *copied = 0;
     if !member.is_open {
@@ -147,6 +150,7 @@ pub extern "C" fn callauction_board_expiring(
     ensures missing { IfNone member.old.boxed.value (result ≡ NO_MEMBER) }
     ensures error { IfSome member.old.boxed.value (λ m. 0 < result → IsListError m result) }
     ensures unchanged { 0 < result → (copied.new ≡ 0) × (orders.new ≡ orders.old) × (calls.new ≡ calls.old) }
+    ensures clients { member.new.clients ≡ member.old.clients }
 {
     *copied = 0;
     if !member.is_open {

@@ -39,6 +39,7 @@ pub extern "C" fn callauction_uncross(
         nat_eq a.calls a.config.max_calls ≡ false → 0 < result → result ≡ NO_MEMORY) }
     ensures unchanged { 0 < result → (handle.new.boxed.value ≡ handle.old.boxed.value) × (reply.new ≡ reply.old)
         × (outcomes.new ≡ outcomes.old) × (copied.new ≡ 0) }
+    ensures clients { handle.new.clients ≡ handle.old.clients }
 {
     *copied = 0;
     if !handle.is_open {

@@ -210,4 +210,6 @@ pub struct AuctionJournal {
     pub unlawful: u32,
     /// The number of the first of these, from 1 on; 0 where there is none.
     pub first_unlawful: u32,
+    /// How many bytes the whole lines have, of which each call is; what follows them wasn't read.
+    pub taken: u32,
 }

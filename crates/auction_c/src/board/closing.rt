@@ -1,18 +1,18 @@
 //! The closing, as C gets it.
 ghost use Rattle.std.specs.Prelude.{◌≡◌, ◌≤◌, ◌<◌, All, Err, IfOk, IfErr, IfNone, IfSome, IsSomeAnd, length};
-ghost use Rattle.std.specs.Prelude.{ℕ, true, false};
+ghost use Rattle.std.specs.Prelude.{ℕ, true, false, ◌++◌, drop, map};
 ghost use Rattle.auction_terms.specs.Day.{calls_of};
 ghost use Rattle.board_terms.specs.Closings.{IsAccount};
 ghost use Rattle.board_terms.specs.declared.closing.Closing.{Closing};
 ghost use Rattle.board_terms.specs.BoardViews.{IsClosingOf, OpenedBoard};
-ghost use Rattle.auction_c.specs.Entries.{AreEntries};
 ghost use Rattle.auction_c.specs.BoardCalls.{AreOfBoards};
 ghost use Rattle.auction_c.specs.BoardCalls.{HoldAccounts, HoldsAccount, IsAccountError, IsAccountsError, IsCloseError};
 ghost use Rattle.auction_c.specs.BoardCalls.{IsHandleError, IsLockError, WritesClosing, first_boxed, lacks_room};
+ghost use Rattle.auction_c.specs.Encoding as encoded_as;
 ghost use Rattle.auction_c.specs.declared.errors.TheConstants.{BAD_LENGTH, NO_MEMBER};
 
-use crate::board::copying::copy_entries;
 use crate::board::taking::take_floor;
+use crate::copying::copy_entries;
 use crate::errors::{BAD_LENGTH, BEHIND, DONE, MISSING_MEMBER, NO_MEMBER};
 use crate::member_handle::AuctionMember;
 use crate::structs::AuctionEntry;
@@ -86,7 +86,7 @@ fn hand_out(
     requires counts { length counts.old ≡ floor.board.members }
     ensures closing { (closing : Closing) × IsClosingOf floor.board closing
         × (closing.history.items ≡ floor.history)
-        × AreEntries written.new closing.history.items entries.new
+        × (entries.new ≡ map encoded_as.entry_out closing.history.items ++ drop written.new entries.old)
         × (written.new ≡ length closing.history.items) × (counts.new ≡ closing.calls.items) }
 {
     let Closing { history, calls } = floor.into_closing();
@@ -159,7 +159,7 @@ pub(crate) fn close_all(
     requires identities { (boards : ℕ → OpenedBoard) × AreOfBoards boards handles.old }
     ensures same { handles.new ≡ handles.old }
     ensures done { result ≡ 0 →
-        (board : OpenedBoard) × WritesClosing board handles.old entries.new counts.new written.new }
+        (board : OpenedBoard) × WritesClosing board handles.old entries.old entries.new counts.new written.new }
     ensures unchanged { 0 < result →
         (entries.new ≡ entries.old) × (counts.new ≡ counts.old) × (written.new ≡ written.old) }
     ensures empty { length handles.old ≡ 0 → result ≡ BAD_LENGTH }

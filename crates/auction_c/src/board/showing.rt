@@ -4,9 +4,8 @@ ghost use Rattle.auction_c.specs.BoardCalls.{IsLadderError, IsShowError, ShowsEn
 ghost use Rattle.auction_c.specs.BoardCalls.{ShowsTrades};
 ghost use Rattle.auction_c.specs.Calling.{ladder_error, ticks_of};
 
-use crate::board::copying::copy_entries;
 use crate::board::taking::{see_floor, take_floor, take_seen_floor};
-use crate::copying::{copy_ladder, copy_trades};
+use crate::copying::{copy_entries, copy_ladder, copy_trades};
 use crate::encoding::state_out;
 use crate::errors::{BAD_LENGTH, DONE};
 use crate::structs::{AuctionDayState, AuctionEntry, AuctionMarketOrders, AuctionTrade};

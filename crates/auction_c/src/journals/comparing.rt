@@ -61,7 +61,7 @@ fn compared_with(counts: Compared, compared: bool, unlawful: bool) -> Compared
     }
 }
 
-/// What is told of it, for so many members; the calls are fewer than 2 ^ 32.
+/// What is told of it, for so many members, but for the bytes that were read; the calls are fewer than 2 ^ 32.
 pub(crate) fn told(counts: Compared, members: u8, calls: u32) -> AuctionJournal
     requires compared { counts.compared ≤ calls }
     requires unlawful { counts.unlawful ≤ calls }
@@ -77,6 +77,7 @@ pub(crate) fn told(counts: Compared, members: u8, calls: u32) -> AuctionJournal
         compared: counts.compared as u32,
         unlawful: counts.unlawful as u32,
         first_unlawful: counts.first_unlawful as u32,
+        taken: 0,
     }
 }
 

@@ -1,38 +1,13 @@
 //! The day of a journal, as a config says it.
 ghost use Rattle.std.specs.Prelude.{◌≡◌};
-ghost use Rattle.auction.specs.ConfigFault.{open_fault};
 ghost use Rattle.auction_c.specs.Journals as recorded_as;
 
 use crate::decoding::config_in;
 use crate::errors::{BAD_MEMBER, NO_CONFIG, fault_out};
 use crate::structs::AuctionConfig;
-use auction::OpenFault;
-use auction_terms::{Config, MAX_CALLS, MAX_MEMBERS, MAX_OPEN_ORDERS, MAX_TICK, MAX_TICKS};
+use auction::{OpenFault, config_fault};
+use auction_terms::{Config, MAX_MEMBERS, MAX_TICK};
 use journal::DayHeader;
-
-// The first fault of a config, as an opening finds it.
-#[tactic(auto, unfolding(auction::specs::ConfigFault::open_fault))]
-fn fault_of(config: Config) -> Option<OpenFault>
-    ensures { result ≡ open_fault config }
-{
-    if config.low == 0
-        || config.low > config.high
-        || config.high > MAX_TICK
-        || config.high - config.low >= MAX_TICKS
-    {
-        Some(OpenFault::BadBounds)
-    } else if config.reference < config.low || config.reference > config.high {
-        Some(OpenFault::BadReference)
-    } else if config.max_open == 0
-        || config.max_open > MAX_OPEN_ORDERS
-        || config.max_calls == 0
-        || config.max_calls > MAX_CALLS
-    {
-        Some(OpenFault::BadCapacity)
-    } else {
-        None
-    }
-}
 
 fn is_above(most: u32, number: Option<u32>) -> bool
     ensures { result ≡ recorded_as.is_above most number }
@@ -69,6 +44,6 @@ pub(crate) fn day_in(config: &AuctionConfig, members: u32) -> Result<DayHeader, 
 {
     match config_in(config) {
         None => Err(NO_CONFIG),
-        Some(decoded) => day_unless(fault_of(decoded), decoded, members),
+        Some(decoded) => day_unless(config_fault(decoded), decoded, members),
     }
 }

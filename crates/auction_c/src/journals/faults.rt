@@ -22,6 +22,7 @@ fn fault_at(kind: u32, number: u64, field: u32) -> AuctionJournal
         compared: 0,
         unlawful: 0,
         first_unlawful: 0,
+        taken: 0,
     }
 }
 

@@ -4,8 +4,8 @@ ghost use Rattle.auction.specs.ConfigFault.{open_fault};
 ghost use Rattle.auction.specs.declared.OpenFault.TheVariants as opening;
 ghost use Rattle.day_road.specs.Inputs.{CanReadOn};
 ghost use Rattle.journal.specs.JournalEntries.{day_left};
-ghost use Rattle.journal.specs.JournalFile.{journal};
-ghost use Rattle.auction_c.specs.JournalReading.{ReadsOrRefuses, Refuses};
+ghost use Rattle.journal.specs.JournalFile.{journal_of};
+ghost use Rattle.auction_c.specs.JournalReading.{ReadsOrRefuses, ReadsText, Refuses};
 
 use crate::errors::fault_out;
 use crate::journals::comparing::{Comparison, told};
@@ -14,6 +14,7 @@ use crate::structs::AuctionJournal;
 use auction::{Auction, OpenFault};
 use day_road::{hear_all, pass_over};
 use journal::{Entries, MAX_JOURNAL_BYTES};
+use journal_file::committed_len;
 use order_file::FileFault;
 use std::alloc::Global;
 
@@ -54,20 +55,35 @@ fn read_entries(
     }
 }
 
-/// The auction of a journal's day after all its calls, and what is found of its replies; or the error, and the
-/// journal's fault.
+// What the whole lines of a text come to.
+fn read_lines(alloc: Global, lines: &[u8], found: &mut AuctionJournal) -> Result<Auction, u32>
+    ensures { ReadsOrRefuses (journal_of lines.now) found.old found.new result }
+{
+    match Entries::open(alloc, lines) {
+        Ok(mut entries) => read_entries(alloc, &mut entries, found),
+        Err(fault) => Err(refuse(found, fault)),
+    }
+}
+
+/// The auction of a journal's day after the calls of its whole lines, what is found of its replies, and how many bytes
+/// these lines have; or the error, and the journal's fault.
 pub(crate) fn read_journal(
     alloc: Global,
     text: &[u8],
     found: &mut AuctionJournal,
 ) -> Result<Auction, u32>
-    ensures { ReadsOrRefuses (journal text.now) found.old found.new result }
+    ensures { ReadsText text.now found.old found.new result }
 {
     if text.len() > MAX_JOURNAL_BYTES {
         return Err(refuse(found, FileFault::TooLong));
     }
-    match Entries::open(alloc, text) {
-        Ok(mut entries) => read_entries(alloc, &mut entries, found),
-        Err(fault) => Err(refuse(found, fault)),
+    let taken = committed_len(text);
+    let (lines, _) = text.split_at(taken);
+    match read_lines(alloc, lines, found) {
+        Ok(auction) => {
+            found.taken = taken as u32;
+            Ok(auction)
+        }
+        Err(error) => Err(error),
     }
 }

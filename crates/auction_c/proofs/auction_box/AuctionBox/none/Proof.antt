@@ -1,96 +1,13 @@
 -- The proof of `AuctionBox::none` (src/auction_box.rt); rt looks here.
--- `none` makes a struct of null and an allocator, that owns nothing more.
-use mathlib.Core.Path.{refl, sym, subst}
-use mathlib.Core.List.{List, [], ◌∷◌, ◌++◌}
-use lib.Dec.{T}
-use Rattle.std.proofs.Common.{lit<}
-use seplogic.Ra.Ura.{Ura}
-use mir.Val.{Val, vnull, vstruct, of_list, has_ty, WT}
-use base.Logic.{SProp, ent, emp, id⊢}
-use base.Fml.{ftrue, fsep}
-use prog.Memory.{Memory}
-use prog.Routine.{Routine}
-use prog.Wp.{WpFn, Tables}
-use types.Logic.{Logic}
-use contract.Monad.{Fun}
-use contract.Running.{tables, tables_of}
-use sound.WpLaws.{WpFn-mono}
-use types.Kit.{Item, ‵, raw, ◌⊛◌, ◌$◌, ◌∵◌, !, qed, by, move, keep, drop, use1, join, split, fsplit, fjoin, fpack}
-use types.Kit.{feq_l, feq_i, suffices, done}
-use types.Run.{lit, no_more, and_then, returns, enter}
-use types.Part.{agg}
-use types.ByLocal.{alloc_all, pass_all, free_all, look_at, get, sets}
-use denote.Exit.{yes}
-use denote.RattleType.{Valss}
-use denote.RawPtr.{RawPtr, null_ptr}
-use denote.Signature.{Slot, plain, type_at}
-use denote.Steps.{nothing}
-use denote.Struct.Struct.{within}
-use denote.Struct.Owning.{shape}
-use denote.Triple.Spec.{triple_of}
-use denote.Triple.Table.{entered}
-use denote.Triple.Walked.{says, Stays, stay_dropped, walk_of, ends_at, Goes-dropped, walk_Meets}
-use Rattle.core.proofs.alloc.Calls.{handle_tells, Fits, α}
-use Rattle.std_alloc.proofs.ResultValues.{and_tt}
-use Rattle.std_alloc.proofs.BoxSteps.Form.{P, box_ty, owning}
-use Rattle.std.specs.Prelude.{None}
-use Rattle.auction_c.proofs.AsBox.{E}
+use Rattle.auction_c.proofs.Boxes.{an_auction}
+use Rattle.auction_c.proofs.HeldBox.{by_code}
+use Rattle.auction_c.proofs.HeldMakes.{meets_none}
 use Rattle.auction_c.specs.contracts.auction_box.AuctionBox.none as F
 use Rattle.auction_c.specs.contracts.auction_box.AuctionBox.none.Key.{name as #self}
 use Rattle.auction_c.proofs.auction_box.AuctionBox.none.Statement as stated
 use Rattle.auction_c.proofs.auction_box.AuctionBox.none.Code as code
 
-abbrev Alloc : Slot 0
-Alloc = plain (λ _. E.al.row)
-
-abbrev stayed : Stays (F.ended).signature.params (F.ended).kept
-stayed = (stay_dropped Alloc yes, tt)
-
-abbrev word : Val → Val
-word hv = vstruct (of_list (vnull ∷ hv ∷ []))
-
-pair_typed : (hv : Val) → Fits E.al hv → T (has_ty (box_ty E) (word hv)) × WT (word hv)
-pair_typed hv fa = (and_tt (has_ty (α E.al) hv) fa.0, (record { fits = lit< tt }, (fa.1, tt)))
-
-module _ {M : Type 1} {𝓤 : Ura M} (𝓛 : Logic 𝓤) (at_mem : Memory → SProp 𝓤) (run : Routine → Fun 𝓤) (𝓣 : Tables 𝓤 𝓛.H)
-  where
-    open 𝓛 use {H}
-
-    walk : (z : (walk_of 𝓛 F.ended stayed (F.clauses 𝓛 at_mem run)).Ghost)
-        → ent 𝓤 ((walk_of 𝓛 F.ended stayed (F.clauses 𝓛 at_mem run)).pre z)
-        (WpFn 𝓤 H 𝓣.C 𝓣.Λ code.function (z.0.4.0 ++ []) ((walk_of 𝓛 F.ended stayed (F.clauses 𝓛 at_mem run)).post z))
-    walk z =
-        let Post = (walk_of 𝓛 F.ended stayed (F.clauses 𝓛 at_mem run)).post z in
-        let a = z.0.3.0 in
-        let To = type_at (F.signature).result tt in
-        let made : To.Denot = record { at = null_ptr; alloc = a; value = None } in
-        qed 𝓛 ((‵ ftrue ⊛ ‵ (fsep (E.al.row.own_val a z.0.4.0) ftrue)) ∷ raw (emp 𝓤) ∷ []) ∵ split ! $ drop ! $ fsplit !
-        $
-        handle_tells E.al ! a z.0.4.0 (λ hv ea fa.
-        let Γ : List (Item 𝓤) = ‵ (E.al.row.own_val a (hv ∷ [])) ∷ ‵ ftrue ∷ raw (emp 𝓤) ∷ [] in
-        by ! (subst (λ (us : List Val). ent 𝓤 (types.Kit.⋆ 𝓛 Γ) (WpFn 𝓤 H 𝓣.C 𝓣.Λ code.function (us ++ []) Post))
-        (sym ea)
-        (qed 𝓛 Γ ∵ enter ! 𝓣.C 𝓣.Λ code.function (hv ∷ []) _ $ alloc_all ! (λ ls. pass_all ! refl (fa, tt) $
-        sets ! (agg ! (and_then ! (lit ! tt) (and_then ! (get ! refl) (no_more !)))) refl (pair_typed hv fa) $ returns !
-        (look_at ! 0 refl) $ free_all ! refl $
-        -- the fields, of which the allocator owns nothing, and nothing more
-        nothing ! $ move ! (1 ∷ 0 ∷ []) $ fjoin ! $ feq_i ! (List Val) (vnull ∷ []) (vnull ∷ []) refl $ fjoin ! $ feq_i
-        !
-        (List Val) (word hv ∷ []) (word hv ∷ []) refl $ fjoin ! $
-        fpack ! (Valss (RawPtr ∷ P E ∷ [])) (within (shape (owning E)) (null_ptr, (a, tt)) (word hv ∷ []))
-        (vnull ∷ [], (hv ∷ [], tt)) $ nothing ! $ move ! (1 ∷ 0 ∷ []) $ fjoin ! $
-        use1 𝓛 (‵ (To.own_val made (word hv ∷ []))) (id⊢ 𝓤 _) $ keep ! (0 ∷ []) $
-        suffices ! _ (ends_at 𝓛 F.ended stayed (F.clauses 𝓛 at_mem run) z (word hv) made (tt, tt) (tt, tt)) $ says !
-        refl
-        $
-        nothing ! $ nothing ! $ fjoin ! $ join ! $ nothing ! $ join ! $ done !))))
-
 pub none_spec : {M : Type 1} → stated.statement M
-unfolding tables_of
 none_spec 𝓤 𝓛 𝓜 𝓡 wired =
-    let 𝓣 : Tables 𝓤 𝓛.H = tables_of 𝓤 𝓛.H 𝓜 (tables 𝓤 𝓛.H 𝓜 𝓡 𝓡.env) in
-    entered 𝓤 𝓛.H (triple_of 𝓛 F.signature (F.spec 𝓛 𝓜.mem 𝓡.returns)) 𝓣.C 𝓣.Λ #self code.function
-    (code.unfolded 𝓤 𝓛.H 𝓜 𝓡 wired)
-    (walk_Meets 𝓛 F.ended stayed (Goes-dropped 𝓛 0 Alloc yes (λ κs x f. refl), tt) (F.clauses 𝓛 𝓜.mem 𝓡.returns)
-    (WpFn 𝓤 𝓛.H 𝓣.C 𝓣.Λ code.function) (WpFn-mono 𝓤 𝓛.H 𝓛.laws 𝓣 code.function)
-    (walk 𝓛 𝓜.mem 𝓡.returns 𝓣))
+    by_code 𝓛 𝓜 𝓡 F.signature (F.spec 𝓛 𝓜.mem 𝓡.returns) #self code.function (code.unfolded 𝓤 𝓛.H 𝓜 𝓡 wired)
+    (meets_none an_auction 𝓛)

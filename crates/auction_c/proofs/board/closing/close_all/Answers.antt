@@ -33,8 +33,8 @@ returns-clause-done c =
     ap (set now 0) c.take_first_floor.ensures.same ∙ set-get_or now 0 c.index-handles-0.result in
     let accounts : HoldAccounts f now = subst (HoldAccounts f) back (c.accounts_error-error.ensures.accounts cc) in (
       f.board,
-      writes_closing f now c.hand_out.new.entries c.hand_out.new.counts c.hand_out.new.written accounts
-          c.hand_out.ensures.closing,
+      writes_closing f now c.args.entries.now c.hand_out.new.entries c.hand_out.new.counts c.hand_out.new.written
+          accounts c.hand_out.ensures.closing,
     )
 
 pub returns-then-error-ne-DONE-clause-error : goal.returns-then-error-ne-DONE-clause-error

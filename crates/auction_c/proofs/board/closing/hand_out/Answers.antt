@@ -1,7 +1,8 @@
 -- Answers of `hand_out` (src/board/closing.rt): what the prover left open; rt looks here.
-use Rattle.std.proofs.Common.{rules, ◌≡◌, ◌≤◌, ap, arith, length, subst, List}
+use Rattle.std.proofs.Common.{rules, ◌≡◌, ◌≤◌, ◌++◌, ◌∙◌, ap, arith, drop, length, map, List}
+use Rattle.std.proofs.lemmas.List.{take_all}
 use Rattle.auction_terms.specs.declared.Entry.{Entry}
-use Rattle.auction_c.specs.Entries.{AreEntries}
+use Rattle.auction_c.specs.Encoding.{entry_out}
 use Rattle.auction_c.proofs.board.closing.hand_out.Goals as goal
 
 pub returns : goal.returns
@@ -16,8 +17,9 @@ returns c =
         c.into_closing-history.result,
         c.into_closing-history.ensures.closed,
         c.into_closing-history.ensures.history,
-        subst (λ (h : List Entry). AreEntries c.copy_entries.result h c.copy_entries.new.to) c.deref.ensures.value
-            c.copy_entries.ensures.entries,
+        c.copy_entries.ensures.copied ∙ ap (λ (es : List Entry). map entry_out es ++ drop c.copy_entries.result
+            c.args.entries.now) (take_all c.copy_entries.result c.deref.result.now (omega (arith, written, all))
+            ∙ c.deref.ensures.value),
         written,
         search rules,
       );

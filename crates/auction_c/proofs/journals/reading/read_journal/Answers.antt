@@ -1,6 +1,6 @@
 -- Answers of `read_journal` (src/journals/reading.rt): what the prover left open; rt looks here.
-use Rattle.journal.specs.JournalFile.{journal_of}
-use Rattle.auction_c.proofs.JournalFoundLaws.{read-of, refused-of, too-long}
+use Rattle.std.proofs.Common.{◌∙◌}
+use Rattle.auction_c.proofs.JournalFoundLaws.{read-of-lines, refused-of-lines, too-long}
 use Rattle.auction_c.proofs.journals.reading.read_journal.Goals as goal
 
 pub returns-then-text-gt-MAX_JOURNAL_BYTES : goal.returns-then-text-gt-MAX_JOURNAL_BYTES
@@ -8,9 +8,12 @@ returns-then-text-gt-MAX_JOURNAL_BYTES c = c.refuse.ensures _ (too-long _ c.if-t
 
 pub returns-in-Ok : goal.returns-in-Ok
 returns-in-Ok c =
-    read-of _ _ _ _ _ c.if-text-gt-MAX_JOURNAL_BYTES.false c.in-Ok.ensures.day c.read_entries.ensures
+    read-of-lines c.args.text.now _ c.args.found.now c.read_lines.new.found c.in-Ok.auction
+    c.committed_len-taken.result c.if-text-gt-MAX_JOURNAL_BYTES.false c.committed_len-taken.ensures.count
+    (c.split_at.ensures.front ∙ c.committed_len-taken.ensures.front) c.in-Ok.ensures
 
 pub returns-in-Err : goal.returns-in-Err
 returns-in-Err c =
-    refused-of _ _ _ _ c.if-text-gt-MAX_JOURNAL_BYTES.false
-    (c.refuse-in-Err.ensures (journal_of c.args.text.now) c.in-Err.ensures.day)
+    refused-of-lines c.args.text.now _ c.args.found.now c.read_lines.new.found c.in-Err.error
+    c.if-text-gt-MAX_JOURNAL_BYTES.false (c.split_at.ensures.front ∙ c.committed_len-taken.ensures.front)
+    c.in-Err.ensures
