@@ -8,6 +8,7 @@ import functools
 import os
 import pathlib
 import shutil
+import sys
 import time
 from collections.abc import Iterator
 
@@ -15,10 +16,17 @@ import built
 import gate
 from beside import Fault, Product, Task
 
+sys.path.insert(0, str(built.TOP / "build"))
+
+import program  # noqa: E402
+import toolchain  # noqa: E402
+
 PROGRAM, TESTS, CLOCK, LIBRARY = "PROGRAM", "TESTS", "CLOCK", "LIBRARY"
 """Words of a command that mean what is built."""
 PROVED = "PROVED"
 """The crates below the library's, as the gate proved them."""
+LIBRARIES = "LIBRARIES"
+"""The folder of what the gate proved and others stand on: LIBRARIES/CRATE/CRATE.rlib."""
 KEPT = built.TOP / "out/check/gate"
 """Where what the gate built is kept for the parts, and for a run that goes on."""
 LINES = {
@@ -27,6 +35,13 @@ LINES = {
     CLOCK: "rt: clock proved",
 }
 """What the gate prints once these are built."""
+
+
+def libraries() -> list[str]:
+    """The crates that others stand on, lowest first. Raises OSError."""
+    named = toolchain.named_by(built.TOP)
+    below = {name for crate in named.values() for name in crate}
+    return [name for name in toolchain.crates_below(built.TOP, *named) if name in below]
 
 
 def usual_files() -> dict[str, pathlib.Path]:
@@ -45,9 +60,9 @@ class Builds:
         and where temporary folders are.
         """
         self.begin = time.time()
-        self.needed, self.has_gate = needed, has_gate
+        self.needed, self.has_gate, self.is_gate_done = needed, has_gate, is_gate_done
         self.gate = rooms / ".gate"  # no part has such a name
-        self.files = {**usual_files(), LIBRARY: built.ARCHIVE}
+        self.files = {**usual_files(), LIBRARY: built.ARCHIVE, LIBRARIES: KEPT / "libraries"}
         by_gate = {name: KEPT / self.files[name].name for name in LINES}
         if has_gate or is_gate_done and all(file.is_file() for file in by_gate.values()):
             self.files |= by_gate
@@ -56,6 +71,8 @@ class Builds:
     def is_there(self, name: str) -> bool:
         """Whether this is built of the sources as they are."""
         file = self.files[name]
+        if name == LIBRARIES:
+            return self.is_gate_done and file.is_dir()
         return file.is_file() if file.parent == KEPT else built.is_current(file)
 
     def path(self, name: str) -> str:
@@ -71,7 +88,9 @@ class Builds:
             )
             for name, line in LINES.items()
         ]
-        return (*found, Product(PROVED, below))
+        lines = frozenset(f"rt: {name} proved" for name in libraries())
+        libraries_there = Product(LIBRARIES, lines, take=self.keep_libraries)
+        return (*found, Product(PROVED, below), libraries_there)
 
     def keep(self, name: str) -> None:
         """Keeps a file that the gate built, where the parts look, and where ./callboard does.
@@ -84,6 +103,19 @@ class Builds:
             shutil.copy(self.gate / usual.relative_to(built.TOP), begun)
             os.utime(begun, (self.begin, self.begin))  # a source that was changed since is newer
             os.replace(begun, to)
+
+    def keep_libraries(self) -> None:
+        """Keeps the libraries that the gate proved, which takes them away at its end. Raises
+        OSError.
+        """
+        shutil.rmtree(self.files[LIBRARIES], ignore_errors=True)
+        for name in libraries():
+            own = self.gate / "crates" / name / "out/rlib"
+            program.link_folder(own, self.files[LIBRARIES] / name)
+
+    def drop_libraries(self) -> None:
+        """Takes them away: they fill a gigabyte."""
+        shutil.rmtree(self.files[LIBRARIES], ignore_errors=True)
 
     def tasks(self) -> Iterator[Task]:
         """What builds what isn't there, each after the one before it."""

@@ -62,21 +62,13 @@ class Edit:
 
 
 def all_edits(top: pathlib.Path = TOP) -> list[Edit]:
-    """All edits: those of crates/*/must-fail, which the gate tries, and those of
+    """All edits: those of crates/*/must-fail, which the test command tries, and those of
     checks/wrong_bodies.
     """
     in_gate = sorted((top / "crates").glob("*/must-fail/*.edit"))
     beside = sorted((top / "checks/wrong_bodies").glob("*/*.edit"))
     found = [Edit(file.parent.parent.name, file, True) for file in in_gate]
     return found + [Edit(file.parent.name, file, False) for file in beside]
-
-
-def kept_crates(top: pathlib.Path = TOP) -> list[str]:
-    """The crates with edits that the gate tries and with kept proofs, over which an edit takes
-    seconds to try.
-    """
-    found = dict.fromkeys(edit.crate for edit in all_edits(top) if edit.is_in_gate)
-    return [name for name in found if any((top / "crates" / name / "out/incremental").glob("*"))]
 
 
 @dataclasses.dataclass(frozen=True)

@@ -4,6 +4,7 @@ import hashlib
 import os
 import pathlib
 import subprocess
+from collections.abc import Iterable
 
 LISTED = ["git", "ls-files", "-z", "--cached", "--others", "--exclude-standard"]
 LEFT_OUT = {"out", "__pycache__", ".git", ".hypothesis", ".mypy_cache"}
@@ -82,18 +83,31 @@ class Passes:
 class Seconds:
     """How long each part took when it last passed: a line has its name and its seconds."""
 
-    def __init__(self, file: pathlib.Path) -> None:
-        """Reads a file, if there is one of these. Raises OSError."""
+    def __init__(self, file: pathlib.Path, stored: pathlib.Path) -> None:
+        """Reads a file, if there is one of these; what it hasn't is of a stored one. Raises
+        OSError.
+        """
         self.file = file
-        self.of: dict[str, float] = {}
-        with contextlib.suppress(FileNotFoundError, ValueError):
-            rows = [line.split() for line in file.read_text(encoding="utf-8").splitlines()]
-            self.of = {row[0]: float(row[1]) for row in rows if len(row) == 2}
+        self.of = seconds_in(stored) | seconds_in(file)
 
     def add(self, name: str, seconds: float) -> None:
         """A part took so long. Raises OSError."""
         self.of[name] = seconds
-        write_whole(self.file, "".join(f"{it} {self.of[it]:.1f}\n" for it in self.of))
+        self.write(self.file, [*self.of])
+
+    def write(self, file: pathlib.Path, names: Iterable[str]) -> None:
+        """Writes how long these took, as far as it is known, the longest first. Raises OSError."""
+        known = sorted((it for it in names if it in self.of), key=lambda it: -self.of[it])
+        write_whole(file, "".join(f"{it} {self.of[it]:.1f}\n" for it in known))
+
+
+def seconds_in(file: pathlib.Path) -> dict[str, float]:
+    """What a file has of them; nothing where there is none, or it is none of these. Raises OSError.
+    """
+    with contextlib.suppress(FileNotFoundError, ValueError):
+        rows = [line.split() for line in file.read_text(encoding="utf-8").splitlines()]
+        return {row[0]: float(row[1]) for row in rows if len(row) == 2}
+    return {}
 
 
 def write_whole(file: pathlib.Path, text: str) -> None:

@@ -4,11 +4,11 @@ seconds, and the counts at the end.
 A part is a command, run at the top of the repository. Where its last line is `N passed, N failed`
 it counts as many; else it counts one, by its status. Its output goes to out/check/NAME.log, and is
 printed too where it failed, or with --show. A part that fails keeps no other from running. One that
-measures times or fills memory runs alone. How long each took is kept in out/check/seconds.txt, as
-the longest are begun first, and what passed in out/check/passed.txt, for --resume. The status is 0
-where all passed, 1 where something failed, 2 where a part, or a tool or a module of Python that the
-parts need, doesn't exist, or another ./check runs here; then no part runs; and 130 where the run
-was broken off.
+measures times or fills memory runs alone. The longest are begun first: how long each took is kept
+in out/check/seconds.txt (a new clone goes by checks/seconds.txt), and what passed in
+out/check/passed.txt, for --resume. The status is 0 where all passed, 1 where something failed, 2
+where a part, or a tool or a module of Python that the parts need, doesn't exist, or another ./check
+runs here; then no part runs; and 130 where the run was broken off.
 """
 import argparse
 import contextlib
@@ -39,7 +39,7 @@ import gate  # noqa: E402
 import machine  # noqa: E402
 import proved_binaries  # noqa: E402
 from beside import Ended, Product, Schedule, Task, Viewer  # noqa: E402
-from builds import CLOCK, LIBRARY, PROGRAM, TESTS, Builds  # noqa: E402
+from builds import CLOCK, LIBRARIES, LIBRARY, PROGRAM, TESTS, Builds  # noqa: E402
 from package import PACKAGE, Package  # noqa: E402
 from passes import Passes, Seconds, sum_of  # noqa: E402
 
@@ -49,7 +49,7 @@ COUNTS = re.compile(r"(\d+) passed, (\d+) failed")
 LOGS = built.TOP / "out/check"
 GATE, BODIES = "ci", "bodies"
 """The part that proves all from nothing, and builds the program and its tests; and the one that
-tries the wrong bodies of the crates whose proofs are kept, which the gate then leaves to it.
+tries the wrong bodies over what it proved, which the gate then leaves to it.
 """
 MOST_NAMED = 3  # of the parts that took longest
 BROKEN_OFF = 130
@@ -76,7 +76,7 @@ class Part:
     def needs(self) -> frozenset[str]:
         """What has to be built or installed before it can begin."""
         words = frozenset(re.split("[ =]", self.command))
-        return words & {PROGRAM, TESTS, CLOCK, LIBRARY, PACKAGE}
+        return words & {PROGRAM, TESTS, CLOCK, LIBRARY, LIBRARIES, PACKAGE}
 
 
 FEW = " -p checks.one_of_each"
@@ -125,7 +125,7 @@ PARTS = [
     Part("header", "the library's header and its crate", "library/test --header", "gcc"),
     Part(
         GATE,
-        "proofs from nothing, wrong bodies, tests, runs",
+        "proofs from nothing, tests, runs",
         "checks/gate.py",
         "rt setpriv",
         is_proof=True,
@@ -133,8 +133,8 @@ PARTS = [
     ),
     Part(
         BODIES,
-        "wrong bodies over kept proofs",
-        "nice checks/wrong-bodies --kept",
+        "wrong bodies over what ci proves",
+        f"nice checks/wrong-bodies --over {LIBRARIES}",
         "rt",
         is_proof=True,
         short="",
@@ -195,7 +195,7 @@ PARTS = [
         "venue",
         "members over the network and by FIX, kills, pages",
         REST_OF_VENUE,
-        "chromedriver chromium g++ nsenter openssl unshare",
+        "chromedriver chromium g++ nsenter openssl strace systemd-analyze unshare",
         OF_VENUES,
         short=f"{REST_OF_VENUE} -p one_of_each",
     ),
@@ -270,6 +270,7 @@ PACKAGES = {
     "readelf": "binutils",
     "setpriv": "util-linux",
     "strace": "strace",
+    "systemd-analyze": "systemd",
     "time": "time",
     "xargs": "findutils",
     "setsid": "util-linux",
@@ -312,13 +313,9 @@ def words_of(command: str, builds: Builds | Package) -> list[str]:
 
 
 def tried_elsewhere(parts: set[str]) -> list[str]:
-    """The crates whose wrong bodies are tried over kept proofs. Where the gate isn't among the
-    parts, it is all of them.
-    """
-    if BODIES not in parts:
-        return []
+    """The crates whose wrong bodies the gate leaves to another part."""
     in_gate = dict.fromkeys(it.crate for it in edits.all_edits() if it.is_in_gate)
-    return edits.kept_crates() if GATE in parts else [*in_gate]
+    return [*in_gate] if BODIES in parts else []
 
 
 def tasks_of(parts: list[Part], builds: Builds | Package) -> list[Task]:
@@ -333,9 +330,7 @@ def tasks_of(parts: list[Part], builds: Builds | Package) -> list[Task]:
         gives: tuple[Product, ...] = ()
         if part.name == GATE and isinstance(builds, Builds):
             words, gives = functools.partial(gate.words, builds.gate, tried), builds.of_gate()
-        if part.name == BODIES:
-            words = functools.partial(words_of, " ".join([part.command, *tried]), builds)
-        if part.name in (BODIES, CRATES.name) and isinstance(builds, Builds):
+        if part.name == CRATES.name and isinstance(builds, Builds):
             needs = frozenset(builds.needed) if not builds.has_gate else needs
         found.append(Task(part.name, words, needs, gives, part.is_alone, part.is_proof))
     return found
@@ -545,7 +540,7 @@ def run(parts: list[Part], asked: argparse.Namespace, rooms: pathlib.Path) -> in
         print(f"check: a short run; crates that changed since {since}", flush=True)
     look_for_tools(parts)
     logs.mkdir(exist_ok=True)
-    passes, seconds = Passes(logs / "passed.txt", sources()), Seconds(logs / "seconds.txt")
+    passes, seconds = Passes(logs / "passed.txt", sources()), seconds_of(logs)
     done = [it for it in parts if asked.resume and it.name in passes.of]
     left = [it for it in parts if it not in done]
     for part in left:
@@ -556,10 +551,19 @@ def run(parts: list[Part], asked: argparse.Namespace, rooms: pathlib.Path) -> in
         results.result(part.name, (count, 0), took, " before")
     needed = {it for part in left for it in part.needs()}
     builds = Builds(needed, GATE in [it.name for it in left], GATE in passes.of, rooms)
+    if LIBRARIES in needed - builds.there and not builds.has_gate:
+        raise beside.Fault(f"{BODIES} takes what {GATE} proves: name {GATE} too")
     status = run_tasks(tasks_of(left, builds), builds.there, results, logs, rooms, asked.jobs)
+    if BODIES in passes.of:
+        builds.drop_libraries()
     if status != BROKEN_OFF and not asked.short:
         keep_binaries(results, builds, [part.name for part in parts])
     return status
+
+
+def seconds_of(logs: pathlib.Path) -> Seconds:
+    """How long parts took here, or where checks/seconds.txt was made. Raises OSError."""
+    return Seconds(logs / "seconds.txt", built.TOP / "checks/seconds.txt")
 
 
 def keep_binaries(results: Results, builds: Builds, parts: list[str]) -> None:
@@ -581,7 +585,7 @@ def run_installed(parts: list[Part], asked: argparse.Namespace, rooms: pathlib.P
     look_for_tools(found)
     logs = LOGS / "installed"
     logs.mkdir(exist_ok=True)
-    results = Results(found, asked.show, Seconds(logs / "seconds.txt"))
+    results = Results(found, asked.show, seconds_of(logs))
     return run_tasks(tasks_of(found, package), package.there, results, logs, rooms, asked.jobs)
 
 
@@ -632,6 +636,8 @@ def words() -> argparse.Namespace:
     )
     parser.add_argument("--list", action="store_true", help="print the parts, and run none")
     parser.add_argument("--show", action="store_true", help="print all that the parts print")
+    text = "make checks/seconds.txt of how long parts took here, for new clones, and run none"
+    parser.add_argument("--keep-seconds", action="store_true", help=text)
     parser.add_argument(
         "-j",
         "--jobs",
@@ -668,6 +674,9 @@ def words() -> argparse.Namespace:
 def main() -> int:
     """Runs the parts that are asked for; answers the status."""
     asked = words()
+    if asked.keep_seconds:
+        seconds_of(LOGS).write(built.TOP / "checks/seconds.txt", [part.name for part in PARTS])
+        return 0
     if asked.list:
         for part in PARTS:
             print(f"{part.name:12} {part.what}{' (alone)' if part.is_alone else ''}")

@@ -6,29 +6,34 @@ goal or an answer of its own, and not for a function that it calls. A body is al
 is elsewhere than in the bodies of functions, as in a constant or a struct.
 """
 import dataclasses
+import functools
 import pathlib
 import re
 import subprocess
-from collections.abc import Iterator
+from collections.abc import Callable, Iterable, Iterator
 
 from edits import Edit
 
+SEVERAL = re.compile(r"several functions are named `(?P<name>\w+)`: help: write one of (?P<all>.*)")
+"""What is said of a name in `--only` that isn't one function's."""
 HEADER = re.compile(
     r'(?P<indent> *)(?:pub(?:\([^)]*\))? )?(?:unsafe )?(?:extern "C" )?fn (?P<name>\w+)'
 )
 STATUS = re.compile(r"fn (?P<symbol>[^ ]+): (?P<status>.*)")
 ERROR = re.compile(r"(?:note: )?(?:\./)?(?P<file>proofs/\S+?):\d+:\d+: error: (?P<text>.*)")
+UNPROVED = re.compile(r"note: (?P<file>src/\S+?):(?P<line>\d+):\d+: it is not proved that ")
+"""What is said where something that a function promises isn't proved of a body."""
 LOST_NAME = re.compile(r"has no field|is not in scope|has no `|was not admitted")
 """What is said where a proof names what an edit took away, which shows little of the contract."""
 LAST_LINES = 20  # of a check that failed, which are printed
-CHECK = ["rt", "check"]
 
 
 @dataclasses.dataclass(frozen=True)
 class Function:
-    """A function of a file: its name, and the lines of its body, from 1."""
+    """A function of a file: its name, the line of its head, and those of its body, from 1."""
 
     name: str
+    head: int
     begin: int
     end: int
 
@@ -50,7 +55,7 @@ def functions_of(text: str) -> Iterator[Function]:
         begin = next((at for at in rest if opens_body(lines[at], indent)), None)
         end = next((at for at in rest if lines[at] == f"{indent}}}"), None)
         if begin is not None and end is not None and begin < end:
-            yield Function(header["name"], begin + 2, end)
+            yield Function(header["name"], number + 1, begin + 2, end)
 
 
 @dataclasses.dataclass(frozen=True)
@@ -102,10 +107,10 @@ def groups(tried: list[Edit], crate: pathlib.Path) -> tuple[list[dict[Edit, Plac
     return found, alone
 
 
-def made(group: dict[Edit, Place], crate: pathlib.Path) -> dict[pathlib.Path, str]:
+def made(edits: Iterable[Edit], crate: pathlib.Path) -> dict[pathlib.Path, str]:
     """The texts of the files with these edits made."""
     texts: dict[pathlib.Path, str] = {}
-    for edit in group:
+    for edit in edits:
         for path, old, new in edit.pairs():
             file = crate / path
             text = texts.get(file) or file.read_text(encoding="utf-8")
@@ -113,27 +118,70 @@ def made(group: dict[Edit, Place], crate: pathlib.Path) -> dict[pathlib.Path, st
     return texts
 
 
-def is_refused(place: Place, crate: str, printed: list[str]) -> bool:
-    """Whether a check says that this function isn't proved, for a reason of its own."""
-    start = "::".join(part for part in (crate, place.module) if part) + "::"
-    for line in printed:
-        said = STATUS.match(line)
-        if not said or not said["symbol"].startswith(start):
-            continue
+def lines_of(place: Place, text: str) -> range:
+    """The lines of a function in the text of its file."""
+    every = functions_of(text)
+    return next((range(it.head, it.end + 1) for it in every if it.name == place.name), range(0))
+
+
+def is_refused(place: Place, lines: range, crate: str, printed: list[str]) -> bool:
+    """Whether a check says that this function, which is in these lines of its file, isn't proved,
+    for a reason of its own.
+    """
+    parts, status = said_of(place, crate, printed)
+    if not parts or status == "proved":
+        return False
+    notes = [it for it in map(UNPROVED.match, printed) if it and it["file"] == place.path]
+    if "`search` did not prove" in status or any(int(it["line"]) in lines for it in notes):
+        return True
+    folder = "proofs/" + "/".join(parts[1:]) + "/"
+    errors = [it for it in map(ERROR.match, printed) if it and it["file"].startswith(folder)]
+    return any(not LOST_NAME.search(it["text"]) for it in errors)
+
+
+def said_of(place: Place, crate: str, printed: list[str]) -> tuple[list[str], str]:
+    """What a check says of a place's function: the parts of its whole name, and whether it is
+    proved; nothing where it says nothing of it. A method has the module of its type, so one of
+    another module is meant where no other function has its name.
+    """
+    found = []
+    for said in filter(None, map(STATUS.match, printed)):
         parts = re.sub(r"::<#\w+>", "", said["symbol"]).split("::")
-        if parts[-1] != place.name or len(parts) - len(start.split("::")) > 1:
-            continue
-        if "`search` did not prove" in said["status"]:
-            return True
-        folder = "proofs/" + "/".join(parts[1:]) + "/"
-        errors = [ERROR.match(it) for it in printed]
-        own = [it["text"] for it in errors if it and it["file"].startswith(folder)]
-        return any(not LOST_NAME.search(text) for text in own)
-    return False
+        if (parts[0], parts[-1]) == (crate, place.name):
+            found.append((parts, said["status"]))
+    module = [part for part in (crate, *place.module.split("::")) if part]
+    near = [it for it in found if it[0][: len(module)] == module and len(it[0]) <= len(module) + 2]
+    return (near or (found if len(found) == 1 else [([], "")]))[0]
 
 
-def check(crate: pathlib.Path, words: list[str]) -> list[str]:
-    """Checks a crate by a command, over what earlier checks kept: the lines that are printed."""
+Check = Callable[[pathlib.Path, Iterable[Place]], list[str]]
+"""Checks a crate in a folder, these of its functions at least: the lines that are printed."""
+
+
+def check(crate: pathlib.Path, places: Iterable[Place]) -> list[str]:
+    """Checks all of a crate, over what earlier checks kept: the lines that are printed."""
+    return printed_by(["rt", "check"], crate)
+
+
+def check_only(crate: pathlib.Path, places: Iterable[Place], words: list[str]) -> list[str]:
+    """Checks some functions of a crate by a command, all where there is none: the lines that are
+    printed. A name that several have means those of the place's module.
+    """
+    names = {place.name: [place.name] for place in places}
+    modules = {place.name: place.module for place in places}
+    while True:
+        asked = [word for name in names.values() for each in name for word in ("--only", each)]
+        printed = printed_by([*words, *asked], crate)
+        said = next(filter(None, map(SEVERAL.search, printed)), None)
+        if said is None or names[said["name"]] != [said["name"]]:
+            return printed
+        start = "::".join(filter(None, (crate.name, modules[said["name"]]))) + "::"
+        every = re.findall(r"`([^`]+)`", said["all"])
+        names[said["name"]] = [it for it in every if it.startswith(start)]
+
+
+def printed_by(words: list[str], crate: pathlib.Path) -> list[str]:
+    """The lines that a command prints in a crate's folder."""
     ran = subprocess.run(
         words,
         cwd=crate,
@@ -148,44 +196,72 @@ def check(crate: pathlib.Path, words: list[str]) -> list[str]:
 
 
 def printed_with(
-    group: dict[Edit, Place], crate: pathlib.Path, words: list[str]
+    edits: Iterable[Edit], crate: pathlib.Path, places: Iterable[Place], check: Check
 ) -> list[str]:
     """What a check prints of the crate with these edits made, which are taken back after it."""
-    texts = made(group, crate)
+    texts = made(edits, crate)
     kept = {file: file.read_text(encoding="utf-8") for file in texts}
     try:
         for file, text in texts.items():
             file.write_text(text, encoding="utf-8")
-        return check(crate, words)
+        return check(crate, places)
     finally:
         for file, text in kept.items():
             file.write_text(text, encoding="utf-8")
 
 
-def refused_of(
-    group: dict[Edit, Place], crate: pathlib.Path, words: list[str]
-) -> Iterator[Edit]:
+def refused_of(group: dict[Edit, Place], crate: pathlib.Path, check: Check) -> Iterator[Edit]:
     """Tries the bodies of a group: those that are refused. One that doesn't compile hides what is
     said of the others, so such a group is halved.
     """
-    printed = printed_with(group, crate, words)
+    texts = made(group, crate)
+    printed = printed_with(group, crate, group.values(), check)
     if any(STATUS.match(line) for line in printed):
-        yield from [it for it, place in group.items() if is_refused(place, crate.name, printed)]
+        for edit, place in group.items():
+            lines = lines_of(place, texts[crate / place.path])
+            if is_refused(place, lines, crate.name, printed):
+                yield edit
     elif len(group) > 1:
         rows = [*group.items()]
-        yield from refused_of(dict(rows[: len(rows) // 2]), crate, words)
-        yield from refused_of(dict(rows[len(rows) // 2 :]), crate, words)
+        yield from refused_of(dict(rows[: len(rows) // 2]), crate, check)
+        yield from refused_of(dict(rows[len(rows) // 2 :]), crate, check)
 
 
-def refused(
-    tried: list[Edit], crate: pathlib.Path, words: list[str] = CHECK
-) -> Iterator[Edit]:
-    """Tries bodies of one crate in groups by a command: those that are refused. None is where the
-    crate isn't proved as it is.
+def is_refused_alone(edit: Edit, crate: pathlib.Path, check: Check) -> bool:
+    """Tries a body whose edit isn't in one function: whether something of the crate isn't proved
+    with it, where it compiles.
     """
-    printed = check(crate, words)
-    if not printed or not printed[-1].startswith("logic=proved"):
+    printed = printed_with([edit], crate, (), check)
+    statuses = [said["status"] for said in map(STATUS.match, printed) if said]
+    return any("`search` did not prove" in status for status in statuses) or bool(
+        statuses and any(ERROR.match(line) for line in printed)
+    )
+
+
+def is_proved(crate: pathlib.Path) -> bool:
+    """Whether a crate is proved as it is; what the check said last is printed where it isn't."""
+    printed = check(crate, ())
+    found = bool(printed) and printed[-1].startswith("logic=proved")
+    if not found:
         print("\n".join(printed[-LAST_LINES:]), flush=True)
-        return
-    for group in groups(tried, crate)[0]:
-        yield from refused_of(group, crate, words)
+    return found
+
+
+def refused(tried: list[Edit], crate: pathlib.Path) -> Iterator[Edit]:
+    """Tries bodies of one crate in groups: those that are refused. None is where the crate isn't
+    proved as it is.
+    """
+    if is_proved(crate):
+        for group in groups(tried, crate)[0]:
+            yield from refused_of(group, crate, check)
+
+
+def refused_over(tried: list[Edit], crate: pathlib.Path, words: list[str]) -> Iterator[Edit]:
+    """Tries bodies of one crate, which is proved as it is, function by function by a command, and
+    those that change more than one function by all of the crate: those that are refused.
+    """
+    only = functools.partial(check_only, words=words)
+    found, alone = groups(tried, crate)
+    for group in found:
+        yield from refused_of(group, crate, only)
+    yield from (edit for edit in alone if is_refused_alone(edit, crate, only))

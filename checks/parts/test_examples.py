@@ -2,15 +2,13 @@
 
 An order file is run for its lines, also record by record (--live), and for its journal, trades and
 book, which examples/forms has; its journal is run for the same and audited. The journals of
-examples/audits are audited. README's session is held. `rt ci` runs copies of the
-order files: the examples of crates/callboard/src/tests/examples.rt, one for each file and with its
-name. They are compared with the files, and the journals with the records and the lines that they
-have in them. The files of examples/floors are run on a board. The program's own stored run, which
-`rt ci` makes, is the audit of examples/audits/changed.csv: its status isn't 0.
+examples/audits are audited. README's session is held. The journals are compared with the records
+and the lines that they have in them. The files of examples/floors are run on a board. The stored
+run of the program, which `rt ci` makes, is the audit of examples/audits/changed.csv: its status
+isn't 0.
 """
 import itertools
 import pathlib
-import re
 import subprocess
 from collections.abc import Iterator
 
@@ -34,11 +32,6 @@ DAY = {
 """The options of a day record in its order, with the defaults."""
 CRATE = built.FOLDER
 MOST_SECONDS = 60  # of one run of the program
-EXAMPLE = re.compile(
-    r'Example \{\s*name: "(\w+)",'
-    r'\s*words: &\[\s*"callboard"([^\]]*)\],'
-    r'\s*text: "\\\n([^"]*)",\s*\}'
-)
 Example = tuple[list[str], str, str]
 """The words, the records and the printed lines of an example."""
 Row = tuple[str, list[str], str, int, str]
@@ -58,18 +51,6 @@ def run_by_gate() -> Row:
         (CRATE / name).read_text() for name in ("args", "stdin", "stdout", "status")
     )
     return "the stored run", words.split(), records, int(status), lines
-
-
-def copied() -> dict[str, Example]:
-    """Each example of the tests, by its name. Raises OSError."""
-    found: dict[str, Example] = {}
-    for name, options, text in EXAMPLE.findall((CRATE / "src/tests/examples.rt").read_text()):
-        rows = [line.split(" -> ") for line in text.splitlines()]
-        words = re.findall(r'"([^"]*)"', options)
-        records = "".join(f"{record}\n" for record, _ in rows)
-        lines = "".join(f"{place}: {reply}\n" for place, (_, reply) in enumerate(rows, 1))
-        found[name] = words, records, lines
-    return found
 
 
 def form_of(name: str, form: str) -> str:
@@ -110,14 +91,8 @@ def floor_table() -> Iterator[Row]:
 
 
 STORED = {path.stem: stored(path.stem) for path in sorted(EXAMPLES.glob("*.csv"))}
-COPIES = copied()
 STORED_RUN = run_by_gate()
 ROWS: list[Row] = [STORED_RUN, *run_table(STORED), *audit_table(), *floor_table()]
-
-
-@pytest.mark.parametrize("name", sorted(STORED.keys() | COPIES.keys()))
-def test_the_copy_is_the_file(name: str) -> None:
-    assert COPIES.get(name) == STORED.get(name)
 
 
 @pytest.mark.parametrize("name", STORED)

@@ -3,6 +3,7 @@ rule of documents finds one that is planted, as that for the clauses of wrong bo
 check says of wrong bodies that it tries together is read.
 """
 import pathlib
+import re
 import subprocess
 import sys
 from collections.abc import Callable, Iterator
@@ -103,6 +104,47 @@ def test_a_definition_with_a_second_meaning(tmp_path: pathlib.Path, name: str) -
     assert faults_of(sources.names_of_two_crates, planted(tmp_path, **files)) == [
         f"{name} has two meanings: crates/other/specs/Day.antt:1, crates/terms/specs/Line.antt:1"
     ]
+
+
+@pytest.mark.parametrize("folder, first, second", [
+    ("specs", "Day.antt", "abbrev pub price : Day → ℕ\n"),
+    ("specs", "Day.antt", "pub record price : Type 0 where\n"),
+    ("proofs", "DayLaws.antt", "pub price : (day : Day) → day ≡ day\n"),
+    ("proofs", "DayLaws.antt", "module _ (day : Day) where\n  pub price : day ≡ day\n"),
+    ("src", "day.rt", "pub fn price(day: &Day) -> u32 {\n"),
+    ("src", "day.rt", "pub(crate) const fn price<D: Day>(day: &D) -> u32 {\n"),
+    ("src", "day.rt", "pub(in crate::a_day) fn price() {\n"),
+    ("src", "day.rt", "struct price;\n"),
+])
+def test_a_name_with_a_second_meaning_in_its_crate(
+    tmp_path: pathlib.Path, folder: str, first: str, second: str
+) -> None:
+    others = {"specs": ("Line.antt", "unfoldable pub price : Line → ℕ\n"),
+              "proofs": ("LineLaws.antt", "pub price : (line : Line) → line ≡ line\n"),
+              "src": ("line.rt", "pub fn price(line: &Line) -> u32 {\n")}
+    name, text = others[folder]
+    files = {f"crates/terms/{folder}/{first}": second, f"crates/terms/{folder}/{name}": text}
+    (fault,) = faults_of(sources.names_of_two_modules, planted(tmp_path, **files))
+    places = re.findall(rf"crates/terms/{folder}/(\w+\.\w+):[12]\b", fault)
+    assert fault.startswith("price has two meanings in a crate: ") and places == [first, name]
+
+
+@pytest.mark.parametrize("files", [
+    {"specs/Day.antt": "abbrev pub price : Day → ℕ\n", "src/day.rt": "pub fn price() -> u32 {\n"},
+    {"src/day.rt": "fn price() -> u32 {\n", "src/line.rt": "pub fn price() -> u32 {\n"},
+    {"src/day.rt": "    pub fn price(&self) {\n", "src/line.rt": "    pub fn price(&self) {\n"},
+    {"src/day.rt": "pub fn price() {\n", "src/tests/day.rt": "pub fn price() {\n"},
+    {"proofs/ALaws.antt": "price : a ≡ a\n", "proofs/BLaws.antt": "pub price : b ≡ b\n"},
+    {"specs/Day.antt": "pub record Day : Type 0 where\n  pub price : ℕ\n",
+     "specs/Line.antt": "module _ where\n  pub record Line : Type 0 where\n    pub price : ℕ\n"},
+    {"proofs/day/a/Answers.antt": "pub price : goal.price\n",
+     "proofs/day/b/Answers.antt": "pub price : goal.price\n"},
+])
+def test_a_name_with_one_meaning_in_its_crate(
+    tmp_path: pathlib.Path, files: dict[str, str]
+) -> None:
+    texts = {f"crates/terms/{name}": text for name, text in files.items()}
+    assert faults_of(sources.names_of_two_modules, planted(tmp_path, **texts)) == []
 
 
 @pytest.mark.parametrize("place", ["docs/GLOSSARY.md", "README.md", "docs/MODEL.md"])
@@ -298,6 +340,38 @@ def test_what_a_check_says_of_a_body_among_others(
 ) -> None:
     folder, _, text = error.partition(": ")
     printed = [f"fn {symbol}: {status}"]
+    printed += ["fn terms::deep::sum::Sum::one: proved"] if "other" in symbol else []
     printed += [f"./proofs/deep/sum/{folder}/Answers.antt:7:2: error: {text}"] if error else []
     place = together.Place("src/deep/sum.rt", "one")
-    assert together.is_refused(place, "terms", printed) == refused
+    assert together.is_refused(place, range(4, 10), "terms", printed) == refused
+
+
+@pytest.mark.parametrize("others, refused", [([], True), (["terms::third::one"], False)])
+def test_what_a_check_says_of_a_method_of_another_files_type(
+    others: list[str], refused: bool
+) -> None:
+    symbols = ["terms::other::Sum::one", *others, "terms::other::Sum::two"]
+    printed = [f"fn {it}: no proof: `search` did not prove `returns`" for it in symbols]
+    place = together.Place("src/deep/sum.rt", "one")
+    assert together.is_refused(place, range(4, 10), "terms", printed) == refused
+
+
+@pytest.mark.parametrize(
+    "status, file, line, refused",
+    [
+        ("not proved", "deep/sum", 4, True),
+        ("not proved", "deep/sum", 9, True),
+        ("not proved", "deep/sum", 11, False),  # of another function there
+        ("not proved", "other", 4, False),
+        ("proved", "deep/sum", 4, False),
+    ],
+)
+def test_what_is_noted_of_a_body(
+    status: str, file: str, line: int, refused: bool
+) -> None:
+    said = f"note: src/{file}.rt:{line}:5: it is not proved that what the function ensures holds"
+    printed = [said, f"fn terms::deep::sum::Sum::one: {status}"]
+    place = together.Place("src/deep/sum.rt", "one")
+    lines = together.lines_of(place, BODIES)
+    assert lines == range(4, 10)
+    assert together.is_refused(place, lines, "terms", printed) == refused

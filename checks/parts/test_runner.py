@@ -28,6 +28,7 @@ import passes  # noqa: E402
 import program as building  # noqa: E402
 import proved_binaries  # noqa: E402
 import runner  # noqa: E402
+import together  # noqa: E402
 import toolchain  # noqa: E402
 import version  # noqa: E402
 from beside import Product, Schedule, Task  # noqa: E402
@@ -240,6 +241,21 @@ def test_the_longest_first(plant: Plant) -> None:
     (planted.top / "out/check/seconds.txt").write_text(rows)
     planted.run("-j", "1")
     assert planted.begun() == ["new", "longest", "long", "short"]
+
+
+def test_the_longest_first_in_a_new_clone(plant: Plant) -> None:
+    planted = plant("short passes", "long passes", "longest passes")
+    (planted.top / "checks").mkdir()
+    stored = planted.top / "checks/seconds.txt"
+    stored.write_text("short 20.0\nlong 90.0\nlongest 900.0\n")
+    planted.run("-j", "1")
+    assert planted.begun() == ["longest", "long", "short"]
+    (planted.top / "out/check/seconds.txt").write_text("short 9.0\nlong 2.0\ngone 7.0\n")
+    planted.run("-j", "1")
+    assert planted.begun() == ["longest", "short", "long"]
+    (planted.top / "out/check/seconds.txt").write_text("short 9.0\nlong 2.0\ngone 7.0\n")
+    assert planted.run("--keep-seconds") == (0, []) and planted.begun() == []
+    assert stored.read_text() == "longest 900.0\nshort 9.0\nlong 2.0\n"
 
 
 def test_seconds_are_learned(plant: Plant) -> None:
@@ -602,7 +618,8 @@ def test_over_which_binaries_a_run_was(
         (three / "usual/PROGRAM").write_text("built meanwhile")
     parts = ["layout"] if change == "gate" else ["layout", "ci"]
     passed = passes.Passes(three / "passed.txt", "these")
-    results = runner.Results([], False, passes.Seconds(three / "seconds.txt"), passed)
+    seconds = passes.Seconds(three / "seconds.txt", three / "none")
+    results = runner.Results([], False, seconds, passed)
     results.passed = 7
     runner.keep_binaries(results, builds.Builds(EVERY, True, False, three), parts)
     assert written == ([("7 passed, 0 failed", parts)] if is_kept else [])
@@ -611,31 +628,113 @@ def test_over_which_binaries_a_run_was(
 def test_wrong_bodies_are_tried_once(
     tmp_path: pathlib.Path, monkeypatch: pytest.MonkeyPatch
 ) -> None:
-    """In the gate, or over kept proofs, where there are any; all over these without the gate."""
-    for name in ("kept", "new", "plain"):
-        for part in ("src", "out/incremental"):
-            (tmp_path / "crates" / name / part).mkdir(parents=True)
-    for name in ("kept", "new"):
-        (tmp_path / "crates" / name / "must-fail").mkdir()
-        (tmp_path / "crates" / name / "must-fail/a.edit").write_text("")
-    (tmp_path / "crates/kept/out/incremental/proofs").write_text("")
-    assert edits.kept_crates(tmp_path) == ["kept"]
+    """In the gate, or over what it proved."""
+    for name in ("low", "plain"):
+        (tmp_path / "crates" / name / "src").mkdir(parents=True)
+    (tmp_path / "crates/low/must-fail").mkdir()
+    (tmp_path / "crates/low/must-fail/a.edit").write_text("")
     every = edits.all_edits(tmp_path)
     monkeypatch.setattr(edits, "all_edits", lambda: every)
-    monkeypatch.setattr(edits, "kept_crates", lambda: ["kept"])
     assert runner.tried_elsewhere({"ci", "layout"}) == []
-    assert runner.tried_elsewhere({"ci", "bodies"}) == ["kept"]
-    assert runner.tried_elsewhere({"bodies"}) == ["kept", "new"]
+    assert runner.tried_elsewhere({"ci", "bodies"}) == ["low"]
     monkeypatch.setattr(built, "TOP", tmp_path)
-    gate.copy(tmp_path / "gate", ["kept"])
-    names = [str(it.relative_to(tmp_path / "gate")) for it in (tmp_path / "gate").rglob("*.edit")]
-    assert names == ["crates/new/must-fail/a.edit"]
+    gate.copy(tmp_path / "left", runner.tried_elsewhere({"ci", "bodies"}))
+    assert [*tmp_path.glob("left/**/*.edit")] == []
+    gate.copy(tmp_path / "all", [])
+    assert (tmp_path / "all/crates/low/must-fail/a.edit").is_file()
 
 
-def test_no_wrong_body_over_kept_proofs() -> None:
-    words = [str(TOP / "checks/wrong-bodies"), "--kept"]
-    ran = subprocess.run(words, capture_output=True, text=True)
-    assert (ran.returncode, ran.stdout) == (0, "0 passed, 0 failed\n")
+def test_libraries_are_kept_for_wrong_bodies(
+    three: pathlib.Path, monkeypatch: pytest.MonkeyPatch
+) -> None:
+    monkeypatch.setattr(builds, "libraries", lambda: ["low", "high"])
+    found = builds.Builds({"LIBRARIES"}, True, False, three)
+    (made,) = [product for product in found.of_gate() if product.name == "LIBRARIES"]
+    assert made.lines == {"rt: low proved", "rt: high proved"} and not made.is_at_end
+    for name in ("low", "high"):
+        (three / ".gate/crates" / name / f"out/rlib/{name}.rlib").mkdir(parents=True)
+        (three / ".gate/crates" / name / f"out/rlib/{name}.rlib/format").write_text(name)
+    for _ in range(2):  # what an earlier run has kept gives way
+        made.take()
+    assert (three / "kept/libraries/high/high.rlib/format").read_text() == "high"
+    assert found.path("LIBRARIES") == str(three / "kept/libraries")
+    assert builds.Builds({"LIBRARIES"}, False, True, three).there == {"LIBRARIES"}
+    assert builds.Builds({"LIBRARIES"}, False, False, three).there == set()
+    found.drop_libraries()
+    assert builds.Builds({"LIBRARIES"}, False, True, three).there == set()
+
+
+def test_libraries_are_those_that_others_stand_on() -> None:
+    found = builds.libraries()
+    assert {"auction_terms", "program_runs"} <= {*found}
+    assert not {"callboard", "auction_c"} & {*found}
+
+
+def test_wrong_bodies_want_the_gate(plant: Plant) -> None:
+    status, lines = plant("bodies LIBRARIES", "ci passes").run("bodies")
+    assert status == 2 and "check: bodies takes what ci proves: name ci too" in lines, lines
+
+
+TOOLCHAIN = """#!/usr/bin/env python3
+import pathlib, sys
+asked, body = sys.argv[1:], pathlib.Path("src/sums.rt").read_text()
+if "new" in asked:
+    print("error: several functions are named `new`: help: write one of "
+          "`low::sums::new`, `low::other::Other::new`")
+    sys.exit(1)
+known = {"low::other::Other::new": "u64", "low::sums::new": "    1", "low::sums::one": "    2"}
+names = [it for it in known if it in asked or it.rpartition("::")[2] in asked] or [*known]
+if "broken" in body:
+    print("error: this doesn't compile")
+    sys.exit(1)
+for it in names:
+    is_right = known[it] in body and "Limit(9)" in body
+    print(f"fn {it}: " + ("proved" if is_right else "no proof: `search` did not prove `returns`"))
+print(" ".join(asked), file=open("asked.txt", "a"))
+"""
+SUMS = """const MOST: Limit = Limit(9);
+
+fn new() -> u64 {
+    1
+}
+
+fn one() -> u64 {
+    2
+}
+"""
+
+
+@pytest.mark.parametrize(
+    "changes, refused, asked",
+    [
+        ([("    1", "    7")], {"0"}, ["--only low::sums::new"]),
+        ([("    2", "    7")], {"0"}, ["--only one"]),
+        ([("    2", "    2 ")], set(), ["--only one"]),  # which is no other body
+        ([("    2", "    broken")], set(), []),
+        ([("Limit(9)", "Limit(8)")], {"0"}, [""]),  # in no function: all are looked at
+        ([("Limit(9)", "Limit(9) ")], set(), [""]),
+        ([("    2", "    7"), ("    2", "    broken")], {"0"}, ["--only one"]),
+    ],
+)
+def test_wrong_bodies_function_by_function(
+    tmp_path: pathlib.Path, changes: list[tuple[str, str]], refused: set[str], asked: list[str]
+) -> None:
+    """By a planted toolchain, which answers as the true one does."""
+    crate = tmp_path / "low"
+    (crate / "src").mkdir(parents=True)
+    (crate / "src/sums.rt").write_text(SUMS)
+    tool = tmp_path / "tool"
+    tool.write_text(TOOLCHAIN)
+    tool.chmod(0o755)
+    tried = []
+    for place, (old, new) in enumerate(changes):
+        file = tmp_path / f"{place}.edit"
+        file.write_text(f"file: src/sums.rt\nold: {old}\nnew: {new}\n")
+        tried.append(edits.Edit("low", file, True))
+    found = {it.file.stem for it in together.refused_over(tried, crate, [str(tool)])}
+    log = crate / "asked.txt"
+    assert found == refused and (crate / "src/sums.rt").read_text() == SUMS
+    assert (log.read_text().splitlines() if log.exists() else []) == asked
 
 
 # ---- how long crates take

@@ -11,6 +11,8 @@
 - No two lemmas have names that differ by hyphens and underscores alone.
 - No type, trait, record or definition of specs/ has its name in two crates, nor one of proofs/ that
   begins with a capital letter, but for a type and the record that it is in contracts (MODELS).
+- No two modules of a crate have types or public functions of one name, nor public definitions and
+  lemmas. A function may be named as the definition that it meets, and methods as those of others.
 - A limit of the market or of memory (LIMITS) isn't written as a number, where it isn't the value of
   a constant: in sources, definitions and proofs, but for tests, examples, comments and texts.
 - No name says buy or sell where docs/GLOSSARY.md says bid and ask.
@@ -51,6 +53,12 @@ MODIFIERS = r"(?:(?:pub|abbrev|unfoldable|opaque) +)*"
 LEMMA = re.compile(MODIFIERS + r"(?P<name>[^\s:(){},=]+)(?: *\{[^}]*\})* *: ")
 HEAD = re.compile(r"-- .*`.+` \((?P<source>src/[\w/]+\.rt)\).* rt looks here\.")
 BLOCK = re.compile(MODIFIERS + r"(?P<word>module|record|data)\b")
+FUNCTION = re.compile(r"pub(?:\([\w: ]+\))? (?:(?:const|extern \"C\") )*fn (?P<name>\w+)")
+PUBLIC = re.compile(
+    r"(?:  )?(?:(?:abbrev|unfoldable|opaque) +)*pub +"
+    r"(?:(?:abbrev|unfoldable|opaque|record|data) +)*"
+    r"(?!(?:mod|module|use)\b)(?P<name>[^\s:(){},=]+)"
+)
 
 
 def long_lines(tree: Tree) -> Iterator[str]:
@@ -91,10 +99,8 @@ def lemma_files(tree: Tree) -> Iterator[str]:
             yield f"{tree.name(file)}: we say Laws, and not Lemmas"
 
 
-def lemmas_of(lines: list[str]) -> Iterator[tuple[int, str]]:
-    """The places and the names of the lemmas and definitions of a file: at its margin, and in its
-    modules.
-    """
+def outer_lines(lines: list[str]) -> Iterator[tuple[int, str]]:
+    """The places and the texts of the lines at the margin of a file, and in its modules."""
     block = ""
     for place, line in enumerate(lines, 1):
         if line[:1].strip():
@@ -102,6 +108,12 @@ def lemmas_of(lines: list[str]) -> Iterator[tuple[int, str]]:
             block = begun["word"] if begun else ""
         elif block != "module":
             continue
+        yield place, line
+
+
+def lemmas_of(lines: list[str]) -> Iterator[tuple[int, str]]:
+    """The places and the names of the lemmas and definitions of a file."""
+    for place, line in outer_lines(lines):
         found = LEMMA.match(line.strip())
         if found and not BLOCK.match(line.strip()):
             yield place, found["name"]
@@ -137,6 +149,32 @@ def names_of_two_crates(tree: Tree) -> Iterator[str]:
     for name, crates in sorted(places.items()):
         if len(crates) > 1 and name not in MODELS:
             yield f"{name} has two meanings: {', '.join(crates.values())}"
+
+
+def public_names(tree: Tree, file: pathlib.Path) -> Iterator[tuple[int, str]]:
+    """The places and the names of the types and the public functions of a file of code, and of the
+    public definitions and lemmas of another.
+    """
+    is_code = file.suffix == ".rt"
+    lines = tree.lines(file)
+    for place, line in enumerate(lines, 1) if is_code else outer_lines(lines):
+        found = TYPE.match(line) or FUNCTION.match(line) if is_code else PUBLIC.match(line)
+        if found:
+            yield place, found["name"]
+
+
+def names_of_two_modules(tree: Tree) -> Iterator[str]:
+    """Names that two modules of one crate have."""
+    places: dict[tuple[str, bool, str], dict[pathlib.Path, str]] = collections.defaultdict(dict)
+    for file in [*tree.sources, *tree.specs, *tree.proofs]:
+        if is_test(tree, file) or file.stem in SHARED or tree.is_of_function(file):
+            continue
+        for place, name in public_names(tree, file):
+            key = (tree.crate(file), file.suffix == ".rt", name)
+            places[key].setdefault(file, f"{tree.name(file)}:{place}")
+    for (_, _, name), files in sorted(places.items()):
+        if len(files) > 1:
+            yield f"{name} has two meanings in a crate: {', '.join(files.values())}"
 
 
 def other_sides(tree: Tree) -> Iterator[str]:
@@ -193,6 +231,7 @@ RULES = [
     lemma_files,
     near_names,
     names_of_two_crates,
+    names_of_two_modules,
     retyped_limits,
     other_sides,
 ]
