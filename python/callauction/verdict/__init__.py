@@ -11,12 +11,12 @@ Lawful values are those of the proved library, or of the proved program where th
 there. docs/AUDIT.md has what is judged, what lawful means, and what leaves a finding in doubt.
 """
 from callauction.verdict.audits import audit_events
-from callauction.verdict.columns import ColumnError, refuse_unknown
-from callauction.verdict.coverage import Coverage
+from callauction.verdict.books import audit_auction
+from callauction.verdict.columns import ColumnError, ExtractError, refuse_unknown
 from callauction.verdict.findings import Finding, Verdict
 from callauction.verdict.instruments import audit_instruments
-from callauction.verdict.one_auction import audit_auction
-from callauction.verdict.reading import ExtractError, Reading, Table, read_table
+from callauction.verdict.judged import Coverage
+from callauction.verdict.reading import Reading, Table, read_table
 from callauction.verdict.rows import BadRow
 
 __all__ = [

@@ -1,17 +1,28 @@
-"""Rows that were sent again, which are read once."""
+"""Rows that are there twice: sent again, which are read once; and of trades those that may be so,
+for each side, copied, or amended by a later one. And rows that numbers of a sequence lack.
+"""
+from collections.abc import Sequence
+from typing import NamedTuple
+
 import numpy
 import pandas
 
 from callauction.verdict import clocks
-from callauction.verdict.cells import Codes, Ints, numbered, paired_codes
-from callauction.verdict.columns import is_id
+from callauction.verdict.cells import Codes, Ints, Mask, numbered, paired_codes
+from callauction.verdict.columns import is_id, is_trade_id
+from callauction.verdict.judged import Judgement
 from callauction.verdict.rows import (
-    BAD, CANCEL, FILL, NEW, REPLACE, STOPPED, TRADE, UNCROSS, Doubt, Rows,
+    BAD, CANCEL, FILL, NEW, OF_ORDERS, OUTSIDE, REPLACE, STOPPED, TAKEN, TRADE, UNCROSS, Doubt,
+    Hole, Rows,
 )  # fmt: skip
 from callauction.verdict.worded import Columns
 
 _NO_RESULT = -100
 AGAIN = "rows that were sent again, read once"
+GAPS = "numbers of the sequence that no row has (are rows missing?)"
+RARE = 20
+"""Of so many numbers one is missing at most where none but a row's may be."""
+_MADE = (TRADE, FILL)
 
 
 def drop_sent_again(rows: Rows, columns: Columns, sequence: Ints | None, lead: Codes) -> None:
@@ -38,9 +49,7 @@ def drop_sent_again(rows: Rows, columns: Columns, sequence: Ints | None, lead: C
 
 
 def _refuse_both(rows: Rows, columns: Columns, first: int, second: int) -> None:
-    """Refuses a row with the sequence of another one, either of which may be right: of two trades
-    both.
-    """
+    """Refuses a row with another's sequence, as either may be right; of two trades both."""
     made = [rows.kind[it] in (TRADE, FILL) for it in (first, second)]
     doubt = Doubt.TRADES if made[1] else Doubt.BOOKS
     why = f"sequence {columns.cells('sequence').text(second)!r} is another row's"
@@ -57,9 +66,7 @@ def _has_others(rows: Rows, these: Ints, content: "pandas.Series") -> "pandas.Se
 
 
 def _with_ids(rows: Rows, columns: Columns) -> Ints:
-    """The rows of trades and fills with an id of another one, which has the same cells, in a column
-    that isn't read; none where rows with other cells have one id.
-    """
+    """The trades and fills with another's id in an unread column, whose cells are all the same."""
     these = rows.of(TRADE, FILL)
     read = {*columns.names.values(), *columns.reading.columns.values(), columns.reading.pair}
     for name in columns.source.names:
@@ -80,9 +87,7 @@ def _drop(rows: Rows, again: Ints) -> None:
 
 
 def _repeatable(rows: Rows) -> Ints:
-    """The rows of which a second one at the same time, or a second entry or named uncross at any
-    place, changes nothing.
-    """
+    """Rows of which one more changes nothing: at one time, an entry or a named result at any."""
     kind = rows.kind
     named = (kind == UNCROSS) & (rows.state > 0) & (rows.time != clocks.NONE)
     whole = (kind == REPLACE) | (kind == UNCROSS) & ~named | (kind == CANCEL) & (rows.quantity <= 0)
@@ -94,3 +99,152 @@ def _repeatable(rows: Rows) -> Ints:
         for these, values in ((tied, marks), (news, rows.key[news]), (named, rows.state[named]))
     ]
     return numpy.sort(numpy.concatenate(twice))
+
+
+# ---- rows of trades that may be there twice
+
+
+NONE = numpy.zeros(0, "i8")
+
+
+def second_trades(rows: Rows) -> Ints:
+    """The second row of each of several trades, busted, unread and continuous ones too, where each
+    has two; else none.
+    """
+    unread = [it.place for it in rows.bad if it.doubt is Doubt.TRADES and it.place >= 0]
+    is_other = (rows.kind == BAD) & (rows.state == OUTSIDE) & (rows.bid >= 0)
+    trades = numpy.union1d(rows.of(TRADE, TAKEN), numpy.flatnonzero(is_other))
+    trades = numpy.union1d(trades, numpy.array(unread, "i8"))
+    keys = [rows.quantity[trades], *(side[trades].astype("i8") for side in (rows.ask, rows.bid))]
+    order: Ints = numpy.lexsort(keys)
+    is_even = len(order) > 3 and len(order) % 2 == 0
+    one, two = order[: len(order) & -2 : 2], order[1::2]
+    if not is_even or any(not numpy.array_equal(it[one], it[two]) for it in keys):
+        return NONE
+    found: Ints = trades[order[1::2]]
+    return found
+
+
+def copies(rows: Rows, judgement: Judgement) -> Ints:
+    """The rows of trades and fills that are the same as one above, and those of cancels of some
+    shares that are; first those whose orders differ. Trades with ids of their own are none.
+    """
+    parts = (rows.kind == CANCEL) & (rows.quantity > 0)
+    made = numpy.union1d(rows.of(TRADE, FILL), numpy.flatnonzero(parts))
+    names = ("kind", "time", "key", "bid", "ask", "quantity", "price", "state", "member",
+             "bid_member", "ask_member")  # fmt: skip
+    frame = pandas.DataFrame({name: getattr(rows, name)[made] for name in names})
+    for name in filter(is_trade_id, rows.names.unread):
+        frame[f"unread {name}"] = rows.names.codes(made, name)
+    again = frame.duplicated().to_numpy()
+    found: Ints = made[again]
+    those = (each for it in judgement.uncrosses for each in it.differences)
+    differing = [key for each in those for key in each.keys]
+    keys = (rows.key[found], rows.bid[found], rows.ask[found])
+    are = [(it < 0) | numpy.isin(it, differing) for it in keys]
+    found = found[numpy.argsort(~numpy.all(are, axis=0), kind="stable")]
+    return found
+
+
+def amended(rows: Rows) -> tuple[Ints, str]:
+    """The trades and fills which a later one may correct, and why: it has their orders, and their
+    id in a column that isn't read and isn't of their orders.
+    """
+    made = rows.of(TRADE, FILL)
+    for name in filter(is_id, rows.names.unread):
+        codes = rows.names.codes(made, name)
+        keys = {name: getattr(rows, name)[made] for name in ("bid", "ask", "key")}
+        frame = pandas.DataFrame({**keys, "id": codes})
+        again = frame.duplicated(keep="last").to_numpy()
+        if not again.any() or codes.min() < 0 or _is_of_orders(rows, made[again], name):
+            continue
+        again &= _are_of_two(frame)
+        if again.any():
+            groups = frame[again].drop_duplicates()
+            first = numpy.flatnonzero((frame == groups.iloc[0]).all(axis=1))[[0, -1]]
+            both = "rows {} and {}".format(*rows.labels[made[first]])
+            those = both if len(groups) == 1 else f"rows, such as {both},"
+            return made[again], f"{those} have one {name}: is the later right?"
+    return NONE, ""
+
+
+def _are_of_two(frame: "pandas.DataFrame") -> Mask:
+    """Which rows have an id that no more than two orders have, as a trade has two."""
+    parts = [frame[["id", name]].set_axis(["id", "key"], axis=1) for name in ("bid", "ask", "key")]
+    whole = pandas.concat(parts)
+    orders = whole[whole["key"] >= 0].drop_duplicates()["id"].value_counts()
+    found: Mask = (frame["id"].map(orders) <= 2).to_numpy()
+    return found
+
+
+def _is_of_orders(rows: Rows, these: Ints, name: str) -> bool:
+    """Whether a column has ids of orders, their members or instruments, and none of trades."""
+    keys = [getattr(rows, each)[these] for each in ("key", "bid", "ask")]
+    orders = rows.of(*OF_ORDERS)
+    orders = orders[numpy.isin(rows.key[orders], numpy.concatenate(keys))]
+    codes = rows.names.codes(numpy.concatenate([these, orders]), name)
+    own = {*zip(rows.key[orders].tolist(), codes[len(these) :].tolist())}
+    made = codes[: len(these)].tolist()
+    return any(not own.isdisjoint(zip(each.tolist(), made)) for each in keys)
+
+
+# ---- rows that a sequence lacks
+
+
+class Gap(NamedTuple):
+    """Numbers that no row has, the first and last, and whether few enough that each was a row's."""
+
+    first: int
+    last: int
+    is_rare: bool = False
+
+
+def gaps_of(*numbers: Ints) -> list[Gap]:
+    """The gaps in the numbers of rows, which are below 0 for none; none where as many are missing
+    as there are, or more, as where others' rows have a part of them.
+    """
+    known = numpy.unique(numpy.concatenate(numbers))
+    known = known[known >= 0]
+    steps = numpy.diff(known)
+    missing = int((steps - 1).sum())
+    if missing >= len(known):
+        return []
+    ends = numpy.flatnonzero(steps > 1).tolist()
+    is_rare = missing * RARE <= len(known)
+    return [Gap(int(known[at]) + 1, int(known[at + 1]) - 1, is_rare) for at in ends]
+
+
+def remark_of(gaps: Sequence[Gap]) -> dict[str, int]:
+    """How many numbers are missing, in words."""
+    many = sum(it.last - it.first + 1 for it in gaps)
+    return {f"{GAPS}, such as {gaps[0].first}": many} if gaps else {}
+
+
+def find_holes(rows: Rows, gaps: Sequence[Gap]) -> None:
+    """Notes where rows with the numbers of gaps may be: one hole between two known numbers."""
+    own = numpy.flatnonzero(rows.number >= 0)
+    if not len(own) or not gaps:
+        return
+    own = own[numpy.argsort(rows.number[own], kind="stable")]
+    lasts = numpy.array([it.last for it in gaps], "i8")
+    nexts = numpy.searchsorted(rows.number[own], lasts, "right")
+    rows.lacks_rows = any(it.is_rare for it in gaps)
+    first_below = numpy.minimum.accumulate(own[::-1])[::-1]
+    ends = rows.of(UNCROSS)
+    is_above = bool(numpy.isin(rows.kind[ends[ends > 0] - 1], _MADE).any())
+    for number in numpy.unique(nexts, return_index=True)[1].tolist():
+        at, doubt, since = int(nexts[number]), Doubt.TRADES, len(rows.kind) - 1
+        if at < len(own):
+            above = int(own[at - 1]) if at else -1
+            doubt = _doubt_between(rows, above, int(own[at]), is_above)
+            since = int(first_below[at]) - 1
+        rows.holes.append(Hole.of(doubt, since, gaps[number].first, gaps[number].last))
+
+
+def _doubt_between(rows: Rows, above: int, below: int, is_above: bool) -> Doubt:
+    """What rows may be that are missing between two: among trades of one auction trades alone."""
+    one, other = (int(rows.kind[it]) if it >= 0 else NEW for it in (above, below))
+    if other in _MADE and one in (UNCROSS, *_MADE) and rows.time[above] == rows.time[below]:
+        return Doubt.TRADES
+    is_of_orders = other in OF_ORDERS or other == UNCROSS and not is_above
+    return Doubt.BOOKS if one in OF_ORDERS and is_of_orders else Doubt.ANY

@@ -1,6 +1,9 @@
-"""The audit of an extract's events."""
+"""The audit of an extract's events, and that of a journal."""
+import dataclasses
 import os
+import re
 from collections.abc import Sequence
+from decimal import Decimal
 from typing import BinaryIO
 
 import numpy
@@ -8,22 +11,30 @@ import pandas
 
 from callauction.course import Watch
 from callauction.prices import argument, tick_size_of
+from callauction.program import Day
+from callauction.verdict import clocks, times
 from callauction.verdict.events import read_zeros, refuse_limits, rows_of
-from callauction.verdict.findings import Verdict, verdict_of
+from callauction.verdict.findings import (
+    INCOMPLETE, LAWFUL, STATUSES, UNLAWFUL, Verdict, verdict_of,
+)  # fmt: skip
 from callauction.verdict.joining import with_results
-from callauction.verdict.judged import Rules
+from callauction.verdict.judged import Coverage, Rules, range_of
 from callauction.verdict.judging import Judge
 from callauction.verdict.mixed import (
     corrected, has_more, refuse_days, refuse_sums, with_late_results,
 )  # fmt: skip
-from callauction.verdict.ranges import range_of
 from callauction.verdict.reading import Reading, Table, read_table
 from callauction.verdict.readings import judged_day
-from callauction.verdict.rows import NEW, BadRow, Doubt, Rows
+from callauction.verdict.rows import FILL, NEW, TRADE, BadRow, Doubt, Rows
 from callauction.verdict.units import without_noise
 from callauction.words import AUCTIONS
 
+EARLY = "trades and fills timed before an order of theirs was entered, by {:f} s at most"
 UNRESTRICTED = "orders of which no column restriction says whether they are for one auction alone"
+_COUNT = re.compile(r"(entries|compared|unlawful) (\d+)")
+_CUT = f"{INCOMPLETE}: "
+_PLACES = [f"in {auction}" for auction in AUCTIONS] + ["day over"]
+"""Where a day is, by how many of its auctions ended."""
 
 
 def audit_events(
@@ -84,6 +95,7 @@ def judge_rows(rows: Rows, rules: Rules, watch: Watch = iter) -> Verdict:
     if other is not None and Judge(rows, rules).judge().unlawful:
         rows = whole = other
     found = judged_day(rows, rules, whole, watch)
+    found.notes.update(early_trades(rows))
     if found.unlawful:
         refuse_sums(whole, rules.due)
         if "restriction" not in rows.names.theirs and len(rules.due) > 1:
@@ -91,10 +103,28 @@ def judge_rows(rows: Rows, rules: Rules, watch: Watch = iter) -> Verdict:
     return verdict_of(found, rows, rules)
 
 
-def short_rows(table: Table, rows: Rows, reading: Reading) -> list[BadRow]:
-    """The lines of another number of fields than the header as bad rows, of which it isn't known
-    what they are.
+def early_trades(rows: Rows) -> dict[str, int]:
+    """How many trades and fills are timed before an entry of their orders, as far as their clock
+    says it, and by how much at most; empty for none.
     """
+    made, day = rows.of(TRADE, FILL), clocks.DAY
+    entered = rows.entered(len(rows.names.ids) + 1)
+    due, steps = numpy.full(len(made), clocks.NONE), dict[int, int]()
+    for keys in (rows.bid[made], rows.ask[made], rows.key[made]):
+        at = numpy.where(entered[keys] >= 0, rows.time[entered[keys]], clocks.NONE)
+        due = numpy.maximum(due, numpy.where(keys >= 0, at, clocks.NONE))
+    own = rows.time[made]
+    is_early = (clocks.NONE < own) & (own < due) & ((own < day) == (due < day))
+    for place, time in zip(made[is_early].tolist(), own[is_early].tolist()):
+        steps[time] = steps.get(time) or times.step_of(rows.names.time(place))
+    gaps = [gap for time, last in zip(own[is_early].tolist(), due[is_early].tolist())
+            if (gap := last - last % max(1, steps[time]) - time) > 0]  # fmt: skip
+    seconds = (Decimal(max(gaps, default=0)) / clocks.SECOND).normalize()
+    return {f"{EARLY.format(seconds)} (do clocks differ?)": len(gaps)} if gaps else {}
+
+
+def short_rows(table: Table, rows: Rows, reading: Reading) -> list[BadRow]:
+    """The lines of another number of fields than the header as bad rows, which may be anything."""
     return [
         BadRow(-1, line, why, Doubt.ANY, before(line, rows, reading))
         for line, why in table.short
@@ -102,9 +132,7 @@ def short_rows(table: Table, rows: Rows, reading: Reading) -> list[BadRow]:
 
 
 def before(line: object, rows: Rows, reading: Reading) -> int:
-    """The place of the row above a line; -1 where rows are sorted or aren't named by their lines,
-    as it may be above all.
-    """
+    """The place of the row above a line; -1 where that isn't known, as it may be above all."""
     if reading.sort or not isinstance(line, int) or rows.labels.dtype.kind != "i":
         return -1
     return int(numpy.searchsorted(rows.labels, line)) - 1
@@ -134,3 +162,50 @@ def rules_of(
         first, size, spans[0], bottom, top, tuple(auctions), quantity == "total", not quantity,
         spans[1], second,
     )  # fmt: skip
+
+
+# ---- journals
+
+
+@dataclasses.dataclass(frozen=True)
+class JournalVerdict:
+    """Whether a journal is lawful: `findings` are the program's lines on the replies that aren't,
+    `coverage` says how many entries have a reply, and how many auctions ended of those of a day.
+    """
+
+    findings: tuple[str, ...]
+    coverage: Coverage
+    cut: str = ""
+    """What follows the whole lines of a copy that was cut within a line; empty for none."""
+
+    @property
+    def word(self) -> str:
+        """`lawful` where all replies were recorded to the day's end, and none differs."""
+        if self.findings:
+            return UNLAWFUL
+        return LAWFUL if self.coverage.is_complete and not self.cut else INCOMPLETE
+
+    @property
+    def status(self) -> int:
+        """The exit status of this verdict: 0 lawful, 4 unlawful, 5 incomplete."""
+        return STATUSES[self.word]
+
+    def lines(self) -> list[str]:
+        """A line a finding, what was cut, the count of findings, the coverage, and the verdict."""
+        found = [*self.findings, *filter(None, [self.cut]), f"findings {len(self.findings)}"]
+        return [*found, *self.coverage.lines(), self.word]
+
+    def __str__(self) -> str:
+        return "\n".join(self.lines())
+
+
+def audit_journal(day: Day) -> JournalVerdict:
+    """The verdict on a journal. Raises ProgramError, with program.NO_JOURNAL for an order file."""
+    *lines, place = day.results().splitlines()
+    cut = ""
+    if place.startswith(_CUT):
+        cut, place = place.removeprefix(_CUT), lines.pop()
+    counts = {found[1]: int(found[2]) for it in lines if (found := _COUNT.fullmatch(it))}
+    replies, ended = (counts["compared"], counts["entries"]), _PLACES.index(place)
+    coverage = Coverage({"replies": replies, "auctions": (ended, len(AUCTIONS))})
+    return JournalVerdict((*lines[: counts["unlawful"]],), coverage, cut)

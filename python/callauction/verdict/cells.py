@@ -68,9 +68,7 @@ class Cells:
         return Cells(self.buffer, start, length)
 
     def numbers(self) -> Ints | None:
-        """The whole number of each cell, -1 for an empty one; None where one has another sign than
-        digits, or more than 18 of them.
-        """
+        """Each cell's whole number, -1 for an empty one; None where one isn't of 1 to 18 digits."""
         these = self.stripped()
         most = int(these.length.max(initial=0))
         if most > _MOST_DIGITS:
@@ -96,9 +94,7 @@ class Cells:
         return found
 
     def codes(self) -> tuple[Codes, Ints]:
-        """A number for each distinct cell, -1 for an empty one, and the first row of each number;
-        the words of cells are compared, and no digests.
-        """
+        """A number for each distinct cell, -1 for an empty one, and the first row of each."""
         filled = numpy.flatnonzero(self.length > 0)
         these = self if len(filled) == len(self) else self.take(filled)
         words = -(-int(these.length.max(initial=0)) // 8)
@@ -142,42 +138,50 @@ def _firsts(codes: Array) -> Ints:
 
 @dataclasses.dataclass(frozen=True)
 class Source:
-    """The rows of a table with their names: the cells of each column."""
+    """The rows of a table with their names: cells of a column are given, or another source's."""
 
     names: tuple[str, ...]
     labels: Array
+    given: Mapping[str, Cells] = dataclasses.field(default_factory=dict)
+    base: "Source | None" = None
 
     def __len__(self) -> int:
         return len(self.labels)
 
     def cells(self, name: str) -> Cells:
         """The cells of a column, without blanks around them."""
-        raise NotImplementedError
+        is_own = self.base is None or name in self.given
+        return self.given[name] if is_own or self.base is None else self.base.cells(name)
 
     def take(self, rows: Array) -> "Source":
         """Some of the rows."""
-        raise NotImplementedError
+        given = {name: cells.take(rows) for name, cells in self.given.items()}
+        base = None if self.base is None else self.base.take(rows)
+        return dataclasses.replace(self, labels=self.labels[rows], given=given, base=base)
 
 
-@dataclasses.dataclass(frozen=True, kw_only=True)
-class MadeSource(Source):
-    """The rows of another source, with columns that are made of some of its own."""
-
-    base: Source
-    made: Mapping[str, Cells]
-
-    def cells(self, name: str) -> Cells:
-        return self.made[name] if name in self.made else self.base.cells(name)
-
-    def take(self, rows: Array) -> Source:
-        made = {name: cells.take(rows) for name, cells in self.made.items()}
-        base = self.base.take(rows)
-        return dataclasses.replace(self, labels=base.labels, base=base, made=made)
+def joined(base: Source, columns: Mapping[str, Sequence[str]]) -> Source:
+    """The rows with joined columns, parted by blanks: empty where the last of them is. Their texts
+    are behind the others' buffer, whose places hold in theirs: events._ids and by_kind go by it.
+    """
+    if not columns:
+        return base
+    buffer, made, names = base.cells(base.names[0]).buffer[:-_PAD], {}, (*base.names, *columns)
+    for name, parts in columns.items():
+        read = (base.cells(part).texts() for part in parts)
+        texts = zip(*(numpy.array([*found, ""], "object")[codes] for codes, found in read))
+        whole = [" ".join(filter(None, it)).encode() if it[-1] else b"" for it in texts]
+        length = numpy.array([*map(len, whole)], "i8")
+        made[name] = len(buffer) + numpy.cumsum(length) - length, length
+        buffer = numpy.concatenate([buffer, numpy.frombuffer(b"".join(whole), "u1")])
+    buffer = numpy.concatenate([buffer, numpy.zeros(_PAD, "u1")])
+    cells = {name: Cells(buffer, *at) for name, at in made.items()}
+    return Source(names, base.labels, cells, base)
 
 
 def by_kind(base: Source, kinds: Codes, columns: Mapping[int, str], other: str) -> Cells:
     """The cells of a column that for rows of some kinds is another one, or none (an empty name)."""
-    cells = base.cells(base.names[0])
+    cells = base.cells(base.names[-1])
     start, length = cells.start.copy(), numpy.zeros(len(base), "i8")
     for kind, name in {-1: other, **columns}.items():
         those = ~numpy.isin(kinds, [*columns]) if kind < 0 else kinds == kind
@@ -188,20 +192,6 @@ def by_kind(base: Source, kinds: Codes, columns: Mapping[int, str], other: str) 
 
 
 # ---- frames
-
-
-@dataclasses.dataclass(frozen=True)
-class FrameSource(Source):
-    """The rows of a frame."""
-
-    columns: Mapping[str, Cells] = dataclasses.field(default_factory=dict)
-
-    def cells(self, name: str) -> Cells:
-        return self.columns[name].stripped()
-
-    def take(self, rows: Array) -> Source:
-        columns = {name: cells.take(rows) for name, cells in self.columns.items()}
-        return dataclasses.replace(self, labels=self.labels[rows], columns=columns)
 
 
 def frame_source(frame: pandas.DataFrame) -> Source:
@@ -217,8 +207,8 @@ def frame_source(frame: pandas.DataFrame) -> Source:
         texts += found
         size += int(lengths.sum())
     buffer = numpy.frombuffer(b"".join(texts) + bytes(_PAD), "u1")
-    columns = {name: Cells(buffer, *at) for name, at in places.items()}
-    return FrameSource(tuple(map(str, frame)), frame.index.to_numpy(), columns)
+    columns = {name: Cells(buffer, *at).stripped() for name, at in places.items()}
+    return Source(tuple(map(str, frame)), frame.index.to_numpy(), columns)
 
 
 def _factorized(column: "pandas.Series") -> tuple[Ints, list[object]]:
@@ -247,9 +237,7 @@ def _text(value: object) -> str:
 
 @dataclasses.dataclass(frozen=True, kw_only=True)
 class FileSource(Source):
-    """Lines of a buffer: where each begins and ends, and which of the marks between fields is its
-    first.
-    """
+    """Lines of a buffer: where each begins and ends, and which mark between fields is its first."""
 
     buffer: Bytes
     marks: NDArray[numpy.uint32]
@@ -291,9 +279,7 @@ def text_source(content: bytes, separator: str) -> tuple[Source, Short]:
 
 
 def _unquoted(text: str, separator: str) -> tuple[bytes, dict[int, int]]:
-    """The same table without quotes, its fields parted by a sign that is in no text, and by the
-    line of each row that in which it ends.
-    """
+    """The table without quotes, fields parted by _UNIT, and by each row's line that it ends in."""
     reader = csv.reader(io.StringIO(text, newline=""), delimiter=separator)
     last = text.rstrip("\r\n").count("\n") + 1
     rows, ends, line = [], dict[int, int](), 1

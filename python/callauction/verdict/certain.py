@@ -124,9 +124,7 @@ class Certain:
                 yield Difference("trade", one, None, (row,), (int(key[at]),), rule=LIMIT)
 
     def _worst(self, side: int) -> tuple[Ints, Mask]:
-        """By key the worst limit that an order of a side had, and whether all of its rows are read
-        and have a limit.
-        """
+        """By key the worst limit of a side's orders, and whether all rows are read and have one."""
         rows = self.rows
         limits = rows.of(NEW, REPLACE)
         key, at = rows.key[limits], rows.price[limits].astype("i8")

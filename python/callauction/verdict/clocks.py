@@ -29,9 +29,7 @@ def dates_of(cells: Cells) -> str:
 
 
 def nanoseconds(cells: Cells, dates: str = "") -> Ints:
-    """The time of each cell in nanoseconds, as verdict.times has it in seconds; NONE where there is
-    none.
-    """
+    """Each cell's time in nanoseconds, as verdict.times has it in seconds; NONE for none."""
     found = numpy.full(len(cells), NONE, "i8")
     for length in numpy.unique(cells.length[cells.length > 0]):
         rows = numpy.flatnonzero(cells.length == length)

@@ -56,9 +56,7 @@ _NAMES = {
     "reply": "reply",
 }
 LIKELY = {it: ours for ours, theirs in _NAMES.items() for it in theirs.split()}
-"""Names of other systems in small letters without signs, and the column that each is likely to
-be.
-"""
+"""Names of other systems, in small letters without signs, and the column each is likely to be."""
 
 
 _ID = re.compile(r"id$|nr$|nummer|number|ref|match|exec|deal")
@@ -67,8 +65,16 @@ _TRADE_ID = re.compile(r"(trade|trd|exec|match|deal).*(id|no|nr|nummer|number|re
 """What a column has in its name whose ids are the trades' own, not the rows'."""
 
 
+EMPTY = ("null", "n/a", "#n/a", "nan", "-", "--")
+"""Words for an empty cell, in small letters."""
+
+
 class ColumnError(ValueError):
     """A table has a column that isn't known, or has none that is needed; one line."""
+
+
+class ExtractError(ValueError):
+    """An extract can't be read as it is asked for; one line that says what to do."""
 
 
 def plain(name: str) -> str:
@@ -104,8 +110,8 @@ def likely(name: object, known: Collection[str]) -> str | None:
 def refuse_unknown(
     found: Iterable[object], known: Collection[str], ignore: Collection[str] = ()
 ) -> None:
-    """Raises ColumnError where a column is neither known nor to be ignored (`*` is each): it may be
-    a known one by another name, and without that the table says something else.
+    """Raises ColumnError for columns that are neither known nor to be ignored (`*` is each): one
+    may be a known one by another name, without which the table says something else.
     """
     strange = [name for name in found if name not in known and not {name, "*"} & {*ignore}]
     guesses = [(name, likely(name, known)) for name in strange]
@@ -118,10 +124,16 @@ def refuse_unknown(
         )
 
 
-def kinds_of(columns: Mapping[str, str]) -> dict[str, dict[str, str]]:
-    """By our name of a column that has others for some kinds of rows these by their kinds, as
-    `trade.price=LastPx` says.
+def joins_of(columns: Mapping[str, str], names: Collection[object]) -> dict[str, list[str]]:
+    """By each name of theirs that joins columns, as `Date+Time`, these, where all are there and no
+    column has that name.
     """
+    parts = {it: [name.strip() for name in it.split("+")] for it in columns.values() if "+" in it}
+    return {it: own for it, own in parts.items() if it not in names and {*own} <= {*names}}
+
+
+def kinds_of(columns: Mapping[str, str]) -> dict[str, dict[str, str]]:
+    """By our name of a column what it is for kinds of rows, as `trade.price=LastPx` says."""
     found: dict[str, dict[str, str]] = {}
     for name, theirs in columns.items():
         kind, sign, ours = name.partition(".")
@@ -140,9 +152,11 @@ def _refuse_unmapped(names: Collection[object], columns: Mapping[str, str]) -> N
             hint = f" (is it {guess}?)" if guess else ""
             raise ColumnError(f"columns: there is no column {name!r}{hint} to map {theirs!r} to")
         if theirs not in names and not (kind and not theirs):
-            guess = likely(theirs, [str(name) for name in names])
+            parts = (it.strip() for it in theirs.split("+"))
+            missing = next((it for it in parts if it not in names), theirs)
+            guess = likely(missing, [str(name) for name in names])
             hint = f" (is it {guess!r}?)" if guess else ""
-            raise ColumnError(f"columns: the table has no column {theirs!r}{hint}")
+            raise ColumnError(f"columns: the table has no column {missing!r}{hint}")
 
 
 def renamed(found: Iterable[object], columns: Mapping[str, str]) -> dict[object, str]:

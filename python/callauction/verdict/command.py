@@ -1,26 +1,39 @@
-"""The command line of verdicts: the options of an extract, and what is audited by them."""
+"""The command line of verdicts: the options of an extract, what is audited by them, and what is
+printed and written: with what verdicts are of and by, a row for each instrument and each finding.
+"""
 import argparse
 import collections
 import dataclasses
+import datetime
+import hashlib
 import io
+import json
+import pathlib
 import re
-from collections.abc import Mapping, Sequence
+import shlex
+import sys
+from collections.abc import Iterable, Iterator, Mapping, Sequence
 
+import numpy
 import pandas
 
+import callauction
+from callauction import finder
 from callauction.course import Watch
 from callauction.program import NO_JOURNAL, BadFileError, Day
 from callauction.statuses import DONE
-from callauction.verdict import books, shapes, showing
-from callauction.verdict.audits import audit_events
-from callauction.verdict.columns import EVENT_COLUMNS, ColumnError, likely
-from callauction.verdict.events import plain_frame
-from callauction.verdict.findings import Verdict
-from callauction.verdict.instruments import (
-    TERMS, Audited, Market, audited, days_of, market_of, terms_of,
+from callauction.verdict import books, shapes
+from callauction.verdict.audits import audit_events, audit_journal, short_rows
+from callauction.verdict.columns import (
+    EVENTS, EVENT_COLUMNS, ColumnError, ExtractError, likely,
 )  # fmt: skip
-from callauction.verdict.journals import audit_journal
-from callauction.verdict.reading import GZIP, ExtractError, Reading, Table, read_table
+from callauction.verdict.events import plain_frame, rows_of
+from callauction.verdict.findings import MOST_BAD_ROWS, STATUSES, Verdict, counts_of
+from callauction.verdict.instruments import (
+    RECORD, TERMS, Audited, Days, Market, audited, days_of, frame_of, market_of, terms_of, worst_of,
+)  # fmt: skip
+from callauction.verdict.judged import Coverage
+from callauction.verdict.reading import GZIP, Reading, Table, read_table
 from callauction.verdict.times import STROKES
 from callauction.words import AUCTIONS
 
@@ -61,7 +74,8 @@ def add_reading(parser: argparse.ArgumentParser) -> None:
     """The options of how an extract is read."""
     how = parser.add_argument_group("how an extract is read", TIMES)
     add = how.add_argument
-    add("--columns", action="append", default=[], metavar="OURS=THEIRS,..", help="names of columns")
+    names = "names of columns; A+B joins two"
+    add("--columns", action="append", default=[], metavar="OURS=THEIRS,..", help=names)
     add("--values", action="append", default=[], metavar="COLUMN:THEIRS=OURS,..", help="words")
     known = ", ".join(shapes.names())
     add("--shape", help=f"how a system's extracts are read: {known}, or a file such as theirs")
@@ -150,8 +164,8 @@ def table_of(content: bytes, asked: argparse.Namespace) -> tuple[Table, Reading]
 
 
 def plain_table(content: bytes, asked: argparse.Namespace) -> pandas.DataFrame:
-    """The rows of an extract in our columns, words and numbers. Raises as read_table, and
-    UsageError for what a journal hasn't.
+    """An extract's rows in our columns, words and numbers. Raises as read_table, and UsageError for
+    what a journal hasn't.
     """
     table, reading = table_of(content, asked)
     if reading.pair:
@@ -179,7 +193,7 @@ def verdict_of(content: bytes, asked: argparse.Namespace, watch: Watch = iter) -
     """The verdict on an extract of one instrument. Raises as audit."""
     table, reading = table_of(content, asked)
     terms = {name: vars(asked)[name] for name in TERMS}
-    return audit_events(table, reading=reading, watch=watch, **terms_of(terms))
+    return audit_events(table, reading=reading, watch=watch, **terms_of(terms, reading))
 
 
 def found_in(content: bytes, asked: argparse.Namespace, watch: Watch) -> list[Audited]:
@@ -188,15 +202,14 @@ def found_in(content: bytes, asked: argparse.Namespace, watch: Watch) -> list[Au
         return [audited("", verdict_of(content, asked, watch), asked.explain)]
     those = market(content, asked)
     for line in those.remarks.items():
-        showing.remark("", "%s: %d" % line)
+        remark("", "%s: %d" % line)
     return [*those.one_by_one(None, watch)]
 
 
 def audit_auctions(files: Mapping[str, bytes], asked: argparse.Namespace, watch: Watch) -> int:
-    """Prints the verdict on one auction or several from their books: the status. Raises as audit.
-    """
+    """Prints the verdict on auctions from their books: the status. Raises as audit."""
     found = books.found_in(files, reading_of(asked), asked, watch)
-    return showing.show(found, asked, [*files.values()])
+    return show(found, asked, [*files.values()])
 
 
 def audit(content: bytes, asked: argparse.Namespace, watch: Watch = iter) -> int:
@@ -215,6 +228,133 @@ def audit(content: bytes, asked: argparse.Namespace, watch: Watch = iter) -> int
         return journal.status
     if asked.check:
         table, reading = table_of(content, asked)
-        print("\n".join(showing.understood(table, reading, asked)))
+        print("\n".join(understood(table, reading, asked)))
         return DONE
-    return showing.show(found_in(content, asked, watch), asked, [content])
+    return show(found_in(content, asked, watch), asked, [content])
+
+
+# ---- what is printed
+
+
+def show(found: list[Audited], asked: argparse.Namespace, contents: Sequence[bytes]) -> int:
+    """Prints verdicts on what was read, and writes the files that are asked for: the status, which
+    `asked` has before the first line, as nobody may read these. Raises ExtractError and ValueError
+    where no instrument can be judged, and OSError.
+    """
+    facts = facts_of(contents, asked)
+    asked.status = STATUSES[worst_of(each.word for each in found)]
+    if asked.findings is not None:
+        write_findings(found, asked.findings, facts)
+    if asked.output is not None:
+        write_rows(found, asked.output, facts)
+    if asked.json:
+        print("\n".join(json.dumps({**each.plain(), **facts}) for each in found))
+    if found and all(each.fault for each in found):
+        line, more = _named(found[0].name, found[0].fault), len(found) - 1
+        line += f" (and {more:,} more can't be judged)" * bool(more)
+        raise ExtractError(line) if any(each.is_unread for each in found) else ValueError(line)
+    if asked.json:
+        return STATUSES[worst_of(each.word for each in found)]
+    for each in found:
+        for line in each.remarks or [each.fault] * bool(each.fault):
+            remark(each.name, line)
+        ranges = each.ranges if len(found) == 1 or asked.explain else ()
+        for line in (*each.lines, *ranges):
+            print(line if line.startswith(" ") else _named(each.name, line))
+    return _print_end(found)
+
+
+def remark(name: str, line: str) -> None:
+    """Prints what was met in reading an instrument, on standard error."""
+    print(f"callauction: {_named(name, line)}", file=sys.stderr)
+
+
+def _named(name: str, line: str) -> str:
+    return f"{name}, {line}" if name else line
+
+
+def _print_end(found: list[Audited]) -> int:
+    """The counts and the verdict on all instruments together: the status."""
+    sums = (sum(getattr(it, name) for it in found) for name in ("bad_rows", "findings", "doubtful"))
+    print("\n".join(counts_of(*sums)))
+    names = dict.fromkeys(name for each in found for name in each.coverage.counts)
+    print("\n".join(Coverage({name: _sum(found, name) for name in names}).lines()))
+    worst = worst_of(each.word for each in found)
+    print(worst)
+    return STATUSES[worst]
+
+
+def _sum(found: list[Audited], name: str) -> tuple[int, int]:
+    counts = [each.coverage.counts.get(name, (0, 0)) for each in found]
+    return sum(compared for compared, _ in counts), sum(of for _, of in counts)
+
+
+def understood(table: Table, reading: Reading, asked: argparse.Namespace) -> Iterator[str]:
+    """How each column was understood, and how many rows of each event there are."""
+    codes = None
+    if asked.by:
+        market = market_of(table, reading, asked.by, Days((), {}), {})
+        known = numpy.flatnonzero(market.codes >= 0)
+        table, codes = table.take(known), market.codes[known]
+    rows = rows_of(table, reading, (), codes)
+    if asked.shape is not None:
+        yield f"shape: {shapes.path_of(asked.shape)}"
+    for ours, meaning in EVENT_COLUMNS.items():
+        theirs = table.names.get(ours)
+        yield f"{ours}: not in the table" if theirs is None else f"{ours}: {theirs} ({meaning})"
+    if asked.by:
+        yield f"by: {asked.by}, {len(market.names)} instruments"
+        if lost := int((market.codes < 0).sum()):
+            yield f"rows without {asked.by} {lost}"
+    for number, event in enumerate(EVENTS):
+        yield f"rows {event} {int((rows.kind == number).sum())}"
+    yield f"rows left out {table.left_out}"
+    bad = [*rows.bad, *short_rows(table, rows, reading)]
+    yield from map(str, bad[:MOST_BAD_ROWS])
+    yield f"bad rows {len(bad)}"
+    notes = {**table.notes, **(+rows.notes)}
+    yield from (f"{name}: {count}" for name, count in notes.items())
+
+
+FACTS = ("version", "program_sha256", "file_sha256", "date", "command")
+"""The version, the SHA-256 of the program and of each file that was read, in their order (the days
+and the shape last), the time of the audit, and the command that repeats it with its options:
+columns of each row.
+"""
+
+
+def facts_of(contents: Iterable[bytes], asked: argparse.Namespace) -> dict[str, str]:
+    """What a verdict on files is of and by (FACTS). Raises ShapeError and OSError."""
+    try:
+        program = finder.digest()
+    except OSError:
+        program = "none"
+    now = datetime.datetime.now(datetime.UTC).isoformat(timespec="seconds")
+    every = [*contents, *(path.read_bytes() for path in _files_of(vars(asked)))]
+    files = " ".join(hashlib.sha256(content).hexdigest() for content in every)
+    command = shlex.join(["python3", "-P", "-m", "callauction", *asked.words])
+    return dict(zip(FACTS, (callauction.__version__, program, files, now, command)))
+
+
+def _files_of(options: Mapping[str, str | None]) -> Iterator[pathlib.Path]:
+    """The files that the options of an extract name, which decide as its rows do."""
+    days, shape = options.get("days"), options.get("shape")
+    if days is not None:
+        yield pathlib.Path(days)
+    if shape is not None:
+        yield shapes.path_of(shape)
+
+
+def write_rows(found: Iterable[Audited], path: str, facts: Mapping[str, str]) -> None:
+    """Writes a row for each instrument, as CSV."""
+    frame_of(each.row() for each in found).assign(**facts).to_csv(path, index=False)
+
+
+def write_findings(found: Iterable[Audited], path: str, facts: Mapping[str, str]) -> None:
+    """Writes all findings, as JSON where the name of the file ends so, else as CSV."""
+    records = [record for each in found for record in each.records]
+    frame = pandas.DataFrame(records, columns=[*RECORD]).assign(**facts)
+    if path.endswith(".json"):
+        frame.to_json(path, orient="records", indent=1)
+    else:
+        frame.to_csv(path, index=False)

@@ -1,10 +1,9 @@
-"""What was published of an auction beside what the rules give: its items, each order's shares, and,
-apart from these, who traded with whom.
-"""
+"""What was published of an auction beside what the rules give: items, shares, then pairs."""
 import dataclasses
-from collections.abc import Iterable, Mapping
+from collections.abc import Collection, Iterable, Mapping
 
 import numpy
+import pandas
 
 from callauction.verdict.cells import Codes, Ints, Mask
 from callauction.verdict.phases import Result, Sums, sums
@@ -88,9 +87,7 @@ def doubted(differences: Iterable[Difference], why: str) -> tuple[Difference, ..
 
 @dataclasses.dataclass(frozen=True)
 class Compared:
-    """The trades of an auction compared: what differs, how many lawful pairs were recorded as they
-    are, and the orders whose shares aren't the lawful ones.
-    """
+    """Trades compared: what differs, lawful pairs recorded as such, orders with wrong shares."""
 
     differences: list[Difference]
     pairs: int
@@ -157,25 +154,12 @@ def compared_trades(
     """How these rows of trades differ from the lawful ones. `owners` has each order's member;
     `allowed` is a price that is passed over, since it was found to be wrong before.
     """
-    many = int(max(rows.bid[these].max(initial=0), rows.ask[these].max(initial=0), len(owners))) + 1
-    pair = rows.bid[these].astype("i8") * many + rows.ask[these]
-    recorded = sums(pair, rows.quantity[these])
-    lawful = sums(result.bid.astype("i8") * many + result.ask, result.quantity)
-    odd = _at_other_prices(rows, these, result, allowed) | _of_others(rows, these, owners)
-    if recorded.agrees(lawful) and not odd.any():
-        return Compared([], len(lawful.keys))
-    has_others = bool(_of_others(rows, these, owners).any())
-    return _Trades(
-        rows, these, result, many, recorded.by_key(), lawful.by_key(), {*pair[odd].tolist()}, pair,
-        stamps, has_others,
-    ).compared()  # fmt: skip
+    return _Trades(rows, these, result, owners, allowed, stamps).compared()
 
 
 def _at_other_prices(rows: Rows, these: Ints, result: Result, allowed: int) -> Mask:
     """Which of these rows have another price than the lawful one."""
-    price = MISSING if result.price is None else result.price
-    found: Mask = ~numpy.isin(rows.price[these], [price, allowed, MISSING])
-    return found
+    return ~numpy.isin(rows.price[these], [result.number, allowed, MISSING])
 
 
 def _of_others(rows: Rows, these: Ints, owners: Ints) -> Mask:
@@ -187,34 +171,39 @@ def _of_others(rows: Rows, these: Ints, owners: Ints) -> Mask:
     return found
 
 
-@dataclasses.dataclass(frozen=True)
 class _Trades:
-    """Trades by the pair of their orders: the recorded shares and the lawful ones, and the pairs
-    with another price or member.
-    """
+    """Trades by the pair of their orders: shares, recorded and lawful, odd prices and members."""
 
-    rows: Rows
-    these: Ints
-    result: Result
-    many: int
-    recorded: dict[int, int]
-    lawful: dict[int, int]
-    odd: set[int]
-    pair: Ints
-    stamps: Ints
-    has_others: bool
+    def __init__(
+        self, rows: Rows, these: Ints, result: Result, owners: Ints, allowed: int, stamps: Ints
+    ) -> None:
+        self.rows, self.these, self.result, self.stamps = rows, these, result, stamps
+        keys = (rows.bid[these], rows.ask[these])
+        self.many = int(max(*(it.max(initial=0) for it in keys), len(owners))) + 1
+        self.pair = keys[0].astype("i8") * self.many + keys[1]
+        of_others = _of_others(rows, these, owners)
+        self.has_others = bool(of_others.any())
+        odd = of_others | _at_other_prices(rows, these, result, allowed)
+        self.odd: set[int] = {*self.pair[odd].tolist()}
+        done = sums(self.pair, rows.quantity[these])
+        due = sums(result.bid.astype("i8") * self.many + result.ask, result.quantity)
+        self.count, self.is_lawful = len(due.keys), done.agrees(due) and not self.odd
+        both = ({}, {}) if self.is_lawful else (done.by_key(), due.by_key())
+        self.recorded, self.lawful = both
 
     def compared(self) -> Compared:
         """What differs: each pair of orders once, or each order, whichever are fewer; where each
         order's shares are right, the prices and the members alone.
         """
+        if self.is_lawful:
+            return Compared([], self.count)
         rows, these, result = self.rows, self.these, self.result
         filled = self._shares(rows.bid[these], rows.ask[these], rows.quantity[these])
         due = self._shares(result.bid, result.ask, result.quantity)
-        is_right = filled.agrees(due)
         same = sum(self.recorded.get(it) == shares for it, shares in self.lawful.items())
-        places = self._places()
-        if is_right:
+        wrong = [it for it, shares in self.recorded.items() if shares != self.lawful.get(it)]
+        places = places_by(self.pair, these, [*self.odd, *wrong])
+        if filled.agrees(due):
             both = [it for it in self.recorded if it in self.odd]
             return Compared(self._both(both, places, self.recorded), same)
         both = [
@@ -224,7 +213,7 @@ class _Trades:
         found = paired([*self._both(both, places, self.lawful), *self._alone(places)])
         shares = filled.by_key(), due.by_key()
         places_of = self._places_by_order(*shares)
-        of_shares = compared_shares(rows, *shares, self._price, places_of, self.many)
+        of_shares = compared_shares(rows, *shares, result.number, places_of, self.many)
         by_order = paired(stamped(of_shares, self.stamps))
         return Compared(by_order if len(by_order) < len(found) else found, same, by_order)
 
@@ -233,14 +222,6 @@ class _Trades:
         keys = numpy.concatenate([bid, ask.astype("i8") + self.many])
         return sums(keys, numpy.tile(quantity, 2))
 
-    def _places(self) -> dict[int, list[int]]:
-        """The rows of each pair that differs."""
-        found: dict[int, list[int]] = {}
-        for pair, place in zip(self.pair.tolist(), self.these.tolist()):
-            if pair in self.odd or self.recorded[pair] != self.lawful.get(pair):
-                found.setdefault(pair, []).append(place)
-        return found
-
     def _both(
         self, pairs: list[int], places: dict[int, list[int]], shares: Mapping[int, int]
     ) -> list[Difference]:
@@ -248,7 +229,7 @@ class _Trades:
         shares; one for all of an auction's trades where they were recorded at one other price and
         are lawful else.
         """
-        prices, lawful = self.rows.prices, self._price
+        prices, lawful = self.rows.prices, self.result.number
         at = {int(self.rows.price[place]) for pair in pairs for place in places[pair]}
         is_price = all(self.recorded[it] == self.lawful.get(it) for it in pairs)
         if len(pairs) > 1 and len(pairs) == len(self.lawful) and len(at) == 1 and is_price:
@@ -269,7 +250,7 @@ class _Trades:
     def _alone(self, places: dict[int, list[int]]) -> list[Difference]:
         """The differences of pairs that are missing, and of those that are extra."""
         missing = [
-            self._difference(it, (), None, (shares, self._price))
+            self._difference(it, (), None, (shares, self.result.number))
             for it, shares in self.lawful.items()
             if it not in self.recorded
         ]
@@ -289,20 +270,11 @@ class _Trades:
         stamp = int(self.stamps[places[0]]) if places else None
         return Difference("trade", one, due, places, (bid, ask), stamp)
 
-    @property
-    def _price(self) -> int:
-        return MISSING if self.result.price is None else self.result.price
-
     def _places_by_order(self, done: dict[int, int], due: dict[int, int]) -> dict[int, list[int]]:
         """The rows of each order whose shares aren't the lawful ones."""
         wrong = [key for key, shares in done.items() if due.get(key) != shares]
-        found: dict[int, list[int]] = {}
-        for keys, more in ((self.rows.bid, 0), (self.rows.ask, self.many)):
-            own = keys[self.these] + more
-            at = numpy.isin(own, wrong)
-            for key, place in zip(own[at].tolist(), self.these[at].tolist()):
-                found.setdefault(key, []).append(place)
-        return found
+        both = self.rows.bid[self.these], self.rows.ask[self.these].astype("i8") + self.many
+        return places_by(numpy.concatenate(both), numpy.tile(self.these, 2), wrong)
 
 
 # ---- fills
@@ -311,19 +283,15 @@ class _Trades:
 def compared_fills(
     rows: Rows, these: Ints, result: Result, owners: Ints, allowed: int, stamps: Ints
 ) -> list[Difference]:
-    """How these rows with an order's shares differ from the lawful fills, or from each order's
-    member in `owners`.
-    """
+    """How these fills differ from the lawful ones, or from each order's member in `owners`."""
     filled = sums(rows.key[these], rows.quantity[these])
     owner, member = owners[rows.key[these]], rows.member[these]
     of_others = (owner >= 0) & (member != MISSING) & (member != owner)
     odd = these[_at_other_prices(rows, these, result, allowed) | of_others]
     if filled.agrees(result.fills) and not len(odd):
         return []
-    places: dict[int, list[int]] = {}
-    for key, place in zip(rows.key[these].tolist(), these.tolist()):
-        places.setdefault(key, []).append(place)
-    price = MISSING if result.price is None else result.price
+    places = places_by(rows.key[these], these, [*filled.keys, *rows.key[odd]])
+    price = result.number
     found = compared_shares(rows, filled.by_key(), result.fills.by_key(), price, places)
     named = {each.keys[0] for each in found}
     at = {int(rows.key[place]): place for place in odd[::-1].tolist()}
@@ -333,6 +301,13 @@ def compared_fills(
             one, due = Fill(key, shares, int(rows.price[place])), Fill(key, shares, price)
             found.append(Difference(FILL, one, due, (place,), (key,)))
     return paired(stamped(found, stamps))
+
+
+def places_by(keys: Ints | Codes, places: Ints, those: Collection[int]) -> dict[int, list[int]]:
+    """By key the places of rows with it, for those of these keys."""
+    known = numpy.isin(keys, [*those])
+    found = pandas.Series(places[known]).groupby(keys[known]).agg(list)
+    return {int(key): own for key, own in found.items()}
 
 
 def stamped(differences: Iterable[Difference], stamps: Ints) -> list[Difference]:

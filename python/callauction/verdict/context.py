@@ -4,6 +4,7 @@ executed of each and what is lawful, in the extract's ids, members, times and pr
 import dataclasses
 import decimal
 import functools
+from collections.abc import Collection
 from decimal import Decimal
 
 import numpy
@@ -12,14 +13,10 @@ import pandas
 from callauction.program import Day
 from callauction.tables import BOOK, table_of
 from callauction.verdict.cells import Ints
-from callauction.verdict.judged import Judged, Rules
+from callauction.verdict.judged import Judged, Range, Rules
 from callauction.verdict.phases import Result, Uncross, recorded_sums
-from callauction.verdict.ranges import Range
-from callauction.verdict.rows import (
-    CANCEL, FILL, MARKET, NEW, OWN, REPLACE, SIDES, TRADE, Rows,
-)  # fmt: skip
+from callauction.verdict.rows import CANCEL, FILL, MARKET, NEW, OWN, REPLACE, SIDES, TRADE, Rows
 from callauction.words import AUCTIONS
-
 
 _WIDE = decimal.Context(prec=80)
 """For prices of up to 60 digits."""
@@ -50,9 +47,7 @@ class RestingOrder:
 
 @dataclasses.dataclass(frozen=True)
 class Context:
-    """What a finding is explained from: its uncross, the rows of its day, the rules, and the
-    uncrosses before it.
-    """
+    """What a finding is explained from: its uncross, its day, the rules, the uncrosses above."""
 
     judged: Judged
     rows: Rows
@@ -91,13 +86,12 @@ class Context:
     @property
     def label(self) -> object:
         """The name of its row."""
-        label: object = self.rows.labels[self.judged.place]
-        return label
+        return self.rows.labels[self.judged.place]
 
     @property
     def time(self) -> str:
         """The time of its row."""
-        return self.rows.names.time(self.judged.place)
+        return self.rows.names.legible_time(self.judged.place)
 
     def price(self, price: Decimal) -> str:
         """A price with the decimals of the tick size, where that is known."""
@@ -139,14 +133,12 @@ class Context:
         key, price, since = int(book.key[at]), int(book.price[at]), int(book.since[at])
         return RestingOrder(
             key, self.order(key), self.member(key), SIDES[book.side[at]], int(book.quantity[at]),
-            None if price == MARKET else rows.prices[price], rows.names.time(since),
+            None if price == MARKET else rows.prices[price], rows.names.legible_time(since),
             rows.labels[since], "replaced" if rows.kind[since] == REPLACE else "entered",
         )  # fmt: skip
 
     def closed_by(self, key: int) -> int | None:
-        """The last row above the uncross that cancels an order as a whole, or is a trade or a fill
-        of it; None where there is none.
-        """
+        """The last row above that cancels an order whole, or executes it; None where none does."""
         rows = self.rows
         is_out = (rows.kind == CANCEL) & (rows.quantity <= 0) | (rows.kind == FILL)
         is_trade = (rows.kind == TRADE) & ((rows.bid == key) | (rows.ask == key))
@@ -156,9 +148,7 @@ class Context:
         return int(these[-1]) if len(these) else None
 
     def lapsed(self, key: int) -> str:
-        """The auction before this one that an entered order is for alone, empty for none, and where
-        that executed all of it or a row cancels it.
-        """
+        """The auction before this one that ended an order that was for it alone; empty for none."""
         only = int(self.rows.only[self.entered[key]])
         own = OWN.index(only) if only > 0 else len(OWN)
         last = self.closed_by(key)
@@ -182,6 +172,13 @@ class Context:
         book = self.judged.book
         counts = book.counted(self.judged.auction)
         return {SIDES[side]: book.ranked(counts & (book.side == side)) for side in (1, 2)}
+
+    def meeting(self, side: str, number: int) -> tuple[Ints, Ints]:
+        """The orders of a side that trade at a price, in their priority: keys, and open shares."""
+        book, queue = self.judged.book, self.queues[side]
+        at = book.price[queue]
+        meets = queue[(at == MARKET) | (at >= number if side == "bid" else at <= number)]
+        return book.key[meets].astype("i8"), book.quantity[meets]
 
     @functools.cached_property
     def places(self) -> dict[int, tuple[str, int]]:
@@ -225,9 +222,7 @@ class Context:
 
     @functools.cached_property
     def gaps(self) -> dict[str, dict[int, int]]:
-        """By side, and by the key of each order in its priority, how many shares more were recorded
-        as executed than are lawful; orders without such a gap are left out.
-        """
+        """By side and by key, in priority, how many more shares than lawful are recorded."""
         found: dict[str, dict[int, int]] = {}
         for side, queue in self.queues.items():
             keys = self.judged.book.key[queue].tolist()
@@ -263,11 +258,44 @@ class Context:
 
     def named(self, tick: int) -> Decimal:
         """The price of a tick that the program names."""
-        price: Decimal = self.rows.prices[int(self.uncross.named[int(tick) - 1])]
-        return price
+        return self.rows.prices[int(self.uncross.named[int(tick) - 1])]
 
     @functools.cached_property
     def books(self) -> pandas.DataFrame:
         """The book before the uncross (tables.BOOK), in ticks. Raises ProgramError."""
         found = table_of(Day(self.uncross.journal()).printed("book"), BOOK)
         return found[found["auction"] == self.auction].reset_index(drop=True)
+
+
+# ---- the queue as a frame
+
+
+QUEUE = (
+    "side", "place", "order", "member", "since", "row", "price", "open", "recorded", "lawful",
+)  # fmt: skip
+"""`place` is the order's from 1 among those of its side, `since` the time from which its place in
+time is, `price` its limit (None is a market order's), `open` its open shares before the uncross,
+`recorded` and `lawful` the shares that were executed of it (`<NA>` where nothing was recorded).
+"""
+AROUND = 5
+"""How many orders are shown before and after those that a finding is of."""
+
+
+def queue_of(context: Context, orders: Collection[int], around: int = AROUND) -> pandas.DataFrame:
+    """The queue of both sides (QUEUE) around these orders, or else around the last executed."""
+    rows: list[tuple[object, ...]] = []
+    for side, queue in context.queues.items():
+        keys = context.judged.book.key[queue].tolist()
+        touched = [place for place, key in enumerate(keys) if key in orders]
+        executed = [place for place, key in enumerate(keys) if key in context.fills]
+        center = touched or executed[-1:] or [0]
+        first, last = max(0, center[0] - around), center[-1] + around + 1
+        for place, at in enumerate(queue[first:last].tolist(), first + 1):
+            order = context.open_order(at)
+            recorded = context.recorded.get(order.key, 0) if context.has_records else pandas.NA
+            rows.append((
+                side, place, order.order, order.member, order.since, order.row, order.price,
+                order.quantity, recorded, context.fills.get(order.key, 0),
+            ))  # fmt: skip
+    frame = pandas.DataFrame(rows, columns=[*QUEUE])
+    return frame.astype({"recorded": "Int64", "price": "object"})

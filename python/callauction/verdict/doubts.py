@@ -14,14 +14,14 @@ import numpy
 
 from callauction.verdict import clocks
 from callauction.verdict.cells import Ints, Mask
+from callauction.verdict.columns import ExtractError
 from callauction.verdict.comparing import Difference, Fill, Trade, keys_of, members_of
 from callauction.verdict.mixed import is_one_session
+from callauction.verdict.names import is_placeholder, respelled
 from callauction.verdict.phases import Book, Result
-from callauction.verdict.reading import ExtractError
 from callauction.verdict.rows import (
     BAD, FILL, MISSING, NEW, STOPPED, TAKEN, TRADE, BadRow, Doubt, Rows,
 )  # fmt: skip
-from callauction.verdict.spelling import is_placeholder, respelled
 from callauction.verdict.strays import Strays
 from callauction.verdict.ties import Ties
 from callauction.words import AUCTIONS
@@ -75,8 +75,8 @@ class Doubts:
         self.gap = self._gap(due)
         strays = Strays(rows, self.all_orders, uncrosses)
         self.within, self.homes = strays.within(), strays.auctions(due)
-        """The trades within a call phase; and by their places of which auctions trades that name
-        none, and results, may be, where a result is missing.
+        """Trades within a call phase; and by their places of which auctions trades that name none,
+        and results, may be, where a result is missing.
         """
         self.unknown = self._unknown()
 
@@ -179,9 +179,7 @@ class Doubts:
         return is_new
 
     def above(self, place: int, refused: Iterable[BadRow]) -> Reason | None:
-        """Why the book at a place is in doubt: an uncross above it, or a row, is missing, or orders
-        traded between the auctions.
-        """
+        """Why the book at a place is in doubt: rows above are missing, or orders traded between."""
         if self.gap is not None and place >= self.gap[0]:
             return Reason(self.gap[1])
         if len(self.within) and self.within[0] < place:
@@ -204,9 +202,7 @@ class Doubts:
         return next((row.unknown for row in odd), "")
 
     def _unknown(self) -> Reason | None:
-        """Why all books of the day are in doubt: a trade or a fill, which may be a bad row, names
-        an order that no row enters.
-        """
+        """Why all books of the day are in doubt: a trade or a fill is of an order no row enters."""
         rows, named = self.rows, []
         if (self.entered < 0).all():
             return Reason("no row enters an order")
@@ -253,31 +249,26 @@ class Doubts:
         own = (these[~numpy.isin(these, outside)] for these in (traded, filled))
         why = self.ties.of_shares(book, auction, result, traded, filled)
         why, strays = why or self.ties.of_shares(book, auction, result, *own), {*outside.tolist()}
-        if why:
-            return [
-                self.stray(it) if _is_extra(it, strays) else dataclasses.replace(
-                    it, doubt=self._of_naming(it) if _has_lawful_orders(it) else why
-                )
-                for it in found
-            ]  # fmt: skip
-        end = self.lost(place, traded, filled, result.volume)
+        end = "" if why else self.lost(place, traded, filled, result.volume)
         of_orders = [
             self.stray(it).doubt if _is_extra(it, strays) else self._of_trade(it, end)
-            for it in by_order
-        ]
+            for it in by_order if not why
+        ]  # fmt: skip
         chosen = of_orders[0] if all(of_orders) and of_orders else ""
+
+        def doubt_of(it: Difference) -> str:
+            if why:
+                return self._of_naming(it) if _has_lawful_orders(it) else why
+            is_pairing = it.recorded is not None and not _has_lawful_orders(it)
+            return self._of_trade(it, end) or self._of_naming(it) or chosen * is_pairing
+
         return [
-            self.stray(it) if _is_extra(it, strays) else dataclasses.replace(
-                it, doubt=self._of_trade(it, end) or self._of_naming(it)
-                or (chosen if it.recorded is not None and not _has_lawful_orders(it) else ""),
-            )
-            for it in found
+            self.stray(it) if _is_extra(it, strays)
+            else dataclasses.replace(it, doubt=doubt_of(it)) for it in found
         ]  # fmt: skip
 
     def _of_naming(self, each: Difference) -> str:
-        """Why the members of a trade or a fill may be right that has its lawful orders and price:
-        they are placeholders.
-        """
+        """Why the members of a trade or fill that is lawful else may be right: placeholders."""
         one, other, rows = each.recorded, each.lawful, self.rows
         if not isinstance(one, Trade | Fill) or one != other:
             return ""
@@ -293,9 +284,7 @@ class Doubts:
 
     @functools.cached_property
     def _other_names(self) -> str:
-        """Why no member of a trade or a fill is known: none is one that orders have, in any
-        spelling.
-        """
+        """Why no member of a trade or a fill is known: none is an order's in any spelling."""
         rows = self.rows
         named = numpy.concatenate([rows.bid_member, rows.ask_member, rows.member[rows.of(FILL)]])
         own = rows.member[rows.kind != FILL]
@@ -329,8 +318,7 @@ class Doubts:
         return self.filed(dataclasses.replace(each, doubt=why))
 
     def filed(self, each: Difference) -> Difference:
-        """The difference of a trade or a fill that is in doubt, with the auction that it may be of.
-        """
+        """The difference of a doubtful trade or fill, with the auction that it may be of."""
         is_made = each.doubt and isinstance(each.recorded, Trade | Fill)
         homes = {self.homes.get(place) for place in each.places if is_made}
         home = homes.pop() if len(homes) == 1 else None
@@ -415,8 +403,7 @@ class Doubts:
         if half := self._half(lawful):
             return half
         if isinstance(lawful, Trade | Fill) and self.rows.dropped:
-            keys = (lawful.bid, lawful.ask) if isinstance(lawful, Trade) else (lawful.order,)
-            if {*map(self.rows.names.order, keys)} & self.rows.dropped:
+            if {*map(self.rows.names.order, keys_of(lawful))} & self.rows.dropped:
                 return "a trade of such an order doesn't meet --where"
         return self._of_busted(lawful)
 
@@ -450,9 +437,7 @@ def _is_extra(each: Difference, strays: set[int]) -> bool:
 
 
 def _has_lawful_orders(each: Difference) -> bool:
-    """Whether a trade or a fill has the lawful orders and shares, and differs in its price or
-    members.
-    """
+    """Whether a trade or a fill is lawful but for its price or its members."""
     one, other = each.recorded, each.lawful
     if isinstance(one, Trade) and isinstance(other, Trade):
         return (one.bid, one.ask, one.quantity) == (other.bid, other.ask, other.quantity)

@@ -1,6 +1,4 @@
-"""Commands as arrays, answered by the proved library, or by the proved program where the library
-isn't there.
-"""
+"""Commands as arrays, answered by the proved library, or else by the proved program."""
 import functools
 import re
 from typing import Any
@@ -9,17 +7,30 @@ import numpy
 
 from callauction.arrays import COMMAND, REPLY, Structs
 from callauction.program import Day
-from callauction.words import AuctionKind, ReplyTag, Side
+from callauction.words import AUCTIONS, AuctionKind, ReplyTag, Side
 from callauction.written import command_of, fields_of
 
 OPERATOR, MEMBER = 0, 1
 """All orders are one member's: whose an order is decides no price and no fill."""
-_LINE = re.compile(
-    r"\d+: (?:entered (?P<entered>\d+)|changed (?P<changed>kept|moved)|(?P<deleted>deleted)"
-    r"|refused (?P<refused>\d+) \w+|trade (?P<bid>\d+) (?P<ask>\d+) (?P<shares>\d+) at \d+"
-    r"|(?:(?P<auction>opening|intraday|closing) )?(?:(?P<none>no price).*|price (?P<tick>\d+) "
-    r"volume (?P<volume>\d+) surplus (?P<surplus>\d+) (?P<side>\w+)(?: trades (?P<trades>\d+))?))"
+_PRICE = (
+    r"price (?P<tick>\d+) volume (?P<volume>\d+) surplus (?P<surplus>\d+) "
+    r"(?P<side>bid|ask|none)"
 )
+_FORMS = {
+    "entered": (ReplyTag.ENTERED, r"entered (?P<id>\d+)"),
+    "trade": (ReplyTag.TRADED, r"trade (?P<id>\d+) (?P<ask>\d+) (?P<quantity>\d+) at \d+"),
+    "refused": (ReplyTag.REFUSED, r"refused (?P<refusal>\d+) \w+"),
+    "changed": (ReplyTag.CHANGED, r"changed (?P<kept>kept|moved)"),
+    "deleted": (ReplyTag.DELETED, "deleted"),
+    "price": (ReplyTag.PRICED, _PRICE),
+    "no": (ReplyTag.UNPRICED, "no price.*"),
+}
+"""By their first words the tags and the texts of replies, whose groups are fields of REPLY."""
+_UNCROSSED = rf"(?P<auction>\w+) (?:no price.*|{_PRICE} trades (?P<trades>\d+))"
+_FORMS |= dict.fromkeys(AUCTIONS, (ReplyTag.UNCROSSED, _UNCROSSED))
+_READ = {word: (int(tag), re.compile(rf"\d+: {form}")) for word, (tag, form) in _FORMS.items()}
+_WORDS = {"kept": 1, "moved": 0}
+_WORDS |= {it.name.lower(): it.value for kind in (Side, AuctionKind) for it in kind}
 
 
 @functools.cache
@@ -58,41 +69,19 @@ def _printed(config: tuple[int, int, int, int, int], commands: Structs) -> Struc
     _, ticks, reference, orders, _ = config
     lines = Day(journal_of(ticks, reference, orders, commands)).printed().splitlines()
     replies = numpy.zeros(len(commands), REPLY)
-    for place, line in enumerate(lines):
-        found = _LINE.fullmatch(line)
-        assert found, line
-        _read(found, replies[place : place + 1])
+    for reply, line in zip(replies, lines, strict=True):
+        _read(line, reply)
+    replies["has_tick"] = replies["tick"] > 0
     return replies
 
 
-def _read(found: "re.Match[str]", reply: Structs) -> None:
-    """Writes what a line says into a reply."""
-    number = {name: int(it) for name, it in found.groupdict().items() if it and it.isdecimal()}
-    if "entered" in number:
-        reply["tag"], reply["id"] = ReplyTag.ENTERED, number["entered"]
-    elif found["changed"]:
-        reply["tag"], reply["kept"] = ReplyTag.CHANGED, found["changed"] == "kept"
-    elif found["deleted"]:
-        reply["tag"] = ReplyTag.DELETED
-    elif "refused" in number:
-        reply["tag"], reply["refusal"] = ReplyTag.REFUSED, number["refused"]
-    elif "bid" in number:
-        reply["tag"], reply["id"], reply["ask"] = ReplyTag.TRADED, number["bid"], number["ask"]
-        reply["quantity"] = number["shares"]
-    else:
-        _read_price(found, number, reply)
-
-
-def _read_price(found: "re.Match[str]", number: dict[str, int], reply: Structs) -> None:
-    """Writes the price that a line says, or that there is none, into a reply."""
-    has_price = "tick" in number
-    if found["auction"]:
-        reply["tag"] = ReplyTag.UNCROSSED
-        reply["auction"] = AuctionKind[found["auction"].upper()]
-    else:
-        reply["tag"] = ReplyTag.PRICED if has_price else ReplyTag.UNPRICED
-    if has_price:
-        reply["has_tick"], reply["side"] = 1, Side[found["side"].upper()]
-        for name in ("tick", "volume", "surplus"):
-            reply[name] = number[name]
-        reply["trades"] = number.get("trades", 0)
+def _read(line: str, reply: numpy.void) -> None:
+    """Writes what a line of the program says into the fields of its reply."""
+    word = line.partition(": ")[2].partition(" ")[0]
+    assert word in _READ, line
+    reply["tag"], form = _READ[word]
+    found = form.fullmatch(line)
+    assert found, line
+    for name, value in found.groupdict().items():
+        if value is not None:
+            reply[name] = _WORDS[value] if value in _WORDS else int(value)

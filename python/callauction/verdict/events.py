@@ -1,6 +1,4 @@
-"""The events of an extract: the columns of a table become rows, and those that can't be read are
-listed.
-"""
+"""The events of an extract: the columns of a table become rows, bad ones are listed."""
 import dataclasses
 import fractions
 import functools
@@ -14,14 +12,13 @@ import numpy
 import pandas
 
 from callauction.verdict import clocks, times
-from callauction.verdict.again import drop_sent_again
+from callauction.verdict.again import drop_sent_again, find_holes, gaps_of, remark_of
 from callauction.verdict.cells import Cells, Codes, Ints, Mask, numbered, paired_codes
-from callauction.verdict.columns import EVENTS, KINDS
-from callauction.verdict.holes import find_holes, gaps_of, remark_of
+from callauction.verdict.columns import EVENTS, KINDS, ExtractError
 from callauction.verdict.joining import join_sides, take_busted
 from callauction.verdict.mixed import LONGEST
-from callauction.verdict.names import make_keys
-from callauction.verdict.reading import ExtractError, Reading, Table
+from callauction.verdict.names import below_their_entries, make_keys
+from callauction.verdict.reading import Reading, Table
 from callauction.verdict.rows import (
     BAD, BUST, CANCEL, CONTINUOUS, FILL, MARKET, MISSING, NEW, NO_PRICE, OUTSIDE, REPLACE,
     RESTRICTIONS, SIDES, STATES, STOPPED, TRADE, UNCROSS, BadRow, Bytes, Doubt, Names, Rows,
@@ -77,18 +74,18 @@ def rows_of(
         gaps = gaps_of(rows.number, *dropped_numbers(table, reading))
         find_holes(rows, gaps)
         rows.notes.update(remark_of(gaps))
+    rows = below_their_entries(rows)
     make_keys(rows, ids_unread)
     take_busted(rows)
     if rows.is_odd.any():
-        cell = columns.cells("time").text(int(rows.is_odd.argmax()))
+        cell = rows.names.time(int(rows.is_odd.argmax()))
         rows.notes[f"{NO_TIME}, such as {cell!r}"] += int(rows.is_odd.sum())
         rows.notes[STROKES] += times.is_stroked(times.date_text(cell))
     return rows
 
 
 def dropped_numbers(table: Table, reading: Reading) -> list[Ints]:
-    """The numbers in a sequence of the rows that don't meet all conditions, where there are some.
-    """
+    """The numbers in a sequence of rows that don't meet all conditions, where there are some."""
     if table.dropped is None:
         return []
     return [Columns(table.dropped, table.names, reading).row_numbers()]
@@ -122,22 +119,17 @@ def _read(
     return rows, is_market
 
 
-def kinds_in(table: Table, reading: Reading) -> Bytes:
-    """The number of each row's event, below 0 for none."""
-    return Columns(table.source, table.names, reading).words("event", KINDS)
-
-
-def auctions_in(table: Table, reading: Reading) -> tuple[Bytes, Bytes]:
-    """The number of the auction that each row names, and of the one that its order is for alone."""
-    columns = Columns(table.source, table.names, reading)
-    return columns.words("auction", _STATE), columns.words("restriction", _ONLY)
+def said_in(table: Table, reading: Reading) -> tuple[Bytes, Bytes, Bytes]:
+    """The number of each row's event, below 0 for none, of the auction that it names, and of the
+    one that its order is for alone.
+    """
+    words = Columns(table.source, table.names, reading).words
+    return words("event", KINDS), words("auction", _STATE), words("restriction", _ONLY)
 
 
 def orders_in_time(table: Table, reading: Reading) -> tuple[Ints, Ints]:
-    """The places of the rows `new` by time, sequence and place, and those of the others. Raises
-    ExtractError.
-    """
-    is_new = kinds_in(table, reading) == NEW
+    """The places of rows `new` by time, sequence and place, and of others. Raises ExtractError."""
+    is_new = Columns(table.source, table.names, reading).words("event", KINDS) == NEW
     orders, others = numpy.flatnonzero(is_new), numpy.flatnonzero(~is_new)
     if "time" in table.names:
         sorts = dataclasses.replace(reading, sort=True)
@@ -216,9 +208,7 @@ def _refuse_unread(columns: Columns, time: Ints) -> None:
 
 
 def _refuse_untimed(columns: Columns, time: Ints) -> None:
-    """Raises ExtractError where rows without a time have no place among those that are sorted:
-    those of orders, of results, and of trades that name no auction.
-    """
+    """Raises ExtractError where rows without a time have no place among those that are sorted."""
     if "time" not in columns.names:
         return
     kinds = columns.words("event", KINDS)
@@ -234,8 +224,8 @@ def _refuse_untimed(columns: Columns, time: Ints) -> None:
 
 
 def _refuse_forms(columns: Columns, lead: Codes) -> None:
-    """Raises ExtractError where times of one instrument have a date or a zone and others none, so
-    that it isn't known which is first.
+    """Raises ExtractError where an instrument's times have dates or zones, and others none, so
+    nothing says which is first.
     """
     if "time" not in columns.names:
         return
@@ -288,7 +278,7 @@ def _ids(columns: Columns, lead: Codes) -> tuple[dict[str, Codes], Ints]:
     names = [name for name in IDS if name in columns.names]
     cells = [columns.cells(name) for name in names]
     joined = Cells(
-        cells[0].buffer,
+        max((each.buffer for each in cells), key=len),
         numpy.stack([each.start for each in cells], 1).ravel(),
         numpy.stack([each.length for each in cells], 1).ravel(),
     )
@@ -299,8 +289,6 @@ def _ids(columns: Columns, lead: Codes) -> tuple[dict[str, Codes], Ints]:
         codes[filled] = own
         first = filled[numpy.unique(own, return_index=True)[1]] if len(own) else first
     found = dict(zip(names, codes.reshape(-1, len(names)).T.copy()))
-    if "new_order" in found:
-        found["new_order"][columns.is_empty("new_order")] = MISSING
     return found, first
 
 
@@ -346,17 +334,13 @@ _DOUBTS = {NEW: Doubt.ORDER, TRADE: Doubt.TRADES, FILL: Doubt.TRADES, BUST: Doub
 
 
 def _refuse(rows: Rows, columns: Columns, which: Mask, name: str, why: str) -> None:
-    """Notes rows whose cell of a column is missing or can't be read, for the reason `why`."""
-    for place in numpy.flatnonzero(which & (rows.kind != BAD)):
-        text = _unread(rows, columns, int(place), name, why)
-        rows.refuse(place, text, _DOUBTS.get(int(rows.kind[place]), Doubt.BOOKS))
-
-
-def _lose(rows: Rows, columns: Columns, which: Mask, name: str, why: str) -> None:
-    """Notes cells of uncrosses that can't be read."""
-    for place in numpy.flatnonzero(which).tolist():
+    """Notes rows whose cell of a column is missing or unread, for `why`; of results it alone."""
+    for place in numpy.flatnonzero(which & (rows.kind != BAD)).tolist():
         text = _unread(rows, columns, place, name, why)
-        rows.bad.append(BadRow(place, rows.labels[place], text, Doubt.ITEM, place))
+        if rows.kind[place] == UNCROSS:
+            rows.bad.append(BadRow(place, rows.labels[place], text, Doubt.ITEM, place))
+        else:
+            rows.refuse(place, text, _DOUBTS.get(int(rows.kind[place]), Doubt.BOOKS))
 
 
 def _unread(rows: Rows, columns: Columns, place: int, name: str, why: str) -> str:
@@ -396,9 +380,6 @@ def _look_at_orders(rows: Rows, columns: Columns, is_market: Mask) -> None:
     is_limit = is_new | (kind == REPLACE)
     _refuse(rows, columns, (is_limit | is_cancel) & (rows.key < 0), "order", "")
     _refuse(rows, columns, is_new & (rows.side <= 0), "side", _none_of(_SIDE))
-    unread = is_cancel & (rows.quantity == BAD)
-    if unread.any():
-        rows.quantity[unread & columns.is_empty("quantity")] = MISSING
     if not rows.has_market:
         rows.price[is_limit & (rows.price == EMPTY_PRICE)] = MARKET
     quantity = is_limit & (rows.quantity < 0) | is_cancel & (rows.quantity == BAD)
@@ -415,6 +396,7 @@ def _look_at_orders(rows: Rows, columns: Columns, is_market: Mask) -> None:
 def _look_at_results(rows: Rows, columns: Columns) -> None:
     """Refuses rows of trades that can't be read, and the cells of uncrosses that can't."""
     kind = rows.kind
+    rows.price[(kind >= UNCROSS) & (rows.price == EMPTY_PRICE)] = MISSING
     is_alone = (kind == BUST) & (rows.key >= 0) & (rows.bid < 0) & (rows.ask < 0)
     is_trade, is_fill = (kind == TRADE) | (kind == BUST) & ~is_alone, (kind == FILL) | is_alone
     both = is_trade | is_fill
@@ -432,7 +414,7 @@ def _look_at_results(rows: Rows, columns: Columns) -> None:
     volume = columns.wholes("volume")
     rows.quantity = numpy.where(uncross & (volume != MISSING), volume, rows.quantity)
     unread = uncross & (rows.price < NO_PRICE)
-    _lose(rows, columns, unread, "price", _NO_DECIMAL)
+    _refuse(rows, columns, unread, "price", _NO_DECIMAL)
     rows.price[unread] = MISSING
     without = (rows.price == MISSING) & (rows.quantity == 0)
     rows.price[uncross & (without | _is_zero(rows) & (rows.quantity == 0))] = NO_PRICE
@@ -445,7 +427,7 @@ def _look_at_results(rows: Rows, columns: Columns) -> None:
     ]
     for name, values, why in cells:
         unread = uncross & (values == BAD)
-        _lose(rows, columns, unread, name, why)
+        _refuse(rows, columns, unread, name, why)
         values[unread] = MISSING
 
 
@@ -519,8 +501,8 @@ def _why_not(
 
 
 def plain_frame(table: Table, reading: Reading = Reading()) -> pandas.DataFrame:
-    """The rows of a table in our words and plain numbers, in their order, so that no sequence is
-    left; what is missing, or means a market order, is None.
+    """A table's rows in our words and plain numbers, in their order, so that no sequence is left;
+    None for what is missing, or market.
     """
     columns, _, _ = _ordered(table, reading, None)
     found = {}

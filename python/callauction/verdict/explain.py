@@ -7,40 +7,42 @@ from callauction.reasons import explain as explain_book
 from callauction.verdict.comparing import FILL, PRIORITY, Difference, Fill, Trade, keys_of
 from callauction.verdict.context import Context, RestingOrder
 from callauction.verdict.rows import (
-    CANCEL, INTERRUPTED, MARKET, MISSING, OWN, RESTRICTIONS, SIDES,
+    CANCEL, INTERRUPTED, MISSING, OWN, RESTRICTIONS, SIDES,
 )  # fmt: skip
 
-PRICE_ITEMS = ("volume", "surplus", "side")
+KEPT = (
+    "A replace keeps the place in time where the limit is the same and the quantity isn't greater, "
+    "and else loses it."
+)
 PRIORITIES = "The volume falls to the orders of each side in their priority."
 
 
 def rule_of(context: Context, difference: Difference) -> str:
     """The first sentence of a difference."""
-    if difference.rule:
-        return difference.rule
-    if difference.item in ("trade", FILL):
-        return next(_of_trade(context, difference), PRIORITIES)
-    return sentences_of(context, difference)[0]
+    return next(_sentences(context, difference), PRIORITIES)
 
 
 def sentences_of(context: Context, difference: Difference) -> list[str]:
     """The sentences of a difference."""
+    return [*dict.fromkeys(_sentences(context, difference))] or [PRIORITIES]
+
+
+def _sentences(context: Context, difference: Difference) -> Iterator[str]:
+    """The sentences of a difference, of which one may come twice, or none at all."""
     if difference.rule:
-        return [difference.rule]
-    if difference.item == "auction":
-        return [*_of_auction(context, difference)]
-    if difference.item == "price":
-        return _of_price(context)
-    if difference.item in PRICE_ITEMS:
-        return _of_volume(context)
-    if difference.item == "count":
-        return [_of_count(context), *_of_volume(context)]
-    if difference.item == PRIORITY:
-        return [
-            "A replace keeps the place in time where the limit is the same and the quantity isn't "
-            "greater, and else loses it."
-        ]
-    return [*dict.fromkeys(_of_trade(context, difference))] or [PRIORITIES]
+        yield difference.rule
+    elif difference.item == "auction":
+        yield from _of_auction(context, difference)
+    elif difference.item == "price":
+        yield from _of_price(context)
+    elif difference.item == PRIORITY:
+        yield KEPT
+    elif difference.item in ("trade", FILL):
+        yield from _of_trade(context, difference)
+    else:
+        if difference.item == "count":
+            yield _of_count(context)
+        yield from _of_volume(context)
 
 
 # ---- prices
@@ -74,12 +76,8 @@ def effect_of(context: Context, difference: Difference) -> str:
 
 def _executed(context: Context, number: int) -> str:
     """What the orders before an uncross execute at a price, and what that leaves."""
-    book, price = context.judged.book, context.rows.prices[number]
-    sums = []
-    for side, queue in context.queues.items():
-        at = book.price[queue]
-        meets = at >= number if side == "bid" else at <= number
-        sums.append(int(book.quantity[queue][meets | (at == MARKET)].sum()))
+    price = context.rows.prices[number]
+    sums = [int(context.meeting(side, number)[1].sum()) for side in ("bid", "ask")]
     executed, left = min(sums), abs(sums[0] - sums[1])
     side = f" {SIDES[1 if sums[0] > sums[1] else 2]}" if left else ""
     return f"{context.price(price)} executes {executed:,} with {left:,}{side} left"
@@ -180,8 +178,7 @@ def _of_trade(context: Context, difference: Difference) -> Iterator[str]:
 
 
 def _of_open(context: Context, recorded: Trade | Fill) -> Iterator[str]:
-    """Which order of a trade or a fill has fewer shares open than were recorded, there or in all.
-    """
+    """Which order of a trade or a fill has fewer shares open than were recorded of it."""
     for key in keys_of(recorded):
         order = context.open_order(context.at[key]) if key in context.at else None
         if order is None:
@@ -219,7 +216,7 @@ def _closing(context: Context, key: int) -> str:
     if place is None:
         return "executed, cancelled or refused before"
     word = "cancelled" if context.rows.kind[place] == CANCEL else "executed"
-    time = context.rows.names.time(place)
+    time = context.rows.names.legible_time(place)
     return f"{word} in row {context.rows.labels[place]}{f', {time}' if time else ''}"
 
 
@@ -255,9 +252,7 @@ def _a(side: str) -> str:
 
 
 def recorded_members(context: Context, difference: Difference) -> tuple[str, ...]:
-    """The members that the rows of a recorded trade have of its bid and its ask, or those of a fill
-    of its order; empty for none.
-    """
+    """The members that rows of a trade have of bid and ask, or a fill's; empty for none."""
     made = difference.recorded
     if not isinstance(made, Trade | Fill):
         return "", ""
@@ -300,9 +295,7 @@ def _of_trade_price(context: Context, recorded: Trade | Fill) -> Iterator[str]:
 
 
 def _of_queue(context: Context, difference: Difference) -> Iterator[str]:
-    """Who comes before whom, and how much falls to an order: first to one that has other shares
-    than the lawful ones.
-    """
+    """Who comes before whom, and how much falls to an order: first to those with wrong shares."""
     places, shares = context.places, list[tuple[bool, int]]()
     for side, gaps in context.gaps.items():
         named = [it for it in difference.keys if it in places and places[it][0] == side]
@@ -339,9 +332,7 @@ def _entered(order: RestingOrder) -> str:
 
 
 def _share(context: Context, order: RestingOrder, told: int) -> str:
-    """How much of the volume falls to an order, and how much to those before it; and what was
-    recorded of it in all, where that is neither lawful nor as many shares as are told.
-    """
+    """How much falls to an order and to those before it, and what was recorded beside that."""
     place, count = context.places[order.key][1] + 1, len(context.queues[order.side])
     due, made = context.fills.get(order.key, 0), context.recorded.get(order.key, 0)
     got = f", and {made:,} are recorded of it" if made not in (due, told) else ""

@@ -9,14 +9,12 @@ from callauction import statuses
 from callauction.reasons import Explanation
 from callauction.verdict import jumps
 from callauction.verdict.comparing import Difference, Fill, Trade, Value
-from callauction.verdict.context import Context
-from callauction.verdict.coverage import Coverage, coverage_of
+from callauction.verdict.context import AROUND, Context, queue_of
 from callauction.verdict.explain import (
     book_sentences, effect_of, recorded_members, rule_of, sentences_of,
 )  # fmt: skip
-from callauction.verdict.judged import Judged, Judgement, Rules
+from callauction.verdict.judged import Coverage, Judged, Judgement, Rules, coverage_of
 from callauction.verdict.orders import orders_of
-from callauction.verdict.queue import AROUND, queue_of
 from callauction.verdict.rows import NO_PRICE, BadRow, Rows
 
 LAWFUL, UNLAWFUL, INCOMPLETE = "lawful", "unlawful", "incomplete"
@@ -26,6 +24,8 @@ STATUSES = {
 """The exit status of each verdict."""
 MOST_BAD_ROWS = 20
 """How many bad rows are printed."""
+MOST_NAMED = 5
+"""How many rows are named of findings that have the reason of another one."""
 COLUMNS = ("row", "time", "auction", "item", "recorded", "lawful", "rule")
 """The columns of a frame of findings."""
 NOTHING = {"trade": "no such trade", "fill": "no such fill", "price": "no price"}
@@ -56,15 +56,16 @@ class Finding:
     moved: tuple[str, ...] = ()
 
     def __str__(self) -> str:
+        return self.lines()[0]
+
+    def lines(self, others: str = "") -> list[str]:
+        """The line of the finding, with others of its reason, and one for each that it moved."""
         where = ", ".join(filter(None, [f"row {self.row}", self.time, self.auction]))
         found = f"{where}: {self.item}: recorded {self.recorded}, lawful {self.lawful}"
+        line = " ".join(filter(None, [f"{found}: {self.rule}", self.effect]))
         if self.doubt:
-            return f"doubtful: {found}: {self.doubt}"
-        return " ".join(filter(None, [f"{found}: {self.rule}", self.effect]))
-
-    def lines(self) -> list[str]:
-        """The line of the finding, and one for each other trade that it moved."""
-        return [str(self), *(f"    {each}" for each in self.moved)]
+            line = f"doubtful: {found}{f' ({others})' if others else ''}: {self.doubt}"
+        return [line, *(f"    {each}" for each in self.moved)]
 
 
 @dataclasses.dataclass(frozen=True)
@@ -122,7 +123,7 @@ class Verdict:
 
     def queue(self, finding: Finding, around: int = AROUND) -> pandas.DataFrame:
         """The orders of both sides in their priority around those of a finding, with the shares
-        that were recorded as executed and those that are lawful: the columns are queue.COLUMNS.
+        that were recorded as executed and those that are lawful: the columns are context.QUEUE.
         `around` is how many orders are shown before and after; none are of an auction without row.
         """
         context, difference = finding._of
@@ -130,9 +131,7 @@ class Verdict:
         return found[:0] if difference.auction else found
 
     def orders(self) -> pandas.DataFrame:
-        """The orders that the rules accept, with what became of each: the columns are
-        orders.ORDERS.
-        """
+        """The orders that the rules accept, with what became of each (orders.ORDERS)."""
         return orders_of(self.judgement, self.rows, self.rules)
 
     def why(self, judged: Judged) -> Explanation:
@@ -143,17 +142,33 @@ class Verdict:
         """The findings as a frame (COLUMNS), under their numbers from 1."""
         return frame_of(self.findings)
 
+    def reasons(self) -> dict[str, list[Finding]]:
+        """The doubtful findings by their reasons."""
+        found: dict[str, list[Finding]] = {}
+        for each in self.doubtful:
+            found.setdefault(each.doubt, []).append(each)
+        return found
+
+    def shown(self) -> list[tuple[Finding, str]]:
+        """The findings, of doubtful ones of one reason the first, and which others there are."""
+        doubtful = [(those[0], others_of(those[1:])) for those in self.reasons().values()]
+        return [*((it, "") for it in self.findings), *doubtful]
+
     def lines(self) -> list[str]:
-        """What the command line prints: a line a finding, how many these are, the coverage, and
-        the verdict.
-        """
-        found = [line for it in (*self.findings, *self.doubtful) for line in it.lines()]
+        """What the command line prints: findings or reasons, counts, the coverage, the verdict."""
         counts = counts_of(len(self.bad_rows), len(self.findings), len(self.doubtful))
-        return [*found, *self.ranges(), *counts, *self.coverage.lines(), self.word]
+        return [*self.told(), *self.ranges(), *counts, *self.coverage.lines(), self.word]
+
+    def told(self, is_explained: bool = False) -> Iterator[str]:
+        """The lines of the findings, and those of their sentences where these are asked for."""
+        for finding, others in self.shown():
+            yield from finding.lines(others)
+            if is_explained:
+                yield from (f"    {sentence}" for sentence in self.explain(finding))
 
     def ranges(self) -> list[str]:
-        """From which price to which each uncross isn't interrupted, where a range is a percentage
-        or there are two; in ticks where their size is known.
+        """Prices from which to which an uncross isn't interrupted, by percentages or two ranges;
+        multiples of the tick size where that is known.
         """
         found, size = list[str](), self.rules.tick_size
         if self.rules.second is None and (not self.rules.range or not self.rules.range.whole):
@@ -168,9 +183,7 @@ class Verdict:
         return found
 
     def remarks(self) -> list[str]:
-        """What the command line prints on standard error: the first bad rows, how many there are,
-        and the notes.
-        """
+        """What goes to standard error: the first bad rows, how many there are, and the notes."""
         holes = self.rows.holes if self.rows.lacks_rows else []
         rows = [str(row) for row in (*self.bad_rows[:MOST_BAD_ROWS], *holes[:MOST_BAD_ROWS])]
         if self.bad_rows:
@@ -184,18 +197,23 @@ class Verdict:
         return f"<Verdict {self.word}: findings {len(self.findings)}, {self.coverage}>"
 
 
+def others_of(findings: Sequence[Finding]) -> str:
+    """How many findings these are, and their first rows; empty for none."""
+    rows = [*dict.fromkeys(str(each.row) for each in findings)]
+    more = " .." if len(rows) > MOST_NAMED else ""
+    name = "row" if len(rows) == 1 else "rows"
+    shown = f"{len(findings):,} more, in {name} {', '.join(rows[:MOST_NAMED])}{more}"
+    return shown if findings else ""
+
+
 def counts_of(bad_rows: int, findings: int, doubtful: int) -> list[str]:
-    """How many rows weren't read, where any is, how many findings there are, and how many doubtful
-    ones, where there are any.
-    """
+    """The counts of rows not read, of findings and of doubtful ones; the first and last if any."""
     unread = [f"rows not read {bad_rows}"] * bool(bad_rows)
     return [*unread, f"findings {findings}", *[f"doubtful {doubtful}"] * bool(doubtful)]
 
 
 def frame_of(findings: Iterable[Finding]) -> pandas.DataFrame:
-    """Findings as a frame (COLUMNS), under their numbers from 1; a doubtful one has its reason in
-    place of a rule.
-    """
+    """Findings as a frame (COLUMNS), numbered from 1; the rule of a doubtful one is its reason."""
     rows = [[getattr(finding, name) for name in COLUMNS] for finding in findings]
     index = pandas.RangeIndex(1, len(rows) + 1, name="finding")
     return pandas.DataFrame(rows, index, [*COLUMNS])
@@ -223,16 +241,14 @@ def _findings(judgement: Judgement, rows: Rows, rules: Rules) -> Iterator[Findin
 
 
 def _finding(number: int, context: Context, those: Sequence[Difference]) -> Finding:
-    """Differences that are one finding, most harm first; a doubtful one has its reason in place of
-    a rule.
-    """
+    """Differences that are one finding, most harm first; a doubtful one's rule is its reason."""
     first, *others = those
     whole = jumps.joined(those)
     recorded, lawful = _both(context, first)
     labels = [context.rows.labels[place] for place in whole.places] or [context.label]
     moved = (f"{each.item}: recorded {one}, lawful {other}"
              for each in others for one, other in [_both(context, each)])  # fmt: skip
-    own = whole.places and context.rows.names.time(whole.places[0])
+    own = whole.places and context.rows.names.legible_time(whole.places[0])
     return Finding(
         number, labels[0], own or context.time, _auction(context, first), first.item, recorded,
         lawful, first.doubt or rule_of(context, whole), (*labels,), (context, whole), first.doubt,

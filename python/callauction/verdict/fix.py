@@ -13,13 +13,14 @@ import io
 import itertools
 import re
 from collections import Counter
-from collections.abc import Iterable, Iterator
+from collections.abc import Iterator
 from decimal import Decimal, InvalidOperation
 
 import numpy
 
 from callauction.verdict import clocks
-from callauction.verdict.cells import Cells, MadeSource, Short, Source, parted_source
+from callauction.verdict.cells import Cells, Short, Source, parted_source
+from callauction.verdict.columns import ExtractError
 
 NAMES = {
     "1": "Account", "11": "ClOrdID", "14": "CumQty", "17": "ExecID", "19": "ExecRefID",
@@ -27,7 +28,8 @@ NAMES = {
     "38": "OrderQty", "39": "OrdStatus", "40": "OrdType", "41": "OrigClOrdID",
     "43": "PossDupFlag", "44": "Price", "48": "SecurityID", "49": "SenderCompID",
     "52": "SendingTime", "54": "Side", "55": "Symbol", "56": "TargetCompID",
-    "59": "TimeInForce", "60": "TransactTime", "111": "MaxFloor", "150": "ExecType",
+    "59": "TimeInForce", "60": "TransactTime", "76": "ExecBroker", "109": "ClientID",
+    "111": "MaxFloor", "150": "ExecType",
     "151": "LeavesQty", "269": "MDEntryType", "270": "MDEntryPx", "271": "MDEntrySize",
     "277": "TradeCondition", "336": "TradingSessionID", "448": "PartyID", "452": "PartyRole",
     "625": "TradingSessionSubID", "880": "TrdMatchID", "1138": "DisplayQty",
@@ -70,10 +72,6 @@ Pairs = list[tuple[str, str]]
 Message = dict[str, str]
 
 
-class MessageLogError(ValueError):
-    """A file isn't a log of FIX messages; one line."""
-
-
 @dataclasses.dataclass(frozen=True)
 class MessageLog:
     """The rows of a log, the lines that can't be read, what else was met, and whether a message is
@@ -87,14 +85,11 @@ class MessageLog:
 
 
 def table_of(text: str, separator: str) -> MessageLog:
-    """The table of a log. Raises MessageLogError."""
+    """The table of a log. Raises ExtractError."""
     log = _Log()
-    if _BEGIN.search(text):
-        for line, pairs in _tagged(text, log):
-            log.add(line, pairs)
-    else:
-        for line, pairs in _fields(text, separator, log):
-            log.add(line, pairs)
+    is_tagged = _BEGIN.search(text)
+    for line, pairs in _tagged(text, log) if is_tagged else _fields(text, separator, log):
+        log.add(line, pairs)
     return log.table()
 
 
@@ -131,17 +126,18 @@ def _pairs(message: str) -> Pairs:
 
 
 def _fields(text: str, separator: str, log: "_Log") -> Iterator[tuple[int, Pairs]]:
-    """The rows of a CSV file headed by tags or names, of as many fields as the header. Raises
-    MessageLogError.
-    """
+    """The rows of a CSV file headed by tags or names. Raises ExtractError."""
     reader = csv.reader(io.StringIO(text, newline=""), delimiter=separator)
-    header = [_name(it) for it in next(reader)]
+    heads = next(reader)
+    header = [*map(_name, heads)]
     if not {"ExecType", "OrderID"} & {*header}:
-        raise MessageLogError(
+        raise ExtractError(
             "the file has neither FIX messages (8=FIX) nor a header with ExecType or 150 "
             "(separator says what parts its fields)"
         )
     for fields in reader:
+        if fields == heads:  # of another page
+            continue
         if any(fields) and len(fields) != len(header):
             why = f"has {len(fields)} fields, the header {len(header)}"
             log.short.append((reader.line_num, why))
@@ -170,8 +166,7 @@ class _Phase:
     is_done: bool = False
 
     def is_result(self, found: Message) -> bool:
-        """Whether market data is the result of the trades: it names an auction, or has their price.
-        """
+        """Whether market data is the trades' result: it names an auction, or has their price."""
         is_named = found.get("TradingSessionSubID", "") in _AUCTIONS
         return is_named or _number(found["LastPx"]) == _number(self.price)
 
@@ -193,8 +188,7 @@ class _Log:
         self.lost_busts: list[str] = []
         self.phases: dict[str, _Phase] = {}
         self.empty: dict[tuple[str, str], tuple[int, int, Message]] = {}
-        """By instrument and session the last market data of an auction without a price, and where.
-        """
+        """By instrument and session the last auction without a price in market data, and where."""
         self.held: set[tuple[str, str]] = set()
         """The instruments and sessions of auctions with trades or a price."""
         self.last = 0
@@ -226,25 +220,25 @@ class _Log:
     # ---- execution reports
 
     def _report(self, line: int, message: Message, pairs: Pairs) -> None:
-        order, kind = message.get("OrderID", ""), message.get("ExecType", "")
-        mark = message.get("ExecID", ""), order, kind, _instrument(message)
+        get = message.get
+        order, kind = get("OrderID", ""), get("ExecType", "")
+        mark = get("ExecID", ""), order, kind, _instrument(message)
         if mark[0] not in ("", "0") and mark in self.seen:
             self.notes[AGAIN] += 1
             return
         self.seen.add(mark)
-        self.sessions.add((message.get("SenderCompID", ""), message.get("TargetCompID", "")))
-        if message.get("PartyRole", "") != _EXECUTING_FIRM:
-            message["PartyID"] = _member(pairs)
-        self._restate(message, (_instrument(message), order or message.get("ClOrdID", "")))
-        kind = message.get("ExecType", "")
+        self.sessions.add((get("SenderCompID", ""), get("TargetCompID", "")))
+        message["PartyID"] = _member(pairs) or get("ExecBroker", "") or get("ClientID", "")
+        self._restate(message, (_instrument(message), order or get("ClOrdID", "")))
+        kind = get("ExecType", "")
         phase = self._phase(message)
         if kind in _TRADES:
             self._trade(message, phase)
         elif kind in _BUSTS:
-            named = message.get("ExecRefID", "")
+            named = get("ExecRefID", "")
             match = self.matches.get((_instrument(message), named))
             self.lost_busts += [f"{named!r} in row {line}"] * (match is None and named != "")
-            message["TrdMatchID"] = message.get("TrdMatchID", "") or match or ""
+            message["TrdMatchID"] = get("TrdMatchID", "") or match or ""
         else:
             self._forget(phase)
             self._type(message, kind)
@@ -289,7 +283,7 @@ class _Log:
     def _data(self, line: int, message: Message, pairs: Pairs) -> None:
         """The price of an auction in market data, with its volume and its surplus."""
         found: Message = {}
-        for entry in _entries(pairs):
+        for entry in _groups(pairs, "MDEntryType"):
             kind, size = entry.get("MDEntryType", ""), entry.get("MDEntrySize", "")
             if kind in _PRICES:
                 found["LastPx"] = entry.get("MDEntryPx", "")
@@ -338,9 +332,9 @@ class _Log:
         self.rows.append((place, line, "\x1f".join([get(name, "") for name in HEADER])))
 
     def table(self) -> MessageLog:
-        """The table of what was added. Raises MessageLogError."""
+        """The table of what was added. Raises ExtractError."""
         if not self.rows:
-            raise MessageLogError("the log has no execution report (35=8)")
+            raise ExtractError("the log has no execution report (35=8)")
         for phase in self.phases.values():
             self._forget(phase)
         for own, (place, line, found) in self.empty.items():
@@ -352,7 +346,7 @@ class _Log:
         if len(self.sessions) > 1 or not _is_of_one_session(source):
             none = source.cells(NUMBER)
             none = Cells(none.buffer, none.start, 0 * none.length)
-            source = MadeSource(source.names, source.labels, base=source, made={NUMBER: none})
+            source = Source(source.names, source.labels, {NUMBER: none}, source)
         if self.lost_busts:
             self.notes[f"{NO_TRADE}, such as {self.lost_busts[0]}"] = len(self.lost_busts)
         is_ended = self.last > max(lines)
@@ -388,24 +382,14 @@ def _session(message: Message) -> tuple[str, str]:
     return _instrument(message), message.get("TradingSessionSubID", "")
 
 
-def _entries(pairs: Iterable[tuple[str, str]]) -> list[Message]:
-    """The entries of market data."""
-    found: list[Message] = []
-    for name, value in pairs:
-        if name == "MDEntryType":
-            found.append({})
-        if found:
-            found[-1].setdefault(name, value)
-    return found
+def _groups(pairs: Pairs, first: str) -> list[Message]:
+    """The groups of a message, each of which begins with this field: entries, or parties."""
+    begins = [at for at, (name, _) in enumerate(pairs) if name == first]
+    return [dict(reversed(pairs[at:end])) for at, end in zip(begins, [*begins[1:], len(pairs)])]
 
 
-def _member(pairs: Iterable[tuple[str, str]]) -> str:
+def _member(pairs: Pairs) -> str:
     """The party that is the executing firm, else the first one."""
-    parties: list[tuple[str, str]] = []
-    for name, value in pairs:
-        if name == "PartyID":
-            parties.append((value, ""))
-        elif name == "PartyRole" and parties:
-            parties[-1] = parties[-1][0], value
-    firms = [party for party, role in parties if role == _EXECUTING_FIRM]
-    return next(iter([*firms, *(party for party, _ in parties)]), "")
+    parties = _groups(pairs, "PartyID")
+    firms = (it for it in parties if it.get("PartyRole", "") == _EXECUTING_FIRM)
+    return next((it["PartyID"] for those in (firms, parties) for it in those), "")

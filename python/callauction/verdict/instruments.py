@@ -12,15 +12,14 @@ import pandas
 
 from callauction.course import Watch
 from callauction.program import ProgramError
+from callauction.verdict.again import Gap, find_holes, gaps_of, remark_of
 from callauction.verdict.audits import before, judge_rows, rules_of, short_rows
 from callauction.verdict.cells import Codes, Ints, Source
-from callauction.verdict.columns import KINDS, ColumnError, refuse_unknown
-from callauction.verdict.coverage import PLURALS, Coverage
+from callauction.verdict.columns import KINDS, ColumnError, ExtractError, refuse_unknown
 from callauction.verdict.events import dropped_numbers, rows_of
 from callauction.verdict.findings import INCOMPLETE, STATUSES, Finding, Verdict
-from callauction.verdict.holes import Gap, find_holes, gaps_of, remark_of
-from callauction.verdict.judged import Rules
-from callauction.verdict.reading import ExtractError, Reading, Table, columns_of, read_table
+from callauction.verdict.judged import PLURALS, Coverage, Rules
+from callauction.verdict.reading import Reading, Table, columns_of, read_table
 from callauction.verdict.rows import BUST, FILL, TRADE, BadRow, Doubt, Rows
 from callauction.verdict.worded import Columns
 from callauction.words import AUCTIONS
@@ -133,13 +132,12 @@ class Audited:
 def audited(name: str, verdict: Verdict, is_explained: bool = False) -> Audited:
     """The verdict on an instrument in lines. Raises ProgramError."""
     found = (*verdict.findings, *verdict.doubtful)
-    lines = [line for it in found for line in _lines(verdict, it, is_explained)]
     first = str(verdict.findings[0]) if verdict.findings else None
     return Audited(
-        name, verdict.word, len(verdict.findings), len(verdict.doubtful), (*lines,),
-        (*verdict.remarks(),), verdict.coverage, len(verdict.bad_rows), first,
-        found=tuple(_record(name, it) for it in found), ranges=(*verdict.ranges(),),
-        lacks_rows=verdict.rows.lacks_rows,
+        name, verdict.word, len(verdict.findings), len(verdict.doubtful),
+        (*verdict.told(is_explained),), (*verdict.remarks(),), verdict.coverage,
+        len(verdict.bad_rows), first, found=tuple(_record(name, it) for it in found),
+        ranges=(*verdict.ranges(),), lacks_rows=verdict.rows.lacks_rows,
     )  # fmt: skip
 
 
@@ -157,13 +155,6 @@ def _record(name: str, finding: Finding) -> Mapping[str, object]:
 def _bare(value: str) -> str:
     """A value as a machine reads it: of a number alone its digits."""
     return value.replace(",", "") if _THOUSANDS.fullmatch(value) else value
-
-
-def _lines(verdict: Verdict, finding: Finding, is_explained: bool) -> Iterator[str]:
-    """The line of a finding, and those of its sentences where these are asked for."""
-    yield from finding.lines()
-    if is_explained:
-        yield from (f"    {sentence}" for sentence in verdict.explain(finding))
 
 
 @dataclasses.dataclass(frozen=True)
@@ -246,14 +237,12 @@ class Market:
             _MARKETS.pop()
 
     def part(self, numbers: list[int]) -> list[Audited]:
-        """The verdicts on some instruments, whose rows are read at once, or each by itself where
-        they can't be.
-        """
+        """The verdicts on instruments, whose rows are read at once, or else each by itself."""
         try:
             return [*map(self._audited, numbers, self._rows_of(numbers))]
         except ExtractError as fault:
             if len(numbers) == 1:
-                return [_unread(self.names[numbers[0]], fault)]
+                return [Audited(self.names[numbers[0]], FAULT, fault=str(fault), is_unread=True)]
             return [each for number in numbers for each in self.part([number])]
 
     def _rows_of(self, numbers: list[int]) -> list[Rows]:
@@ -299,15 +288,12 @@ class Market:
             return Audited(name, FAULT, fault=rules)
         try:
             return audited(name, self._judged(name, rows, rules), self.is_explained)
-        except ExtractError as fault:
-            return _unread(name, fault)
         except (ValueError, ProgramError) as fault:
-            return Audited(name, FAULT, fault=str(fault))
+            is_unread = isinstance(fault, ExtractError)
+            return Audited(name, FAULT, fault=str(fault), is_unread=is_unread)
 
     def _lost_rows(self, rows: Rows) -> list[BadRow]:
-        """The rows without an instrument, which may be of this one: the first of each
-        doubt.
-        """
+        """The rows without an instrument, which may be of this one: the first of each doubt."""
         lost = self._lost
         if not len(lost):
             return []
@@ -333,11 +319,6 @@ _MARKETS: list[Market] = []
 """What the processes that are forked work on: its cells are in memory that all share."""
 
 
-def _unread(name: str, fault: ExtractError) -> Audited:
-    """An instrument whose rows can't be judged."""
-    return Audited(name, FAULT, fault=str(fault), is_unread=True)
-
-
 def _part(numbers: list[int]) -> list[Audited]:
     return _MARKETS[-1].part(numbers)
 
@@ -360,9 +341,7 @@ def _named(source: Source, columns: Sequence[str]) -> tuple[Codes, list[Name]]:
 def market_of(
     table: Table, reading: Reading, by: str, days: Days, terms: Mapping[str, object]
 ) -> Market:
-    """The instruments of a table; `terms` is what a day was opened with where the days have nothing
-    else.
-    """
+    """The instruments of a table; `terms` is what holds where their days say nothing else."""
     columns = columns_of(by, table.source.names)
     codes, names = _named(table.source, columns)
     of_days = [place for place, column in enumerate(columns) if column in days.columns]
@@ -373,7 +352,8 @@ def market_of(
     for name, own in given.items():
         text = ",".join(name)
         try:
-            rules[text] = rules_of(**terms_of({**terms, **own}), quantity=reading.quantity)
+            of_day = terms_of({**terms, **own}, reading)
+            rules[text] = rules_of(**of_day, quantity=reading.quantity)
         except ValueError as fault:
             rules[text] = str(fault)
     return Market(table, reading, by, codes, tuple(map(",".join, names)), rules)
@@ -381,7 +361,7 @@ def market_of(
 
 def days_of(source: pandas.DataFrame | str | os.PathLike[str] | None, by: str) -> Days:
     """What the day of each instrument was opened with, of a frame or a CSV file, which may have
-    some of several columns alone. Raises ColumnError and OSError.
+    some of several columns `by` alone. Raises ColumnError and OSError.
     """
     if source is None:
         return Days((), {})
@@ -404,16 +384,16 @@ def days_of(source: pandas.DataFrame | str | os.PathLike[str] | None, by: str) -
     return Days(columns, terms)
 
 
-def terms_of(given: Mapping[str, object]) -> Terms:
-    """The arguments of an audit. Raises TermsError where one is missing."""
+def terms_of(given: Mapping[str, object], reading: Reading) -> Terms:
+    """The arguments of an audit, which may have a file's signs. Raises TermsError for a lack."""
     missing = [f"--{it.replace('_', '-')}" for it in TERMS[:2] if given.get(it) is None]
     if missing:
         raise TermsError(
             f"there are order events: say {' and '.join(missing)} (the last price "
             "before the day is the reference; the tick size is none where it depends on the price)"
         )
-    found: Terms = {name: given.get(name) for name in TERMS}
-    auctions = found["auctions"] or AUCTIONS
+    auctions = given.get("auctions") or AUCTIONS
+    found: Terms = {name: reading.said(given.get(name)) for name in TERMS}
     found["auctions"] = auctions.split(",") if isinstance(auctions, str) else auctions
     if found["tick_size"] == NO_TICK_SIZE:
         found["tick_size"] = None
@@ -452,9 +432,7 @@ def frame_of(rows: Iterable[dict[str, object]]) -> pandas.DataFrame:
 
 
 def worst_of(words: Iterable[str]) -> str:
-    """The verdict on all of some: unlawful before incomplete, which a fault is too, before lawful.
-    Raises ExtractError where there is none.
-    """
+    """The worst of verdicts, of which a fault is incomplete. Raises ExtractError for none."""
     found = {INCOMPLETE if word == FAULT else word for word in words}
     for word in sorted(STATUSES, key=("unlawful", "incomplete", "lawful").index):
         if word in found:

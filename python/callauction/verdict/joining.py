@@ -1,7 +1,5 @@
-"""Rows that belong together: both rows of a trade, a bust and its trade, and the result of an
-auction that trades alone say.
-"""
-import dataclasses
+"""Rows that belong together: both of a trade, a bust and its trade, trades and their result."""
+import functools
 
 import numpy
 
@@ -43,9 +41,7 @@ def join_sides(rows: Rows, codes: Codes | None, instrument: Codes) -> None:
 
 
 def _join(rows: Rows, bids: Ints, asks: Ints) -> None:
-    """Makes a trade or a bust of each of these bids and its ask, in the row that is first; each
-    side has its own member.
-    """
+    """Makes one trade or bust of each bid and ask, each with its member, in the first row."""
     first, second = numpy.minimum(bids, asks), numpy.maximum(bids, asks)
     for side, those in zip(SIDES[1:], (bids, asks)):
         for name, own in ((side, rows.key), (f"{side}_member", rows.member)):
@@ -58,8 +54,7 @@ def _join(rows: Rows, bids: Ints, asks: Ints) -> None:
 
 
 def _halves(rows: Rows, these: Ints, codes: Codes) -> Ints:
-    """Which of these rows of trades are one side alone of what a column joins, where some are both.
-    """
+    """Which of these trades are one side alone of what a column joins, where some are both."""
     both = _matched(rows, these, codes)
     is_known = (codes[these] >= 0) & (rows.side[these] > 0)
     found: Ints = these[is_known & ~numpy.isin(codes[these], both)]
@@ -91,9 +86,7 @@ def _both(rows: Rows, these: Ints, codes: Codes | None) -> tuple[Ints, Ints]:
 
 
 def take_busted(rows: Rows) -> None:
-    """Takes out the trade or the fill of each bust: the last one above it, else the first below;
-    a bust without one is a bad row.
-    """
+    """Takes out each bust's trade or fill, the last above, else the first below; refuses others."""
     busts = rows.of(BUST)
     if not len(busts):
         return
@@ -137,9 +130,8 @@ def with_results(rows: Rows) -> Rows:
     """
     uncrosses = rows.of(UNCROSS)
     held = {*rows.state[uncrosses].tolist()} - {STOPPED}
-    made = numpy.flatnonzero(
-        ((rows.kind == TRADE) | (rows.kind == FILL)) & (rows.state > 0) & (rows.state != STOPPED)
-    )
+    made = rows.of(TRADE, FILL)
+    made = made[(rows.state[made] > 0) & (rows.state[made] != STOPPED)]
     if not rows.makes_results or MISSING in held:
         return rows
     firsts: dict[int, int] = {}
@@ -150,18 +142,14 @@ def with_results(rows: Rows) -> Rows:
         return rows
     at = numpy.array(sorted(firsts.values()), "i8")
     places = numpy.insert(numpy.arange(len(rows.kind)), at, at)
-    found = rows.moved(places)
-    found.names = dataclasses.replace(rows.names, places=places)
-    found.bad = [dataclasses.replace(it, place=_moved(it.place, at), since=_moved(it.since, at))
-                 for it in rows.bad]  # fmt: skip
-    found.holes = [dataclasses.replace(it, since=_moved(it.since, at)) for it in rows.holes]
+    found = rows.placed(places, functools.partial(_moved, at))
     for place in (at + numpy.arange(len(at))).tolist():
         _make_result(found, place)
     found.notes[MADE] += len(at)
     return found
 
 
-def _moved(place: int, at: Ints) -> int:
+def _moved(at: Ints, place: int) -> int:
     """Where a place is when a row is put above each of these."""
     return place + int(numpy.searchsorted(at, place, "right")) if place >= 0 else place
 

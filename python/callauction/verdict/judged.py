@@ -1,17 +1,66 @@
-"""What a day is judged by, and as what: its rules, its courses, and what was found of each uncross.
-"""
+"""What a day is judged by, and as what; and how much of what the rules give was compared."""
 import dataclasses
+import math
 from collections import Counter
 from decimal import Decimal
+from fractions import Fraction
 
 import numpy
 
+from callauction.prices import argument
 from callauction.verdict.cells import Ints
-from callauction.verdict.comparing import Difference
+from callauction.verdict.comparing import FILL, Difference, Fill, Trade
 from callauction.verdict.phases import Book, Result, Sums, empty
-from callauction.verdict.ranges import Range
-from callauction.verdict.rows import MISSING, BadRow
+from callauction.verdict.rows import MISSING, STOPPED, BadRow, Rows
 from callauction.words import AUCTIONS
+
+
+@dataclasses.dataclass(frozen=True)
+class Range:
+    """How far a price may lie from a reference: a distance, or so much of it as `width` is of
+    `whole`, which is 100 for a percentage.
+    """
+
+    width: Decimal
+    whole: Decimal | None = None
+
+    def limit(self, reference: Decimal) -> Fraction:
+        """The distance from a reference that a price may still have."""
+        if self.whole is None:
+            return Fraction(self.width)
+        return Fraction(self.width) * abs(Fraction(reference)) / abs(Fraction(self.whole))
+
+    def is_out(self, price: Decimal, reference: Decimal) -> bool:
+        """Whether a price is beyond the range."""
+        return abs(Fraction(price) - Fraction(reference)) > self.limit(reference)
+
+    def bounds(self, reference: Decimal, tick_size: Decimal | None) -> tuple[Decimal, Decimal]:
+        """The lowest and the highest price in the range: multiples of a tick size that is known."""
+        center, gap = Fraction(reference), self.limit(reference)
+        if tick_size is None:
+            return _decimal(center - gap), _decimal(center + gap)
+        size = Fraction(tick_size)
+        low, high = math.ceil((center - gap) / size), math.floor((center + gap) / size)
+        return low * tick_size, high * tick_size
+
+    def __str__(self) -> str:
+        return f"{self.width:f} %" if self.whole == 100 else f"{self.width:f}"
+
+
+def _decimal(number: Fraction) -> Decimal:
+    return Decimal(number.numerator) / Decimal(number.denominator)
+
+
+def range_of(name: str, value: object) -> Range | None:
+    """The range of an argument: a decimal, or a text such as `2%`. Raises ValueError."""
+    if value is None:
+        return None
+    is_percent = isinstance(value, str) and value.strip().endswith("%")
+    width = argument(name, str(value).strip()[:-1].strip() if is_percent else value, value)
+    if width < 0:
+        raise ValueError(f"{name} {value} is below 0")
+    return Range(width, Decimal(100) if is_percent else None)
+
 
 NONE = numpy.zeros(0, "i8")
 
@@ -136,8 +185,8 @@ class Judgement:
 @dataclasses.dataclass(frozen=True)
 class Path:
     """A course of the day up to an uncross; `taken` counts the rows of orders before it, `waiting`
-    has the trades and fills that wait for the end of an interrupted auction, and `doubt` says why
-    the books are in doubt from here on.
+    has the trades and fills that wait for the end of an interrupted auction, `closed` the cancels
+    of orders that aren't open, and `doubt` says why the books are in doubt from here on.
     """
 
     judged: tuple[Judged, ...]
@@ -145,7 +194,7 @@ class Path:
     taken: int = 0
     waiting: tuple[Ints, Ints] = (NONE, NONE)
     refused: tuple[BadRow, ...] = ()
-    closed: int = 0
+    closed: Ints = dataclasses.field(default_factory=lambda: NONE)
     doubt: str = ""
 
     def longer(self, judged: Judged) -> "Path":
@@ -160,9 +209,7 @@ class Path:
 
 @dataclasses.dataclass(frozen=True)
 class Moment:
-    """An uncross on a path at its moment: its number, its row, its auction, and the rows of its
-    call phase and of its trades and fills.
-    """
+    """An uncross on a path at its moment, with the rows of its call phase, trades and fills."""
 
     number: int
     place: int
@@ -171,3 +218,91 @@ class Moment:
     these: Ints
     traded: Ints
     filled: Ints
+
+
+# ---- how much was compared
+
+
+ITEMS = ("price", "volume", "surplus", "side", "auction", "count")
+PLURALS = {it: f"{it}{'es' if it == 'surplus' else 's'}" for it in (*ITEMS, "trade", FILL)}
+"""The names of items in a coverage."""
+OF_PRICES = ("volume", "surplus", "side")
+"""Items that the rules give where there is a price."""
+PAIRINGS = "pairings"
+"""The name of how many trades pair the orders that ours do, where some don't and each order has its
+lawful shares: who trades with whom is chosen, and no law.
+"""
+
+
+@dataclasses.dataclass(frozen=True)
+class Coverage:
+    """By the name of each item how many were compared, and how many the rules give."""
+
+    counts: dict[str, tuple[int, int]]
+
+    @property
+    def total(self) -> tuple[int, int]:
+        """How many items were compared, and how many the rules give."""
+        counts = self.counts.values()
+        return sum(it for it, _ in counts), sum(of for _, of in counts)
+
+    @property
+    def is_complete(self) -> bool:
+        """Whether all that the rules give was compared, and there was something."""
+        return self.total[0] > 0 and all(it == of for it, of in self.counts.values())
+
+    def lines(self) -> list[str]:
+        """A line for each item, such as `prices 3 of 3`."""
+        return [f"{name} {compared} of {of}" for name, (compared, of) in self.counts.items()]
+
+    def __str__(self) -> str:
+        return ", ".join(self.lines())
+
+    def __getitem__(self, name: str) -> tuple[int, int]:
+        return self.counts[name]
+
+
+def coverage_of(judgement: Judgement, rows: Rows) -> Coverage:
+    """The coverage of a judgement; an auction in no row is due one of each item but trades."""
+    judged = [each for each in judgement.uncrosses if each.result is not None]
+    missing = judgement.due - len(judged)
+    counts = {}
+    for item in ITEMS:
+        due = [each for each in judged if _is_due(item, each)]
+        compared = sum(item in each.items for each in due)
+        counts[PLURALS[item]] = compared, len(due) + missing
+    executed = [each for each in judged if not each.is_interrupted]
+    recorded = [each for each in executed if rows.state[each.place] != STOPPED]
+    trades = sum(map(_trades, recorded)) if judgement.has_trades else 0
+    counts[PLURALS["trade"]] = trades, sum(map(_trades, executed))
+    if judgement.has_fills:
+        counts[PLURALS[FILL]] = sum(map(_fills, recorded)), sum(map(_fills, executed))
+    if judgement.has_trades and any(_is_paired_otherwise(each) for each in recorded):
+        counts[PAIRINGS] = sum(each.pairs for each in recorded), trades
+    return Coverage(counts)
+
+
+def _is_due(item: str, judged: Judged) -> bool:
+    """Whether the rules give an item at an uncross."""
+    assert judged.result is not None
+    has_price = judged.result.price is not None
+    if item in OF_PRICES:
+        return has_price
+    return item != "count" or (has_price and not judged.is_interrupted)
+
+
+def _is_paired_otherwise(judged: Judged) -> bool:
+    """Whether an auction's trades pair orders otherwise, each with its lawful shares."""
+    differs = any(isinstance(it, Trade | Fill) for each in judged.differences
+                  for it in (each.recorded, each.lawful))  # fmt: skip
+    return not differs and len(judged.traded) > 0 and judged.pairs < _trades(judged)
+
+
+def _trades(judged: Judged) -> int:
+    assert judged.result is not None
+    return len(judged.result.bid)
+
+
+def _fills(judged: Judged) -> int:
+    assert judged.result is not None
+    return len(judged.result.fills.keys)

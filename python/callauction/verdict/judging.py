@@ -15,10 +15,12 @@ from callauction.verdict import clocks, comparing
 from callauction.verdict.cells import Ints
 from callauction.verdict.certain import Certain, with_certain
 from callauction.verdict.comparing import (
-    NAMED, PRIORITY, Compared, Difference, compared_fills, compared_items, compared_trades, doubted,
+    NAMED, PRIORITY, Compared, Difference, compared_fills, compared_items, compared_trades,
+    doubted,
 )  # fmt: skip
 from callauction.verdict.doubts import Doubts, Reason
 from callauction.verdict.judged import NONE, Judged, Judgement, Moment, Path, Rules, State
+from callauction.verdict.orders import notes_of
 from callauction.verdict.phases import (
     NOTHING, BeyondError, Book, Result, Sums, Taken, advance, empty, indicated, recorded_sums,
     uncross,
@@ -30,7 +32,6 @@ from callauction.verdict.rows import (
 from callauction.words import AUCTIONS
 
 FALLING = "times that come before that of the row above (sort reads rows by time)"
-CLOSED_CANCELS = "cancels of orders that were executed or cancelled before"
 LATE_CANCELS = "cancels after the last auction"
 NO_UNCROSS = "trades and fills without any row uncross, which aren't compared"
 LATE_ORDERS = "orders and replaces after the last auction"
@@ -179,12 +180,8 @@ class Judge:
         except BeyondError as fault:
             yield self._beyond(path, place, traded, filled, str(fault))
 
-    def _beyond(
-        self, path: Path, place: int, traded: Ints, filled: Ints, why: str
-    ) -> Path:
-        """The course after an uncross of a book that the program can't hold: of the auction that it
-        names, else of the one that follows those above.
-        """
+    def _beyond(self, path: Path, place: int, traded: Ints, filled: Ints, why: str) -> Path:
+        """The course after an uncross of too large a book: of its named or its next auction."""
         state = self.rows.state
         ended = sum(bool(it.beyond) and state[it.place] != STOPPED for it in path.judged)
         auction = self.due[min(path.state.ended + ended, len(self.due) - 1)]
@@ -197,9 +194,7 @@ class Judge:
         return path.longer(judged)
 
     def _courses(self, moment: Moment, is_moved: bool | None) -> list[Path]:
-        """The courses after an uncross at its row; where that differs, at another row of its time,
-        or at the moment at which all that was published of it is lawful.
-        """
+        """The courses after an uncross at its row, or where that differs at other moments."""
         found = [*self._variants(moment)]
         first = found[0].judged[-1]
         if not first.certain or is_moved is None:
@@ -214,8 +209,8 @@ class Judge:
             return found
 
     def _of_ties(self, moment: Moment, found: list[Path]) -> list[Path]:
-        """The courses in which rows of one time came in another order, where more of what was
-        published is lawful by that, the most; none where no more is.
+        """The courses by other orders of rows of one time that make most of an uncross lawful,
+        if any.
         """
         last, these = found[0].judged[-1], moment.these
         cuts, best = self.doubts.ties.cuts(moment.place, these), list[Path]()
@@ -235,9 +230,7 @@ class Judge:
             return [self._in_doubt(each, last.differences, why) for each in found]
         return best
 
-    def _read_so(
-        self, moment: Moment, before: Ints, found: list[Path], why: str
-    ) -> list[Path]:
+    def _read_so(self, moment: Moment, before: Ints, found: list[Path], why: str) -> list[Path]:
         """The courses of an uncross with these rows before it, where they clear what differs in
         those that were found, or some of it; these where they may, as the program can't hold so
         many.
@@ -254,8 +247,8 @@ class Judge:
         return [self._in_doubt(each, differences, why, left) for each in other]
 
     def left_in(self, other: Judged) -> set[Mark]:
-        """What a judgement leaves certain, and what it has in doubt for an order alone that no row
-        enters, which no reading enters.
+        """What a judgement leaves certain, or has in doubt for an order alone that no row enters,
+        which no reading enters.
         """
         unknown = self.doubts.unknown
         return {
@@ -268,8 +261,8 @@ class Judge:
         self, path: Path, differences: tuple[Difference, ...], why: str,
         left: Collection[Mark] = (),
     ) -> Path:  # fmt: skip
-        """The path with these differences of its last uncross, in doubt but for those that no book
-        could give, or that are left in each.
+        """The path with these differences of its last uncross in doubt, but for those that no book
+        could give, and those in `left`.
         """
         last, above = path.judged[-1], path.judged[:-1]
         certain = self.contradictions.of(last.place, last.auction, last.traded, last.filled)
@@ -307,9 +300,7 @@ class Judge:
         interrupted and that isn't lawful; then as is lawful. Raises BeyondError.
         """
         state, rows = moment.path.state, self.rows
-        taken = advance(
-            state.book, rows, moment.these, moment.auction, state.executed, self.room
-        )
+        taken = advance(state.book, rows, moment.these, moment.auction, state.executed, self.room)
         result = uncross(taken.book, moment.auction, state.reference)
         is_out = not state.is_extended and self._is_out(result, state)
         recorded = self._says_interrupted(moment)
@@ -341,9 +332,7 @@ class Judge:
         has_any = len(moment.traded) or len(moment.filled) or self.rows.count[moment.place] > 0
         return False if has_any else None
 
-    def _interrupted(
-        self, moment: Moment, taken: Taken, result: Result, is_lawful: bool
-    ) -> Path:
+    def _interrupted(self, moment: Moment, taken: Taken, result: Result, is_lawful: bool) -> Path:
         """The course after an interruption; its trades come at the next uncross."""
         word = STOPPED if is_lawful else 1 + moment.auction
         items = compared_items(self.rows, moment.place, result, word)
@@ -355,8 +344,7 @@ class Judge:
         return dataclasses.replace(path, waiting=(moment.traded, moment.filled))
 
     def _doubt_stop(self, items: dict[str, Difference | None], why: str = "") -> None:
-        """An interruption, in whose place the auction's end is lawful, is in doubt without a range.
-        """
+        """An interruption where the auction's end is lawful is in doubt without a range."""
         if not self.rules.has_range:
             why = NO_RANGE
         wrong = items.get("auction")
@@ -366,9 +354,7 @@ class Judge:
     def _executed(
         self, moment: Moment, taken: Taken, result: Result, wrong: Difference | None
     ) -> Iterator[Path]:
-        """The courses after an uncross that ended its auction; `wrong` is what is different of it
-        as such.
-        """
+        """The courses after an uncross that ended its auction; `wrong` is what differs as such."""
         rows, place = self.rows, moment.place
         moment = self._with_named(moment)
         items = compared_items(rows, place, result, 1 + moment.auction)
@@ -395,7 +381,7 @@ class Judge:
     def _of_trades(
         self, moment: Moment, book: Book, result: Result, is_wrong: bool
     ) -> tuple[list[Difference], int]:
-        """How the trades and fills of an auction differ, and how many lawful pairs are recorded;
+        """How an auction's trades and fills differ, and how many lawful pairs are recorded;
         `is_wrong` says that its price isn't lawful.
         """
         rows, place, traded, filled = self.rows, moment.place, moment.traded, moment.filled
@@ -419,8 +405,8 @@ class Judge:
     def _without_outside(
         self, found: list[Difference], moment: Moment, result: Result, allowed: int
     ) -> list[Difference]:
-        """The differences of trades, or those without the ones that may be of no auction, which are
-        in doubt then, whichever are certain less often.
+        """The differences of trades, or those without what may be of no auction, which is in doubt
+        then: whichever are certain less often.
         """
         rows, traded, stamps = self.rows, moment.traded, self.stamps
         outside = self.doubts.outside(traded, moment.place)
@@ -436,9 +422,7 @@ class Judge:
         self, moment: Moment, items: dict[str, Difference | None], found: list[Difference],
         result: Result, many: int,
     ) -> None:  # fmt: skip
-        """A count of trades follows from the pairing, which isn't law, and a wrong one from so many
-        trades of the auction.
-        """
+        """A count follows from the pairing, which isn't law, and from as many trades as it says."""
         count, recorded = items.get("count"), int(self.rows.count[moment.place])
         if count is None:
             return
@@ -540,7 +524,8 @@ class Judge:
         path = moment.path
         longer = dataclasses.replace(
             path, state=state, taken=path.taken + len(moment.these),
-            refused=(*path.refused, *taken.refused), closed=path.closed + taken.closed,
+            refused=(*path.refused, *taken.refused),
+            closed=numpy.concatenate([path.closed, taken.closed]),
         )  # fmt: skip
         return longer.longer(judged)
 
@@ -568,9 +553,7 @@ class Judge:
     def _state(
         self, moment: Moment, taken: Taken, reference: int, fills: Sums, is_priced: bool
     ) -> State:
-        """The state after an uncross with these fills: what isn't executed stays, but for orders
-        of the ended auction alone.
-        """
+        """The state after these fills: what is left stays, but for orders of this auction alone."""
         self.room[:] = 0
         self.room[fills.keys] = fills.shares
         book, state = taken.book, moment.path.state
@@ -593,9 +576,7 @@ class Judge:
         return found
 
     def _at_another_moment(self, moment: Moment, later: list[int]) -> list[Path]:
-        """The courses after the uncross at the moment, between those beside it, at which all that
-        was published of it is lawful; none where there is no such moment.
-        """
+        """The courses after the uncross at another moment at which all of it is lawful, or none."""
         for place, before in self._other_moments(moment, later):
             courses = [*self._variants(dataclasses.replace(moment, these=before))]
             if not courses[0].judged[-1].differences:
@@ -609,9 +590,7 @@ class Judge:
         return []
 
     def _other_moments(self, moment: Moment, later: list[int]) -> Iterator[tuple[int, Ints]]:
-        """The rows behind which the published price, volume and surplus are lawful, each with the
-        rows of the call phase before it.
-        """
+        """Rows behind which price, volume and surplus are lawful, with the phase before each."""
         rows, state = self.rows, moment.path.state
         price, volume = rows.price[moment.place], rows.quantity[moment.place]
         if price < 0 or volume < 0 or state.executed is not None:
@@ -632,8 +611,8 @@ class Judge:
     # ---- the end
 
     def _with_left_over(self, path: Path) -> Path:
-        """The path with the trades and the fills that name an auction without a row uncross, as
-        extra ones of the last uncross, in doubt.
+        """The path with trades and fills of an auction without a row as extra ones of its last
+        uncross, in doubt.
         """
         ended = {each.auction for each in path.judged if each.is_ended or each.beyond}
         rows, stamps, found = self.rows, self.stamps, list[Difference]()
@@ -660,14 +639,13 @@ class Judge:
         )  # fmt: skip
         notes = Counter(self.rows.notes)
         notes[FALLING] += self.doubts.falls
-        notes[CLOSED_CANCELS] += path.closed
+        notes.update(notes_of(self.rows, path))
         if path.state.ended >= len(self.due):
             late = self.rows.kind[self.orders[path.taken :]] == CANCEL
             notes[LATE_CANCELS] += int(late.sum())
             notes[LATE_ORDERS] += int((~late).sum())
         if not judged:
-            results = (self.rows.kind == TRADE) | (self.rows.kind == FILL)
-            notes[NO_UNCROSS] += int(results.sum())
+            notes[NO_UNCROSS] += len(self.rows.of(TRADE, FILL))
         for each in judged:
             notes[f"{BEYOND} ({each.beyond})"] += bool(each.beyond)
         notes[NO_SEARCH] += len(self.left_out)

@@ -1,7 +1,8 @@
 """What may be together in one file and mustn't be judged so: two days, a file of orders and one of
-results, a result and its correction.
+results, a result and its correction; and which auctions results that don't say it may be of.
 """
 import dataclasses
+import enum
 from collections.abc import Iterator, Sequence
 
 import numpy
@@ -9,7 +10,8 @@ import pandas
 
 from callauction.verdict import clocks
 from callauction.verdict.cells import Ints
-from callauction.verdict.reading import ExtractError
+from callauction.verdict.columns import ExtractError
+from callauction.verdict.judged import Judgement, Rules
 from callauction.verdict.rows import (
     BAD, FILL, MISSING, NEW, OF_ORDERS, SAID, STOPPED, TRADE, UNCROSS, BadRow, Doubt, Rows,
 )  # fmt: skip
@@ -17,22 +19,21 @@ from callauction.words import AUCTIONS
 
 LONGEST = 18 * 3600 * clocks.SECOND
 """How long a session may be in nanoseconds: times that fall by more are the next day's."""
+MOST_RESULTS, MOST_ODD = 8, 2
+"""How many results are named, and how many in all may be corrected, or auctions have none."""
 
 
 def _results(rows: Rows) -> Ints:
     """The rows uncross that publish something of an auction that ended."""
     says = (rows.price != MISSING) | (rows.quantity >= 0)
-    found: Ints = numpy.flatnonzero((rows.kind == UNCROSS) & (rows.state != STOPPED) & says)
-    return found
+    return numpy.flatnonzero((rows.kind == UNCROSS) & (rows.state != STOPPED) & says)
 
 
 # ---- two days
 
 
 def is_one_session(rows: Rows) -> bool:
-    """Whether rows of two dates are of one day, as of a session over midnight: all are within less
-    than LONGEST, and results name auctions in their order.
-    """
+    """Whether rows of two dates are of one session: within LONGEST, its auctions in their order."""
     at = rows.time[(rows.kind != BAD) & (rows.time != clocks.NONE)]
     names = rows.state[_results(rows)]
     return bool(
@@ -77,9 +78,7 @@ def _refuse(rows: Rows, both: tuple[int, int], what: str, how: str) -> None:
 
 
 def refuse_markets(rows: Rows, due: Sequence[int]) -> None:
-    """Raises ExtractError where a column that isn't read tells results of one auction apart, and
-    has these texts in entries too: it may be of two markets or instruments.
-    """
+    """Raises ExtractError where an unread column of results and entries tells two markets apart."""
     groups, results = [*doubled(rows, due).values()], _results(rows)
     if not groups and (len(results) <= len(due) or (rows.state[results] > 0).any()):
         return
@@ -95,7 +94,7 @@ def refuse_markets(rows: Rows, due: Sequence[int]) -> None:
 
 def refuse_sums(rows: Rows, due: Sequence[int]) -> None:
     """Raises ExtractError where there are more results than auctions, and the trades of one add up
-    to the volumes of its results, which are others, as those of two markets do.
+    to the volumes of its results, which differ, as those of two markets do.
     """
     made = rows.of(TRADE, FILL)
     for those in doubled(rows, due).values() if has_more(rows, due) else ():
@@ -189,9 +188,7 @@ def has_more(rows: Rows, due: Sequence[int]) -> bool:
 
 
 def corrected(rows: Rows, due: Sequence[int]) -> Rows:
-    """The rows with the last result of an auction that has several in the place of the one above
-    its trades, else of the first, and the others as bad rows.
-    """
+    """The rows with the last result of each auction that has several, in with_last's place."""
     for number, those in doubled(rows, due).items():
         rows = with_last(rows, those, number)
     return rows
@@ -236,8 +233,8 @@ def others_said(rows: Rows, one: Ints, other: Ints | int) -> Ints:
 
 
 def with_last(rows: Rows, those: Ints, auction: int) -> Rows:
-    """The rows with the last of these results of an auction alone, in the place of the last above
-    its first trade, else of the first one.
+    """The rows with the last of these results alone, where the last above the auction's first trade
+    is, else the first; the others are bad rows.
     """
     results = _results(rows)
     others = results[(results > those[0]) & ~numpy.isin(results, those)]
@@ -255,3 +252,100 @@ def with_last(rows: Rows, those: Ints, auction: int) -> Rows:
     labels = rows.labels.copy()
     labels[at] = labels[last]
     return dataclasses.replace(rows.with_said(at, last), kind=kind, bad=bad, labels=labels)
+
+
+# ---- results that don't say which auction they are of
+
+
+class Role(enum.Enum):
+    """What a result may be of its auction."""
+
+    END = "its result"
+    STOP = "its interruption"
+    EARLIER = "one that the next one corrects"
+
+
+Named = tuple[tuple[int, Role], ...]
+"""Of which auction of the day each result is, by its place among them, and as what."""
+
+
+def namings(found: Judgement, rows: Rows, rules: Rules) -> list[Named]:
+    """The ways in which results without names may be those of the auctions, where they aren't
+    fewer: those by which fewest were corrected or are missing come first. Until one is wrong, may
+    be an interruption for which no range is said, or may be corrected, all are as they were judged.
+    """
+    results, due = _ends(rows), rules.due
+    is_few = len(due) <= len(results) <= MOST_RESULTS
+    if not is_few or len({*due}) < len(due) or (rows.state[results] > 0).any():
+        return []
+    stops = _stops(found, rows, results)
+    count = others_said(rows, results[:-1], results[1:])  # which the next one may correct
+    earlier = [bool(it > 0 if len(results) > len(due) else it == 1) for it in count] + [False]
+    first = _judged(found, rules, dict(zip(results.tolist(), stops)))
+    ways = [first[:-1] if first and earlier[len(first) - 1] else first]
+    for place in range(len(ways[0]), len(results)):
+        roles = [Role.END, *[Role.STOP] * stops[place], *[Role.EARLIER] * earlier[place]]
+        ways = [it for way in ways for it in _longer(way, len(due), roles)]
+    odd = {way: _odd(way, len(due)) for way in ways}
+    return sorted((way for way in odd if odd[way] <= MOST_ODD), key=odd.__getitem__)
+
+
+def _ends(rows: Rows) -> Ints:
+    """The rows uncross that aren't recorded as interruptions."""
+    return numpy.flatnonzero((rows.kind == UNCROSS) & (rows.state != STOPPED))
+
+
+def _stops(found: Judgement, rows: Rows, results: Ints) -> list[bool]:
+    """Which results may be interruptions: priced, and without trades of their time or a count, if
+    others have these.
+    """
+    made = ((rows.kind == TRADE) | (rows.kind == FILL)).any() or (rows.count[results] >= 0).any()
+    both = ((it.place, numpy.concatenate([it.traded, it.filled])) for it in found.uncrosses)
+    busy = [place for place, own in both if (rows.time[own] == rows.time[place]).any()]
+    are = (rows.price[results] >= 0) & (rows.count[results] <= 0) & ~numpy.isin(results, busy)
+    return [bool(it and made) for it in are]
+
+
+def _judged(found: Judgement, rules: Rules, stops: dict[int, bool]) -> Named:
+    """What the first results were judged to be."""
+    names: list[tuple[int, Role]] = []
+    for each in found.uncrosses:
+        if each.place not in stops:
+            continue
+        number = sum(role is Role.END for _, role in names)
+        is_open = stops[each.place] and not rules.has_range
+        if each.differences or is_open or number >= len(rules.due):
+            break
+        names.append((number, Role.STOP if each.is_interrupted else Role.END))
+    return tuple(names)
+
+
+def _longer(way: Named, many: int, roles: Sequence[Role]) -> Iterator[Named]:
+    """A naming of some results with each way in which the next one may have one of these roles."""
+    last, role = way[-1] if way else (-1, Role.END)
+    first = last + (role is Role.END)
+    for number in range(first, last + 1 if role is Role.EARLIER else many):
+        for each in roles:
+            longer = (*way, (number, each))
+            is_again = each is Role.STOP and number == last
+            if not is_again and _odd(longer, number) <= MOST_ODD:
+                yield longer
+
+
+def _odd(way: Named, many: int) -> int:
+    """How many results are corrected, and how many of the first auctions have none."""
+    ended = {number for number, role in way if role is Role.END}
+    return sum(role is Role.EARLIER for _, role in way) + sum(it not in ended for it in range(many))
+
+
+def with_names(rows: Rows, due: Sequence[int], way: Named) -> Rows:
+    """The rows with the results named in this way, those that are corrected as bad rows."""
+    results, state = _ends(rows), rows.state.copy()
+    state[results] = [STOPPED if role is Role.STOP else 1 + due[it] for it, role in way]
+    rows = dataclasses.replace(rows, state=state)
+    numbers = numpy.array([MISSING if role is Role.STOP else it for it, role in way])
+    for number in numpy.unique(numbers[numbers >= 0]).tolist():
+        those = results[numbers == number]
+        if len(those) > 1:
+            rows = with_last(rows, those, due[number])
+    return rows

@@ -1,16 +1,32 @@
 """Ids become keys: of each order one, whatever ids it had. Rows of orders that no row enters, or
-that are another's, are bad ones.
+that are another's, are bad ones. Some write ids and members otherwise than entries: as n3 and N3,
+or as replaces gave them in a table without a column of new ids.
 """
 import dataclasses
+import functools
+import re
+from collections.abc import Iterable, Iterator
 
 import numpy
 import pandas
 
 from callauction.verdict.cells import Codes, Ints
-from callauction.verdict.rows import CANCEL, MISSING, NEW, REPLACE, SIDES, Doubt, Rows
+from callauction.verdict.columns import EMPTY
+from callauction.verdict.judged import Judged, Judgement
+from callauction.verdict.phases import recorded_sums, sums
+from callauction.verdict.rows import (
+    CANCEL, FILL, MISSING, NEW, REPLACE, SIDES, TRADE, BadRow, Doubt, Rows,
+)  # fmt: skip
 
 QUOTES = "ids of a bid and an ask, read as two orders"
 FOREIGN = "cancels by others than the order's member"
+_ANYONE = ("anon", "anonymous", "hidden", "masked", "none", "unknown", "n.a.", "na", *EMPTY)
+_ONE_SIGN = re.compile(r"(.)\1\1+|\W+")
+_QUOTES = "'\"`"
+"""What a sheet may write before a number that is to stay a text."""
+OTHER_IDS = "no trade has an order's id: are theirs of another column, or another spelling?"
+MOST_TEXTS = 100_000
+"""How many ids, and how many rows, are looked at."""
 
 
 def make_keys(rows: Rows, unread: Codes) -> None:
@@ -18,7 +34,7 @@ def make_keys(rows: Rows, unread: Codes) -> None:
     whose new id is another order's; `unread` are the ids that rows have which weren't read.
     """
     count = len(rows.names.ids)
-    entered = _entered(rows, count)
+    entered = rows.entered(count + 1)
     count, entered = _without_second(rows, count, entered)
     root = _roots(rows, entered, count)
     for name in ("key", "bid", "ask"):
@@ -31,12 +47,18 @@ def make_keys(rows: Rows, unread: Codes) -> None:
     _refuse_others(rows, entered, {*unread.tolist()})
 
 
-def _entered(rows: Rows, count: int) -> Ints:
-    """By its id the row that enters it first, MISSING where none does."""
-    found = numpy.full(count + 1, MISSING, "i8")
-    news = rows.of(NEW)
-    found[rows.key[news][::-1]] = news[::-1]
-    return found
+def below_their_entries(rows: Rows) -> Rows:
+    """The rows, with changes of an order that are above its entry of their time below it, as rows
+    of one time may be in any order.
+    """
+    changes = rows.of(REPLACE, CANCEL)
+    entry = rows.entered(len(rows.names.ids) + 1)[rows.key[changes]]
+    is_above = (entry > changes) & (rows.group[entry] == rows.group[changes])
+    if not is_above.any():
+        return rows
+    place = numpy.arange(len(rows.kind), dtype="f8")
+    place[changes[is_above]] = entry[is_above] + 0.5
+    return rows.ordered(numpy.argsort(place, kind="stable"))
 
 
 def _without_second(rows: Rows, count: int, entered: Ints) -> tuple[int, Ints]:
@@ -48,7 +70,7 @@ def _without_second(rows: Rows, count: int, entered: Ints) -> tuple[int, Ints]:
     quotes = second[rows.side[second] != rows.side[entered[rows.key[second]]]]
     if len(quotes):
         count = _part_quotes(rows, numpy.unique(rows.key[quotes]), count)
-        entered = _entered(rows, count)
+        entered = rows.entered(count + 1)
         news = rows.of(NEW)
         second = news[entered[rows.key[news]] != news]
     for place in second:
@@ -65,9 +87,7 @@ def _without_second(rows: Rows, count: int, entered: Ints) -> tuple[int, Ints]:
 
 
 def _part_quotes(rows: Rows, ids: Ints, count: int) -> int:
-    """Gives the asks of these ids, which are entered on both sides, ids of their own: how many ids
-    there are then.
-    """
+    """Gives the asks of ids that are entered on both sides ids of their own; the count of ids."""
     other = numpy.arange(count + 1)
     other[ids] = count + numpy.arange(len(ids))
     are = numpy.isin(rows.key, ids)
@@ -97,9 +117,7 @@ def _roots(rows: Rows, entered: Ints, count: int) -> Ints:
 
 
 def _refuse_others(rows: Rows, entered: Ints, unread: set[int]) -> None:
-    """Refuses rows of orders that no row above enters, and replaces by others than the order's
-    member; counts such cancels.
-    """
+    """Refuses rows of unknown orders and replaces by other members, and counts such cancels."""
     events = rows.of(REPLACE, CANCEL)
     owner = entered[rows.key[events]]
     is_known = (owner >= 0) & (owner <= events)
@@ -119,3 +137,209 @@ def _refuse_others(rows: Rows, entered: Ints, unread: set[int]) -> None:
         )
         why = f"member {names[0]!r} isn't {names[1]!r}, whose order it is"
         rows.refuse(place, why, Doubt.BOOKS)
+
+
+# ---- ids and members in another spelling
+
+
+def respelled(rows: Rows) -> tuple[Rows, str] | None:
+    """The rows with ids and members as entries spell them, and two that differ; None for none."""
+    found, both = _with_ids(rows)
+    found, members = _with_members(found)
+    both = both or members
+    if not both:
+        return None
+    return found, f"ids or members are written in two ways: {' and '.join(both)}"
+
+
+def have_other_ids(rows: Rows, judgement: Judgement) -> bool:
+    """Whether no trade or fill has an order's id, while prices and shares are the lawful ones, so
+    that all may be right but the ids.
+    """
+    made = rows.of(TRADE, FILL)
+    named = numpy.concatenate([it[made] for it in (rows.bid, rows.ask, rows.key)])
+    named = named[named >= 0]
+    if not len(named) or numpy.isin(named, rows.key[rows.of(NEW)]).any():
+        return False
+    judged = [it for it in judgement.uncrosses if it.result is not None]
+    return all(map(functools.partial(_fits, rows), judged))
+
+
+def _fits(rows: Rows, judged: Judged) -> bool:
+    """Whether an auction's trades and fills have its price, and together its shares."""
+    result = judged.result
+    assert result is not None
+    own = numpy.concatenate([judged.traded, judged.filled])
+    shares = [int(rows.quantity[it].sum()) for it in (judged.traded, judged.filled)]
+    due = (result.volume * bool(len(judged.traded)), 2 * result.volume * bool(len(judged.filled)))
+    if (*shares,) != due or result.volume and not len(own):
+        return False
+    return bool(numpy.isin(rows.price[own], (result.number, MISSING)).all())
+
+
+def is_placeholder(name: str) -> bool:
+    """Whether a member's name seems to be a word for none, or one sign again and again."""
+    return name.casefold() in _ANYONE or bool(_ONE_SIGN.fullmatch(name))
+
+
+def _plain(text: str) -> str:
+    """A text without what another system may change of it."""
+    text = re.sub(r"\s", "", text.casefold()).strip(_QUOTES).removesuffix(".0")
+    return re.sub(r"(?<!\d)0+(?=\d)", "", text.lstrip("0"))
+
+
+def _by_plain(texts: Iterable[tuple[int, str]]) -> dict[str, tuple[int, str]]:
+    """Numbered texts by what is plain of them, where that is of one alone."""
+    found: dict[str, tuple[int, str]] = {}
+    twice = set[str]()
+    for number, text in texts:
+        plain = _plain(text)
+        twice |= {plain} & {*found}
+        found[plain] = number, text
+    return {plain: it for plain, it in found.items() if plain not in twice}
+
+
+def _with_ids(rows: Rows) -> tuple[Rows, tuple[str, ...]]:
+    """The rows with the keys of orders for ids that no row enters, and two such ids."""
+    made, lost = numpy.isin(rows.kind, (TRADE, FILL)), lost_rows(rows)
+    keys = {name: getattr(rows, name) for name in ("key", "bid", "ask")}
+    of_lost = rows.key[[row.place for row in lost]]
+    named = numpy.unique(numpy.concatenate([*(it[made] for it in keys.values()), of_lost]))
+    entered = numpy.unique(rows.key[rows.kind == NEW])
+    unknown = named[(named >= 0) & ~numpy.isin(named, entered)]
+    if not len(unknown) or len(unknown) + len(entered) > MOST_TEXTS:
+        return rows, ()
+    known = _by_plain((key, rows.names.order(key)) for key in entered.tolist())
+    _add_new_ids(rows, lost, known)
+    meant = numpy.arange(len(rows.names.ids) + 1, dtype="i4")
+    both: tuple[str, ...] = ()
+    for key in unknown.tolist():
+        text = rows.names.order(key)
+        if _plain(text) in known:
+            meant[key], order = known[_plain(text)]
+            both = both or (text, order)
+    changed = {name: numpy.where(it >= 0, meant[it], it) for name, it in keys.items()}
+    if not both:
+        return rows, ()
+    return found_again(dataclasses.replace(rows, **changed), lost), both
+
+
+def _add_new_ids(rows: Rows, lost: list[BadRow], known: dict[str, tuple[int, str]]) -> None:
+    """Adds the ids that replaces give to orders, in the order of rows, but for known ones."""
+    named = {row.place: row for row in lost if row.kind == REPLACE}
+    those = numpy.union1d(rows.of(REPLACE), numpy.array([*named], "i8"))
+    keys = {key: text for key, text in known.values()}
+    for place in those[rows.new_id[those] >= 0].tolist():
+        key, text = int(rows.key[place]), rows.names.order(rows.new_id[place])
+        if place in named:
+            key = known.get(_plain(rows.names.order(key)), (MISSING, ""))[0]
+        if key in keys:
+            known.setdefault(_plain(text), (key, text))
+
+
+def lost_rows(rows: Rows) -> list[BadRow]:
+    """The replaces and cancels of orders that no row enters."""
+    return [row for row in rows.bad if row.kind in (REPLACE, CANCEL) and row.doubt is Doubt.ORDER]
+
+
+def found_again(rows: Rows, lost: list[BadRow]) -> Rows:
+    """The rows with those of these that a row above enters by their keys, for its member."""
+    entered = dict(zip(rows.key[rows.kind == NEW].tolist(), rows.of(NEW).tolist()))
+    kind, found = rows.kind.copy(), set[int]()
+    for row in lost:
+        above = entered.get(int(rows.key[row.place]), row.place)
+        one, other = rows.member[[above, row.place]].tolist()
+        if above < row.place and (one == other or min(one, other) < 0):
+            kind[row.place] = row.kind
+            found.add(row.place)
+    bad = [row for row in rows.bad if row.place not in found]
+    return dataclasses.replace(rows, kind=kind, bad=bad)
+
+
+def _with_members(rows: Rows) -> tuple[Rows, tuple[str, ...]]:
+    """The rows with the members of orders for those that no order has, and two such names."""
+    own = numpy.unique(rows.member[rows.of(NEW)])
+    known = _by_plain((it, rows.names.member(it)) for it in own[own >= 0].tolist())
+    changed, both = {}, tuple[str, ...]()
+    for column, kind in (("bid_member", TRADE), ("ask_member", TRADE), ("member", FILL)):
+        numbers, these = getattr(rows, column).copy(), rows.of(kind)
+        odd = these[(numbers[these] != MISSING) & ~numpy.isin(numbers[these], own)]
+        for place in odd[:MOST_TEXTS].tolist():
+            text = rows.names.recorded(place, column, int(numbers[place]))
+            numbers[place], member = known.get(_plain(text), (numbers[place], ""))
+            both = both or ((text, member) if member else ())
+        changed[column] = numbers
+    return dataclasses.replace(rows, **changed), both
+
+
+# ---- ids that replaces gave
+
+
+def renamed(rows: Rows, judgement: Judgement) -> tuple[Rows, str] | None:
+    """The rows with the keys of replaced orders for ids that no row enters, where these have on
+    their side the lawful shares of such an order, and why; None where they haven't, or an order has
+    trades by its own id after its replace. One such id in one row alone looks like those of
+    entries.
+    """
+    entered, retired, lost = rows.of(NEW), _retired(rows), lost_rows(rows)
+    parts = [it[rows.of(TRADE, FILL)] for it in (rows.bid, rows.ask, rows.key)]
+    named = numpy.concatenate([*parts, rows.key[[row.place for row in lost]]])
+    named = named[(named >= 0) & ~numpy.isin(named, rows.key[entered])]
+    unknown = {*named.tolist()}
+    if not retired or (rows.new_id >= 0).any():
+        return None
+    meant = dict[int, int]()
+    for judged in judgement.uncrosses:
+        for one, other in _pairs(rows, judged, unknown):
+            if meant.setdefault(one, other) != other or other not in retired:
+                return None
+    forms = {_form(rows.names.order(key)) for key in rows.key[entered].tolist()}
+    is_like = len(named) > 1 or all(_form(rows.names.order(key)) in forms for key in meant)
+    if not meant or len({*meant.values()}) < len(meant) or not is_like:
+        return None
+    key, order = next(iter(meant.items()))
+    names, label = rows.names, rows.labels[retired[order]]
+    why = (f"no row enters {names.order(key)!r}: may the replace of row {label} have given that id "
+           f"to {names.order(order)}? (a column new_order says it)")  # fmt: skip
+    ids = numpy.arange(len(names.ids) + 1, dtype="i4")
+    ids[[*meant]] = [*meant.values()]
+    changed = {name: getattr(rows, name) for name in ("key", "bid", "ask")}
+    changed = {name: numpy.where(it >= 0, ids[it], it) for name, it in changed.items()}
+    return found_again(dataclasses.replace(rows, **changed), lost), why
+
+
+def _form(name: str) -> str:
+    """An id with a 0 for each of its numbers."""
+    return re.sub(r"\d+", "0", name)
+
+
+def _retired(rows: Rows) -> dict[int, int]:
+    """Each order's last row, a replace; none where an order has trades or fills after its own."""
+    last = numpy.full(len(rows.names.ids) + 1, MISSING, "i8")
+    for keys in (rows.key, rows.bid, rows.ask):
+        places = numpy.flatnonzero(keys >= 0)
+        numpy.maximum.at(last, keys[places], places)
+    replaces = rows.of(REPLACE)
+    own = dict(zip(rows.key[replaces].tolist(), replaces.tolist()))
+    late = [key for key, place in own.items() if rows.kind[last[key]] in (TRADE, FILL)]
+    return {} if late else {key: place for key, place in own.items() if last[key] == place}
+
+
+def _pairs(rows: Rows, judged: Judged, unknown: set[int]) -> Iterator[tuple[int, int]]:
+    """Unknown ids of a wrong auction, each with an order, of its side where there are trades, that
+    has none of its lawful shares, which are as many.
+    """
+    traded, filled, due = judged.traded, judged.filled, judged.result
+    if due is None or not any({*it.keys} & unknown for it in judged.certain):
+        return
+    both = [(recorded_sums(rows, traded, filled), due.fills)]
+    if len(traded):
+        sides = ((rows.bid, due.bid), (rows.ask, due.ask))
+        both = [(sums(own[traded], rows.quantity[traded]), sums(keys, due.quantity))
+                for own, keys in sides]  # fmt: skip
+    for recorded, lawful in both:
+        one, two = recorded.by_key(), lawful.by_key()
+        extra = sorted((shares, key) for key, shares in one.items() if key in unknown)
+        lost = sorted((shares, key) for key, shares in two.items() if key not in one)
+        if [shares for shares, _ in extra] == [shares for shares, _ in lost]:
+            yield from ((key, order) for (_, key), (_, order) in zip(extra, lost))

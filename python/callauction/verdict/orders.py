@@ -4,12 +4,14 @@ do the orders.
 """
 import collections
 import dataclasses
+from collections import Counter
 from collections.abc import Iterable
 from decimal import Decimal
 
+import numpy
 import pandas
 
-from callauction.verdict.judged import Judged, Judgement, Rules
+from callauction.verdict.judged import Judged, Judgement, Path, Rules
 from callauction.verdict.phases import recorded_sums
 from callauction.verdict.rows import CANCEL, MARKET, NEW, OF_ORDERS, OWN, SIDES, Rows
 
@@ -159,3 +161,30 @@ def members_of(orders: pandas.DataFrame) -> pandas.DataFrame:
         better = sum((it for it in those["better"] if it is not None), Decimal(0))
         rows.append((member, len(those), those["quantity"].sum(), bought, sold, better))
     return pandas.DataFrame(rows, columns=[*MEMBERS])
+
+
+CLOSED = "cancels and expiries of orders that {}"
+_GONE = (
+    "were open no more", "were executed before", "were for one auction alone, which is over",
+    "were cancelled before", "the rules refuse",
+)  # fmt: skip
+"""What became of an order, by its number."""
+
+
+def notes_of(rows: Rows, path: Path) -> Counter[str]:
+    """How many rows of a course cancel an order that isn't open, by what became of it."""
+    gone = numpy.zeros(len(rows.names.ids) + 1, "i1")
+    cancels = numpy.setdiff1d(rows.of(*OF_ORDERS)[: path.taken], path.closed)
+    cancels = cancels[rows.kind[cancels] == CANCEL]
+    gone[rows.key[cancels]] = 3
+    for each in filter(lambda it: it.is_ended, path.judged):
+        book, room = each.book, numpy.zeros(len(gone), "i8")
+        room[each.fills.keys] = each.fills.shares
+        is_whole = room[book.key] >= book.quantity
+        gone[book.key[is_whole]] = 1
+        gone[book.key[~is_whole & (book.only > 0) & (book.only == OWN[each.auction])]] = 2
+    gone[rows.key[cancels[rows.quantity[cancels] <= 0]]] = 3
+    entries = [row.place for row in path.refused if rows.kind[row.place] == NEW]
+    gone[rows.key[entries]] = 4
+    counts = numpy.bincount(gone[rows.key[path.closed]], minlength=len(_GONE)).tolist()
+    return +Counter({CLOSED.format(why): count for why, count in zip(_GONE, counts)})

@@ -1,12 +1,15 @@
 """The report of an extract as one HTML file: the verdict and the findings first, then each finding
-with its rule and its queue, then the auctions, the members and the orders. See html_of.
+with its rule and its queue, then the auctions, the members and the orders. See html_of. That of
+many instruments is a page with a row for each, and links to the pages of those not lawful.
 """
 import fractions
 import html
+import pathlib
 import re
 import textwrap
-from collections.abc import Callable, Iterator, Mapping
+from collections.abc import Iterator, Mapping
 from decimal import Decimal
+from urllib.parse import quote
 
 import pandas
 from matplotlib.axes import Axes
@@ -17,9 +20,9 @@ from callauction.pages import (
     BOOKED, caption_of, counted, evidence_parts, html_image, html_page, html_table, near_price,
     new_figure,
 )  # fmt: skip
-from callauction.verdict import stamps
 from callauction.verdict.context import Context, price_text
 from callauction.verdict.findings import LAWFUL, MOST_BAD_ROWS, Finding, Verdict, frame_of
+from callauction.verdict.instruments import FAULT, Audited, Market
 from callauction.verdict.judged import Judged, Rules
 from callauction.verdict.orders import members_of
 from callauction.verdict.rows import INTERRUPTED
@@ -35,6 +38,14 @@ _JOINED = "\xa0"
 """A blank at which no line of a title ends, as it does behind a comma."""
 QUEUED = ("open", "recorded", "lawful")
 """The columns of a queue that count shares."""
+_STAMP = re.compile(
+    r"(?<![\w.:])(?P<date>\d{4}-\d\d-\d\dT?|\d{8}[T-]|\d{1,2}\.\d{1,2}\.\d{4})[ ]?"
+    r"(?=\d\d?:\d\d:\d\d)"
+)
+_CLOCK = re.compile(r"(?P<clock>\d\d?:\d\d:\d\d)(?:[.,](?P<part>\d{1,9}))(?!\d)")
+ORDER = ("unlawful", FAULT, "incomplete", LAWFUL)
+"""Which instruments come first, by their verdicts."""
+LISTED = ("verdict", "findings", "doubtful", "rows not read", "compared", "what is first")
 Part = tuple[str, str]
 """A section: its heading and its HTML."""
 
@@ -51,7 +62,7 @@ def html_of(
     parts += [_auction(verdict, judged) for judged in watch(held)]
     orders = verdict.orders()
     parts += [_members(orders), _orders(orders, verdict.rules), *_bad_rows(verdict)]
-    return html_page(title, [*stamps.shortened(parts), *evidence_parts(facts)], "desk", pages)
+    return html_page(title, [*_shortened(parts), *evidence_parts(facts)], "desk", pages)
 
 
 def _first(verdict: Verdict) -> Part:
@@ -65,20 +76,28 @@ def _first(verdict: Verdict) -> Part:
     if verdict.bad_rows:
         text += f" Rows that couldn't be read or were refused: {len(verdict.bad_rows):,}."
     text += "</p>"
-    text += _listed(verdict.findings, "finding", "findings")
-    text += _listed(verdict.doubtful, "doubtful finding", "doubtful")
+    text += _listed(verdict, False, counted(count, "finding"))
+    reasons = counted(len(verdict.reasons()), "reason")
+    doubts = f"{counted(len(verdict.doubtful), 'doubtful finding')} of {reasons}"
+    text += _listed(verdict, True, doubts)
     return "Verdict", text + "".join(f"<p>{html.escape(it)}</p>" for it in verdict.ranges())
 
 
-def _listed(findings: tuple[Finding, ...], word: str, name: str) -> str:
-    """The table of the first findings, each with its rule or its doubt; empty for none."""
-    if not findings:
+def _listed(verdict: Verdict, is_doubtful: bool, caption: str) -> str:
+    """The table of the first certain findings, each with its rule, or of the first doubtful one of
+    each reason; empty for none.
+    """
+    found = [it for it in verdict.shown() if bool(it[0].doubt) == is_doubtful]
+    if not found:
         return ""
-    more = f", of which {MOST_FIRST} are here" if len(findings) > MOST_FIRST else ""
-    shown = findings[:MOST_FIRST]
-    frame = frame_of(shown).astype({"row": "str"})
-    links = {str(it.row): f"#{mark_of(it)}" for it in shown[::-1]}
-    return html_table(frame, counted(len(findings), word) + more, name, (), links)
+    more = f", of which {MOST_FIRST} are here" if len(found) > MOST_FIRST else ""
+    shown = found[:MOST_FIRST]
+    frame = frame_of(it for it, _ in shown).astype({"row": "str"})
+    if any(others for _, others in shown):
+        frame["others"] = [others for _, others in shown]
+    links = {str(it.row): f"#{mark_of(it)}" for it, _ in shown[::-1]}
+    name = "doubtful" if is_doubtful else "findings"
+    return html_table(frame, caption + more, name, (), links)
 
 
 def mark_of(finding: Finding) -> str:
@@ -88,16 +107,16 @@ def mark_of(finding: Finding) -> str:
 
 def _explained(verdict: Verdict) -> Iterator[Part]:
     """The findings, each with its rule and its queue."""
-    found = (*verdict.findings, *verdict.doubtful)
+    found, many = verdict.shown()[:MOST_EXPLAINED], len(verdict.findings) + len(verdict.doubtful)
     if not found:
         return
-    more = f"The first {MOST_EXPLAINED} of {len(found):,} are here, --findings has all."
-    text = f"<p>{more}</p>" if len(found) > MOST_EXPLAINED else ""
-    yield "Findings", text + "".join(_finding(verdict, it) for it in found[:MOST_EXPLAINED])
+    more = f"The first {len(found)} of {many:,} are here, --findings has all."
+    text = f"<p>{more}</p>" if len(found) < many else ""
+    yield "Findings", text + "".join(_finding(verdict, *it) for it in found)
 
 
-def _finding(verdict: Verdict, finding: Finding) -> str:
-    """A finding with its rule, what it moved and its queue."""
+def _finding(verdict: Verdict, finding: Finding, others: str) -> str:
+    """A finding with its rule, what it moved and its queue, and which others have its reason."""
     sentences = "".join(f"<li>{html.escape(it)}</li>" for it in verdict.explain(finding))
     moved = "".join(f"<li>{html.escape(it)}</li>" for it in finding.moved)
     text = (
@@ -105,6 +124,7 @@ def _finding(verdict: Verdict, finding: Finding) -> str:
         f"<ol>{sentences}</ol>"
     )
     text += f"<p>It also moved:</p><ul>{moved}</ul>" if moved else ""
+    text += f"<p>For this reason {html.escape(others)}.</p>" if others else ""
     queue = verdict.queue(finding).astype("object")
     queue["price"] = _limits(queue["price"], verdict.rules)
     caption = "The queue: open before the uncross, recorded and lawful shares"
@@ -168,7 +188,10 @@ def _draw(context: Context, axes: Axes) -> None:
     size, digits = context.rules.tick_size, max(-int(it.as_tuple().exponent) for it in prices)
     step = fractions.Fraction(1, 10 ** max(0, digits))  # else the last digit of the prices
     step = step if size is None else fractions.Fraction(size)
-    named = _namer(context, prices[0], step)
+
+    def named(tick: int) -> str:
+        price = fractions.Fraction(prices[0]) + tick * step
+        return context.price(Decimal(price.numerator) / Decimal(price.denominator))
 
     def at(price: Decimal) -> int:
         return int(fractions.Fraction(price - prices[0]) / step)
@@ -179,14 +202,6 @@ def _draw(context: Context, axes: Axes) -> None:
     plot.book(book, reference=at(context.reference), named=named, ax=axes)
     title = re.sub(r"(?<!,) ", _JOINED, axes.get_title("left").partition("\n")[2])
     axes.set_title("\n".join(textwrap.wrap(title, TITLE)).replace(_JOINED, " "), loc="left")
-
-
-def _namer(context: Context, first: Decimal, step: fractions.Fraction) -> Callable[[int], str]:
-    def named(tick: int) -> str:
-        price = fractions.Fraction(first) + tick * step
-        return context.price(Decimal(price.numerator) / Decimal(price.denominator))
-
-    return named
 
 
 def _members(orders: pandas.DataFrame) -> Part:
@@ -226,3 +241,88 @@ def _bad_rows(verdict: Verdict) -> Iterator[Part]:
     if verdict.notes:
         notes = pandas.DataFrame(verdict.notes.items(), columns=["what", "rows"])
         yield "Notes", html_table(notes, "What else was met", "notes")
+
+
+def _shortened(parts: list[Part]) -> list[Part]:
+    """A page's sections, whose times have no digits that none needs, and no date that all have: the
+    first section says it.
+    """
+    texts = [text for part in parts for text in part]
+    dates = {found["date"] for text in texts for found in _STAMP.finditer(text)}
+    digits = max(
+        (len(it["part"].rstrip("0")) for text in texts for it in _CLOCK.finditer(text)), default=0
+    )
+
+    def cut(found: "re.Match[str]") -> str:
+        clock, part = found["clock"], found["part"].ljust(digits, "0")[:digits]
+        return f"{clock}{found[0][len(clock)]}{part}" if digits else clock
+
+    def short(text: str) -> str:
+        text = _STAMP.sub("", text) if len(dates) == 1 else text
+        return _CLOCK.sub(cut, text)
+
+    found = [(short(head), short(text)) for head, text in parts]
+    if len(dates) == 1:
+        head, text = found[0]
+        found[0] = head, f"{text}<p>All times are of {dates.pop().strip('T- ')}.</p>"
+    return found
+
+
+# ---- many instruments
+
+
+def write_market(
+    market: Market, path: pathlib.Path, title: str, facts: Mapping[str, str], watch: Watch
+) -> None:
+    """Writes the page of a market, and beside it a folder of its name with those of instruments,
+    which are linked. `watch` is given the instruments, then the pages. Raises ProgramError and
+    OSError.
+    """
+    found = sorted(market.one_by_one(None, watch), key=lambda each: ORDER.index(each.word))
+    folder, files = path.with_suffix(""), dict[str, str]()
+    names = [each.name for each in found if each.word not in (LAWFUL, FAULT)]
+    for name in names:
+        files[name] = _file_name(name, {*files.values()})
+    for place, name in enumerate(watch(names)):
+        folder.mkdir(exist_ok=True)
+        beside = {"before": names[place - 1 : place], "next": names[place + 1 : place + 2]}
+        pages = {f"All of {title}": f"../{quote(path.name)}"}
+        pages |= {f"{word}: {it}": files[it] for word, those in beside.items() for it in those}
+        text = html_of(market.verdict(name), f"{title}: {name}", iter, facts, pages)
+        (folder / files[name]).write_text(text, encoding="utf-8")
+    links = {name: f"{quote(folder.name)}/{file}" for name, file in files.items()}
+    path.write_text(_market_html(found, title, facts, links), encoding="utf-8")
+
+
+def _file_name(name: str, taken: set[str]) -> str:
+    """A name for the file of an instrument, which no other has."""
+    plain = re.sub(r"[^A-Za-z0-9.-]", "_", name).strip(".") or "_"
+    found, count = f"{plain}.html", 1
+    while found in taken:
+        count += 1
+        found = f"{plain}-{count}.html"
+    return found
+
+
+def _first_line(each: Audited) -> str:
+    """The fault of an instrument, its first finding, or what else leaves it open."""
+    open_ = (*each.lines, *each.remarks) if each.word != LAWFUL else ()
+    return str(each.fault or each.first or next(iter(open_), ""))
+
+
+def _market_html(
+    found: list[Audited], title: str, facts: Mapping[str, str], links: Mapping[str, str]
+) -> str:
+    """The page of instruments in this order."""
+    words = [each.word for each in found]
+    counts = ", ".join(f"{words.count(word):,} {word}" for word in ORDER if word in words)
+    look = "good" if {*words} == {LAWFUL} else "bad"
+    text = f'<p class="{look}">{counted(len(found), "instrument")}: <strong>{counts}</strong>.</p>'
+    rows = [
+        (each.name or "(none)", each.word, each.findings, each.doubtful, each.bad_rows,
+         "{:,} of {:,}".format(*each.coverage.total), _first_line(each))
+        for each in found
+    ]  # fmt: skip
+    frame = pandas.DataFrame(rows, columns=["instrument", *LISTED])
+    text += html_table(frame, "Instruments", "instruments", LISTED[1:4], links, len(rows))
+    return html_page(title, [("Verdict", text), *evidence_parts(facts)], "desk market")

@@ -11,17 +11,16 @@ import functools
 import numpy
 
 from callauction.arrays import COMMAND, Structs
-from callauction.limits import MOST_CALLS, MOST_OPEN, MOST_TICKS
+from callauction.limits import MOST_CALLS, MOST_OPEN, MOST_QUANTITY, MOST_TICKS
 from callauction.verdict import engine
 from callauction.verdict.cells import Array, Codes, Ints, Mask
 from callauction.verdict.rows import (
-    CANCEL, MARKET, NEW, OWN, REPLACE, SIDES, BadRow, Bytes, Doubt, Rows,
+    CANCEL, MARKET, MISSING, NEW, OWN, REPLACE, SIDES, BadRow, Bytes, Doubt, Rows,
 )  # fmt: skip
 from callauction.words import AUCTIONS, CommandTag, Refusal, ReplyTag
 
 GONE = -1
 """The quantity of an order that a row takes out of the book."""
-MOST_QUANTITY = 1_000_000_000
 _NOT_OPEN = "isn't open any more"
 
 
@@ -31,9 +30,7 @@ class BeyondError(Exception):
 
 @dataclasses.dataclass(frozen=True)
 class Book:
-    """The open orders in the order of time. `since` is the place of the row from which an order's
-    place in time is.
-    """
+    """The open orders in order of time; `since` is the row from which a place in time is."""
 
     key: Codes
     side: Bytes
@@ -55,15 +52,12 @@ class Book:
         return found
 
     def ranked(self, which: Mask) -> Ints:
-        """The places of orders of one side in their priority: market orders, then the better
-        limits, then those that are longer in the book.
-        """
+        """The places of a side's orders in their priority: market orders, better limits, time."""
         these = numpy.flatnonzero(which)
         price = self.price[these].astype("i8")
         limit = numpy.where(self.side[these] == SIDES.index("bid"), -price, price)
         rank = numpy.where(price == MARKET, numpy.iinfo("i8").min, limit)
-        found: Ints = these[numpy.argsort(rank, kind="stable")]
-        return found
+        return these[numpy.argsort(rank, kind="stable")]
 
 
 def empty() -> Book:
@@ -74,12 +68,12 @@ def empty() -> Book:
 @dataclasses.dataclass(frozen=True)
 class Taken:
     """What a phase's rows did: the book after them, the rows that the rules refuse or that name no
-    open order, how many cancels do, and by the place of each replace whether it kept its own.
+    open order, the cancels that do, and by the place of each replace whether it kept its own.
     """
 
     book: Book
     refused: tuple[BadRow, ...]
-    closed: int
+    closed: Ints
     replaces: Ints
     kept: Mask
 
@@ -95,6 +89,11 @@ class Result:
     bid: Codes
     ask: Codes
     quantity: Ints
+
+    @property
+    def number(self) -> int:
+        """The number of the price, MISSING for none."""
+        return MISSING if self.price is None else self.price
 
     @functools.cached_property
     def fills(self) -> "Sums":
@@ -154,13 +153,10 @@ def advance(
     taken = [_advance(book, rows, parts[0], auction, executed, room)]
     for part in parts[1:]:
         taken.append(_advance(taken[-1].book, rows, part, auction, executed, room))
-    return Taken(
-        taken[-1].book,
-        tuple(each for it in taken for each in it.refused),
-        sum(it.closed for it in taken),
-        numpy.concatenate([it.replaces for it in taken]),
-        numpy.concatenate([it.kept for it in taken]),
-    )
+    refused = tuple(each for it in taken for each in it.refused)
+    names = ("closed", "replaces", "kept")
+    arrays = (numpy.concatenate([getattr(it, name) for it in taken]) for name in names)
+    return Taken(taken[-1].book, refused, *arrays)
 
 
 def _advance(
@@ -190,7 +186,7 @@ def _advance(
     is_replace = (rows.kind[sent.rows] == REPLACE) & (replies["tag"] == ReplyTag.CHANGED)
     kept = replies["kept"][is_replace].astype(bool)
     after = sent.book_after(book, replies)
-    cancels = len(closed) - len(changes)
+    cancels = closed[rows.kind[closed] == CANCEL]
     return Taken(after, tuple(refused), cancels, sent.rows[is_replace], kept)
 
 
@@ -209,9 +205,7 @@ def _refused(rows: Rows, places: Ints, refusals: Array) -> list[BadRow]:
 
 
 def _without_passing(rows: Rows, these: Ints) -> Ints:
-    """The rows without those of orders that are cancelled within the phase. Raises BeyondError
-    where there are none.
-    """
+    """The rows without orders that they cancel themselves. Raises BeyondError for none."""
     gone = these[(rows.kind[these] == CANCEL) & (rows.quantity[these] <= 0)]
     left = these[~numpy.isin(rows.key[these], rows.key[gone])]
     if len(left) == len(these):
@@ -351,15 +345,17 @@ def _ticks(prices: Codes) -> tuple[Codes, Codes]:
     return named, ticks + 1
 
 
-def _answers(
-    auction: int, commands: Structs, named: Codes, reference: int, orders: int
-) -> Structs:
-    """The replies to commands at an auction, before which the others pass over an empty book."""
+def _passing(auction: int, commands: Structs) -> Structs:
+    """The commands behind those that end the auctions before this one."""
     passed = numpy.zeros(auction, COMMAND)
     passed["tag"] = CommandTag.UNCROSS
-    whole = numpy.concatenate([passed, commands])
-    found: Structs = engine.answers(len(named), reference, min(MOST_OPEN, orders), whole)[auction:]
-    return found
+    return numpy.concatenate([passed, commands])
+
+
+def _answers(auction: int, commands: Structs, named: Codes, reference: int, orders: int) -> Structs:
+    """The replies to commands at an auction, before which the others pass over an empty book."""
+    whole = _passing(auction, commands)
+    return engine.answers(len(named), reference, min(MOST_OPEN, orders), whole)[auction:]
 
 
 # ---- an uncross
@@ -367,9 +363,7 @@ def _answers(
 
 @dataclasses.dataclass(frozen=True)
 class Uncross:
-    """The commands that uncross a book: those that enter it, the uncross, and questions for each
-    trade that there may be.
-    """
+    """The commands that uncross a book: its entries, the uncross, and questions for trades."""
 
     commands: Structs
     named: Codes
@@ -409,9 +403,7 @@ class Uncross:
     def journal(self) -> bytes:
         """The journal of a day that has the book before its uncross."""
         count = len(self.commands) // 2
-        passed = numpy.zeros(self.auction, COMMAND)
-        passed["tag"] = CommandTag.UNCROSS
-        commands = numpy.concatenate([passed, self.commands[: count + 1]])
+        commands = _passing(self.auction, self.commands[: count + 1])
         return engine.journal_of(len(self.named), self.reference, count, commands)
 
 
@@ -444,9 +436,7 @@ def indicated(
 
 
 def _asked(sent: _Sent, begin: int, auction: int, reference: int) -> Structs:
-    """The replies to the commands at an auction, and to a question for the price after each one of
-    a row.
-    """
+    """The replies to the commands, and to a question for the price after each one of a row."""
     own = sent.commands[begin:]
     commands = numpy.zeros(begin + 2 * len(own), COMMAND)
     commands[:begin] = sent.commands[:begin]

@@ -17,10 +17,11 @@ import pandas
 from callauction.prices import number_of
 from callauction.verdict import clocks, fix, times
 from callauction.verdict.cells import (
-    Codes, Ints, MadeSource, Mask, Short, Source, by_kind, frame_source, text_source,
+    Codes, Ints, Mask, Short, Source, by_kind, frame_source, joined, text_source,
 )  # fmt: skip
 from callauction.verdict.columns import (
-    EVENT_COLUMNS, EVENTS, KINDS, NEEDED, ColumnError, kinds_of, plain, refuse_unknown, renamed,
+    EVENT_COLUMNS, EVENTS, KINDS, NEEDED, ColumnError, ExtractError, joins_of, kinds_of, plain,
+    refuse_unknown, renamed,
 )  # fmt: skip
 
 GZIP = b"\x1f\x8b"
@@ -30,11 +31,14 @@ NEW, UNCROSS = EVENTS.index("new"), EVENTS.index("uncross")
 """The event that enters an order, and the first one that isn't of an order."""
 NO_ROWS = "files with a header and no rows"
 LEFT_OUT = "trades, fills and results that don't meet --where"
+NO_TOTALS = "totals, which aren't read, in row {}"
 TOO_EARLY = "orders entered before the time of --where (what of them stands is in no book)"
 _BOOKS = (b"PK\3\4", b"\xd0\xcf\x11\xe0")
 """How an archive begins, as a workbook is one, and how an older workbook does."""
 _PACKED = {b"BZh": "bzip2", b"\xfd7zXZ\x00": "xz", b"\x28\xb5\x2f\xfd": "zstd", b"7z\xbc\xaf": "7z"}
 _PICTURES = (b"%PDF-", b"\x89PNG", b"\xff\xd8\xff", b"GIF8")
+_MARK = b"\xef\xbb\xbf"
+"""How a file of UTF-8 may begin."""
 _WIDE = (b"\xff\xfe", b"\xfe\xff")
 """How text of two bytes a sign begins."""
 _CONTROLS = bytes([*range(2, 9), *range(14, 26), 27, 127])
@@ -47,6 +51,9 @@ _MARKED = re.compile(
 """How JSON, XML and HTML begin."""
 _SIGNED = re.compile(rb"\A\"?sep=.\"?\r?\n")
 """A line for Excel, which says the separator."""
+_TOTALS = re.compile(r"(?:(?:grand|sub) ?)?totals?\b|sum(?:me)?\b|gesamt", re.IGNORECASE)
+"""How a line of totals begins."""
+_FIGURES = re.compile(r"[\d.,' %+-]*")
 _BLANKS = " \xa0\u2009\u202f"
 """What a program may write where a person sees a blank between thousands."""
 _CONDITION = re.compile(r"\s*(?P<name>.+?)\s*(?P<sign>==|!=|<=|>=|<|>)\s*(?P<value>.*?)\s*")
@@ -63,23 +70,17 @@ _COMPARED: dict[str, Callable[[Decimal, Decimal], bool]] = {
 }
 
 
-class ExtractError(ValueError):
-    """An extract can't be read as it is asked for; one line that says what to do."""
-
-
 class ConditionError(ValueError):
     """The words of a condition are wrong; one line."""
 
 
 @dataclasses.dataclass(frozen=True)
 class Reading:
-    """How an extract is read. Nothing of it is needed for one in the columns and words of
-    verdict.columns.
-    """
+    """How an extract is read: nothing of it is needed for one as verdict.columns has it."""
 
     columns: Mapping[str, str] = dataclasses.field(default_factory=dict)
     """By our name of a column the table's, such as `{"order": "OrderID"}`; for rows of one kind as
-    `{"trade.price": "LastPx"}`, where an empty name is no column.
+    `{"trade.price": "LastPx"}`, where an empty name is no column; `Date+Time` joins several.
     """
     values: Mapping[str, Mapping[str, str]] = dataclasses.field(default_factory=dict)
     """By our name of a column what its words mean, such as `{"side": {"B": "bid", "S": "ask"}}`."""
@@ -88,13 +89,9 @@ class Reading:
     thousands: str = ""
     encoding: str = "utf-8"
     where: Collection[str] = ()
-    """Conditions on the table's own columns, such as `status != REJECTED`; rows that meet all are
-    read.
-    """
+    """Conditions on the table's own columns, such as `status != REJECTED`: rows must meet all."""
     market: Collection[str] = ()
-    """Words or numbers in `price` that mean a market order; with any of them an empty price of an
-    order is a fault.
-    """
+    """Words or numbers in `price` of a market order; with any an empty price is a fault."""
     quantity: Literal["", "open", "total"] = ""
     """What the quantity of a replace is: open after it, or with what was executed before; empty is
     open, as long as the other reading doesn't make a day lawful.
@@ -106,12 +103,18 @@ class Reading:
     ignore: Collection[str] = ()
     """Columns that are passed over; `*` is each unknown one."""
     pair: str = ""
-    """The column that has one text in both rows of a trade, where each is of an order and its side.
-    """
+    """The column with one text in both rows of a trade, each of an order and its side."""
     results: Literal["rows", "trades"] = "rows"
     """Whether auctions without a row `uncross`, which trades name, have their trades' price."""
     format: Literal["csv", "fix"] = "csv"
     """What a file is: CSV, or a log of FIX messages (verdict.fix)."""
+
+    def said(self, value: object) -> object:
+        """What is said of a price beside a file, plain where it has the file's sign of decimals."""
+        if not isinstance(value, str) or self.decimal not in value:
+            return value
+        number = self.plain(value.removesuffix("%"))
+        return value if number_of(number) is None else number + "%" * value.endswith("%")
 
     def plain(self, text: str) -> str:
         """A number's text with the signs of this reading made plain."""
@@ -121,9 +124,7 @@ class Reading:
 
 
 class End(NamedTuple):
-    """The end of a file: the name of its last row, its time as it is there, and whether the row may
-    be cut, as the line has no end.
-    """
+    """The end of a file: its last row's name and time, and whether that row may be cut."""
 
     label: object
     time: str
@@ -146,6 +147,8 @@ class Table:
     end: "End | None" = None
     dates: str = ""
     """What dates with strokes are (times.STROKES), empty where that isn't known."""
+    totals: object = None
+    """The name of a file's last row, where that seems to have totals."""
     is_whole: bool = True
     """Whether numbers of sequences that it hasn't are missing, as they aren't of a book or log."""
 
@@ -188,13 +191,20 @@ def read_table(
     twice = next((name for name in columns if name and columns.count(name) > 1), None)
     if twice is not None:
         raise ColumnError(f"the table has the column {twice!r} twice")
+    joins = joins_of(reading.columns, columns)
+    found = joined(found, joins)
     keys = columns_of(by, columns)
     conditions = [_condition(text, columns) for text in reading.where]
     used = {condition.name for condition in conditions} | {*keys, *filter(None, [reading.pair])}
-    names = _names(found, reading, used)
+    parts = {part for those in joins.values() for part in those}
+    names = _names(found, reading, used | parts, parts)
     met = _meeting(found, conditions, reading)
     is_early = _early(found, conditions, names, reading, met)
     found, names = _with_kinds(found, names, reading)
+    if table.totals is not None and len(found) and table.totals == found.labels[-1]:
+        if _kinds(found.take(numpy.array([len(found) - 1])), names["event"], reading)[0] < 0:
+            table, keep = _without_totals(table, table.totals), numpy.arange(len(found) - 1)
+            found, met = found.take(keep), met[keep]
     dates: str = reading.dates
     if "time" in names and not dates:
         dates = clocks.dates_of(found.cells(names["time"]))
@@ -216,9 +226,7 @@ def read_table(
 
 
 def _refuse_several(source: Source, columns: Collection[str], has_tags: bool) -> None:
-    """Raises ExtractError where a column has the names of several instruments, and none says that
-    all rows are of one.
-    """
+    """Raises ExtractError where a column has several instruments, and none has one for all rows."""
     several = ""
     for name in filter(lambda it: _INSTRUMENT.fullmatch(plain(it)), columns):
         codes, texts = source.cells(name).texts()
@@ -245,8 +253,10 @@ def columns_of(by: str | None, columns: Collection[str]) -> tuple[str, ...]:
     return found
 
 
-def _names(source: Source, reading: Reading, used: set[str]) -> dict[str, str]:
-    """By our name of each column that is read the table's own. Raises ColumnError."""
+def _names(source: Source, reading: Reading, used: set[str], parts: set[str]) -> dict[str, str]:
+    """By our name of each column that is read the table's own. Raises ColumnError. `used` are
+    theirs that need no name of ours; one of `parts` isn't read where another is mapped to its name.
+    """
     mapped, kinds = renamed(source.names, reading.columns), kinds_of(reading.columns)
     used = used | {name for those in kinds.values() for name in those.values()}
     if reading.pair and reading.pair not in source.names:
@@ -257,10 +267,10 @@ def _names(source: Source, reading: Reading, used: set[str]) -> dict[str, str]:
     found: dict[str, str] = {}
     for theirs in source.names:
         ours = mapped.get(theirs, theirs)
+        if theirs in parts and theirs not in mapped and ours in mapped.values():
+            continue
         if ours in found:
-            raise ColumnError(
-                f"two columns of the table are {ours}: map one, or ignore the other"
-            )
+            raise ColumnError(f"two columns of the table are {ours}: map one, or ignore the other")
         if ours in EVENT_COLUMNS:
             found[ours] = theirs
     missing = [name for name in NEEDED if name not in found and name not in kinds]
@@ -287,13 +297,11 @@ def _with_kinds(
         made[name] = by_kind(source, kind, numbers, other)
         all_names[ours] = name
     columns = (*source.names, *made)
-    return MadeSource(columns, source.labels, base=source, made=made), all_names
+    return Source(columns, source.labels, made, source), all_names
 
 
 def _kinds(source: Source, theirs: str, reading: Reading) -> Codes:
-    """The place in EVENTS of each row's event, below 0 for another one; `theirs` is the name of
-    its column.
-    """
+    """Each row's place in EVENTS, below 0 for another event; `theirs` is its column's name."""
     codes, texts = source.cells(theirs).texts()
     words = reading.values.get("event", {})
     found = [KINDS.get(words.get(text, text).casefold(), -len(EVENTS)) for text in texts]
@@ -301,9 +309,7 @@ def _kinds(source: Source, theirs: str, reading: Reading) -> Codes:
 
 
 def _is_blank(source: Source, name: str) -> bool:
-    """Whether a column has neither a name nor a cell, as behind a separator at the end of lines, or
-    has only the numbers of rows, as an index that pandas wrote.
-    """
+    """Whether a column has no name and no cells, or numbers of rows alone, as pandas writes."""
     if name:
         return False
     texts = source.cells(name).texts()[1]
@@ -326,10 +332,7 @@ def file_of(source: str | os.PathLike[str] | BinaryIO, reading: Reading) -> Tabl
     if not content.strip():
         raise ExtractError("the file is empty: it needs a header with the names of its columns")
     if reading.format == "fix":
-        try:
-            log = fix.table_of(content.decode(), reading.separator)
-        except fix.MessageLogError as fault:
-            raise ExtractError(str(fault)) from None
+        log = fix.table_of(content.decode(), reading.separator)
         end = None if log.is_ended else _end(log.source, False)
         return Table(log.source, log.short, notes=log.notes, end=end, is_whole=False)
     if content.count(b"\x00") > len(content) // 3:
@@ -350,7 +353,32 @@ def file_of(source: str | os.PathLike[str] | BinaryIO, reading: Reading) -> Tabl
     _look_at_header(found.names, reading.separator)
     notes = {} if len(found) or short else {NO_ROWS: 1}
     end = _end(found, not content.endswith((b"\n", b"\r")))
-    return Table(found, short, notes=notes, end=end)
+    last = max([*found.labels[-1:].tolist(), *(line for line, _ in short[-1:])], default=None)
+    totals = last if _has_totals(content, reading.separator, found) else None
+    table = Table(found, short, notes=notes, end=end, totals=totals)
+    if totals is None or (len(found) and totals == found.labels[-1]):
+        return table
+    return dataclasses.replace(_without_totals(table, totals), short=short[:-1])
+
+
+def _has_totals(content: bytes, separator: str, found: Source) -> bool:
+    """Whether a file's last line has a word for totals, as no other row there, and figures."""
+    line = content[-_HEAD:].rstrip().rpartition(b"\n")[2].decode(errors="replace")
+    fields = [it.strip() for it in next(csv.reader([line], delimiter=separator))]
+    place = next((at for at, field in enumerate(fields) if field), len(fields))
+    figures = all(map(_FIGURES.fullmatch, fields[place + 1 :]))
+    is_within = place < min(len(fields), len(found.names))
+    if not is_within or not figures or not _TOTALS.match(fields[place]):
+        return False
+    codes, texts = found.cells(found.names[place]).texts()
+    many = (codes == texts.index(fields[place])).sum() if fields[place] in texts else 0
+    return bool(many < 2)
+
+
+def _without_totals(table: Table, label: object) -> Table:
+    """The table, whose last row has totals, so that the file isn't cut."""
+    notes = {**table.notes, NO_TOTALS.format(label): 1}
+    return dataclasses.replace(table, notes=notes, end=None, totals=None)
 
 
 def _end(source: Source, is_cut: bool) -> End | None:
@@ -370,7 +398,7 @@ def _plain(content: bytes, encoding: str) -> bytes:
             plain = plain.decode(encoding).encode()
         elif not plain.isascii():
             plain.decode()
-        return plain.removeprefix(b"\xef\xbb\xbf")
+        return plain.removeprefix(_MARK).replace(b"\n" + _MARK, b"\n")
     except LookupError:
         raise ExtractError(f"there is no encoding {encoding!r}") from None
     except UnicodeDecodeError as fault:
@@ -466,9 +494,7 @@ def _early(
     source: Source, conditions: list[_Condition], names: Mapping[str, str], reading: Reading,
     met: Mask,
 ) -> Mask:  # fmt: skip
-    """Which of the rows that don't meet all conditions fail those alone that leave out what is
-    before a time.
-    """
+    """Of the rows that fail conditions, which fail those alone that ask for a later time."""
     time = names.get("time")
     others = [it for it in conditions if it.name != time or it.sign not in (">", ">=")]
     if len(others) == len(conditions):

@@ -1,30 +1,29 @@
-"""Other readings of a whole day: simple ones by which what was published may be lawful."""
+"""Other readings of a whole day by which it may be lawful, and what stands in each."""
 import dataclasses
 import functools
 import itertools
-from collections.abc import Callable, Iterator, Mapping
+from collections.abc import Callable, Iterator, Mapping, Sequence
 
 import numpy
 import pandas
 
 from callauction.course import Watch
 from callauction.verdict import clocks
+from callauction.verdict.again import amended, copies, second_trades
 from callauction.verdict.cells import Codes, Ints
-from callauction.verdict.comparing import doubted
+from callauction.verdict.comparing import Difference, Fill, Trade, doubted
 from callauction.verdict.judged import Judged, Judgement, Rules
 from callauction.verdict.judging import SUMS, Judge, Mark, marked
-from callauction.verdict.lots import in_shares, lot_of
-from callauction.verdict.mixed import corrected, doubled, has_more, refuse_markets, refuse_parts
+from callauction.verdict.mixed import (
+    corrected, doubled, has_more, namings, refuse_markets, refuse_parts, with_names,
+)  # fmt: skip
+from callauction.verdict.names import OTHER_IDS, have_other_ids, renamed, respelled
+from callauction.verdict.phases import recorded_sums
 from callauction.verdict.reading import End
-from callauction.verdict.renamed import renamed
-from callauction.verdict.repeated import amended, copies, second_trades
 from callauction.verdict.rows import (
     BAD, FILL, INTERRUPTED, MARKET, NEW, OF_ORDERS, REPLACE, TRADE, UNCROSS, Doubt, Rows,
 )  # fmt: skip
-from callauction.verdict.spelling import OTHER_IDS, have_other_ids, respelled
-from callauction.verdict.standing import Change, Day, standing
-from callauction.verdict.units import in_one_unit, why_two_units
-from callauction.verdict.unnamed import namings, with_names
+from callauction.verdict.units import in_one_unit, in_shares, lot_of, why_two_units
 
 TWICE = "each trade has two rows: is there one for each side?"
 UNCHANGED = "replaces have no price: is it unchanged? --market says the word for market orders"
@@ -34,6 +33,10 @@ CORRECTED = "an auction has two results: the later one may correct the other"
 UNNAMED = "a result may be missing or correct another, and none says which auction it is of"
 MOST_READINGS = 64
 """How many readings are tried."""
+LATE = "trades without a time or an auction may be of any"
+Day = tuple[Rows, Rules]
+Change = tuple[Callable[[Day], Day], str]
+"""What is read otherwise, and why."""
 
 
 def judged_day(rows: Rows, rules: Rules, whole: Rows, watch: Watch = iter) -> Judgement:
@@ -48,7 +51,8 @@ def judged_day(rows: Rows, rules: Rules, whole: Rows, watch: Watch = iter) -> Ju
     if falls and not any(each.differences for each in found.uncrosses):
         other = Judge(_by_time(rows), rules).judge()
         if other.unlawful:
-            return dataclasses.replace(_doubted(found, other, falls), doubt=falls)
+            shown = {place: doubted(it, falls) for place, it in _by_place(other).items()}
+            return dataclasses.replace(_with_differences(found, shown), doubt=falls)
     if not found.unlawful:
         return found
     refuse_parts(rows, rules.due)
@@ -66,8 +70,8 @@ def judged_day(rows: Rows, rules: Rules, whole: Rows, watch: Watch = iter) -> Ju
 
 
 def _without(found: Judgement, first: Judgement, day: Day, those: list[Change]) -> Judgement:
-    """The judgement with what the day in these other readings hasn't in doubt, where they bring no
-    certain difference that the first judgement hasn't.
+    """The judgement with what other readings haven't in doubt, where they bring nothing certain
+    that the first judgement hasn't.
     """
     if not found.unlawful:
         return found
@@ -90,24 +94,22 @@ def _without(found: Judgement, first: Judgement, day: Day, those: list[Change]) 
 
 def _cleared(found: Judgement, left: dict[int, set[Mark]], why: str) -> Judgement:
     """The judgement with what isn't left of an uncross at a place in doubt."""
-
-    def cleared(each: Judged) -> Judged:
-        own = left.get(each.place, set())
-        those = tuple(
-            it if marked(it) in own else doubted([it], why)[0] for it in each.differences
-        )
-        return dataclasses.replace(each, differences=those)
-
-    return dataclasses.replace(found, uncrosses=tuple(map(cleared, found.uncrosses)))
+    those = {
+        place: [it if marked(it) in left.get(place, ()) else doubted([it], why)[0] for it in own]
+        for place, own in _by_place(found).items()
+    }
+    return _with_differences(found, those)
 
 
-def _doubted(found: Judgement, other: Judgement, why: str) -> Judgement:
-    """The judgement with the differences of another one, in doubt."""
-    by_place = {each.place: doubted(each.differences, why) for each in other.uncrosses}
-    uncrosses = tuple(
-        dataclasses.replace(each, differences=by_place.get(each.place, ()))
-        for each in found.uncrosses
-    )
+def _by_place(found: Judgement) -> dict[int, Sequence[Difference]]:
+    """By the places of uncrosses their differences."""
+    return {each.place: each.differences for each in found.uncrosses}
+
+
+def _with_differences(found: Judgement, those: Mapping[int, Sequence[Difference]]) -> Judgement:
+    """The judgement with these differences of its uncrosses by their places, none else."""
+    both = ((each, (*those.get(each.place, ()),)) for each in found.uncrosses)
+    uncrosses = tuple(dataclasses.replace(each, differences=own) for each, own in both)
     return dataclasses.replace(found, uncrosses=uncrosses)
 
 
@@ -183,7 +185,7 @@ def _may_correct(found: Judgement, rows: Rows, rules: Rules) -> bool:
     does where the range interrupts the first, as then a later one is that of its extension.
     """
     groups = doubled(rows, rules.due).values()
-    by_place = {each.place: each.differences for each in found.uncrosses}
+    by_place = _by_place(found)
     firsts = [it for own in groups for it in by_place.get(int(own[0]), ()) if not it.doubt]
     is_stop = any(it.item == "auction" and it.lawful == INTERRUPTED for it in firsts)
     others = [by_place.get(place, ()) for own in groups for place in own[:-1].tolist()]
@@ -201,9 +203,7 @@ def _orders_of_ties(judge: Judge) -> list[Change]:
 
 
 def _over_uncrosses(judge: Judge, found: Judgement) -> Iterator[list[Change]]:
-    """The other moments of each uncross among the rows of its time, where what differs may be by
-    these.
-    """
+    """The other moments of each uncross in its time, where what differs may be by them."""
     certain = [it for each in found.uncrosses for it in each.certain]
     named = all(it.keys for it in certain)
     keys = {key for it in certain for key in it.keys} if named else set[int]()
@@ -234,9 +234,7 @@ def _respelled(other: Rows, rows: Rows) -> Rows:
 
 
 def _priced(price: Codes, rows: Rows) -> Rows:
-    """The rows with these prices, and without a replace that is the same as the one above it of its
-    order and time then.
-    """
+    """The rows with these prices, without replaces that repeat one of their order and time then."""
     price = numpy.where((rows.kind == NEW) | (rows.kind == REPLACE), price, rows.price)
     these = rows.of(REPLACE)
     frame = pandas.DataFrame({
@@ -249,9 +247,7 @@ def _priced(price: Codes, rows: Rows) -> Rows:
 
 
 def _cut_off(end: End, rows: Rows) -> Rows:
-    """The rows without what the last row of a file says, which ends above it then; of a result this
-    is all but that there is one.
-    """
+    """The rows without what the last row of a file says, but for that there is a result."""
     rows = dataclasses.replace(rows, kind=rows.kind.copy(), bad=[*rows.bad])
     rows.end = End(end.label, "", False)
     for place in numpy.flatnonzero((rows.labels == end.label) & (rows.kind >= NEW)).tolist():
@@ -265,8 +261,8 @@ def _cut_off(end: End, rows: Rows) -> Rows:
 
 
 def _filled_prices(rows: Rows) -> Codes | None:
-    """The prices with those of replaces without one as they were before; None where none is, or a
-    replace says a price that is unchanged.
+    """The prices with those of replaces without one as before; None where none lacks one, or one
+    says an unchanged price, or empty ones are refused.
     """
     these = rows.of(NEW, REPLACE)
     order = these[numpy.lexsort((these, rows.key[these].astype("i8")))]
@@ -318,8 +314,8 @@ def _by_time(rows: Rows) -> Rows:
 
 
 def _all_times(rows: Rows) -> Ints:
-    """The places of all rows in the order of their times, of the day where only some have a date;
-    one without a time stays below the one above it.
+    """The places of all rows by time, of the day where only some have a date; one without a time
+    stays below the one above it.
     """
     is_timed = rows.time != clocks.NONE
     is_dated = rows.time[is_timed] >= clocks.DAY
@@ -331,9 +327,7 @@ def _all_times(rows: Rows) -> Ints:
 
 
 def _across(rows: Rows) -> str:
-    """That a row of an order is on another side of an uncross than by its time, and which is the
-    first; empty where none is.
-    """
+    """That by its time a row of an order is on another side of an uncross; empty where none is."""
     orders, ends, place = rows.of(*OF_ORDERS), rows.of(UNCROSS), numpy.argsort(_all_times(rows))
     phases = (numpy.searchsorted(it[ends], it[orders]) for it in (numpy.arange(len(place)), place))
     own, due = (numpy.asarray(each) for each in phases)
@@ -344,3 +338,99 @@ def _across(rows: Rows) -> str:
     end = rows.labels[ends[min(own[first], due[first])]]
     side = "below" if own[first] < due[first] else "above"
     return f"by its time row {rows.labels[orders[first]]} is {side} row {end}"
+
+
+# ---- what stands in two readings
+
+
+def standing(first: Judgement, day: Day, changes: Sequence[Change]) -> Judgement:
+    """The judgement of the day in one of these readings, which leave each row in its place, with
+    what the first judgement shows too; all else of both is in doubt. The first one where no reading
+    has fewer certain differences. Raises ProgramError.
+    """
+    late, best = _placed(day[0], first), first
+    those: list[Change] = [*changes]
+    if late is not None:
+        placed: Rows = late
+        those.append(_rows(lambda _: placed, LATE))
+    for change, why in those:
+        rows, rules = change(day)
+        if rows.labels is day[0].labels and _certain(best) > 1:
+            found = _merged(first, Judge(rows, rules).judge(), day[0], why)
+            if 0 < _certain(found) < _certain(best):
+                best = found
+    return best
+
+
+def _certain(judgement: Judgement) -> int:
+    """How many differences are certain."""
+    return sum(len(each.certain) for each in judgement.uncrosses)
+
+
+def _merged(first: Judgement, other: Judgement, rows: Rows, why: str) -> Judgement:
+    """The other judgement with what stands in the first; without uncrosses where theirs differ."""
+    if [it.place for it in first.uncrosses] != [it.place for it in other.uncrosses]:
+        return dataclasses.replace(other, uncrosses=())
+    both = zip(first.uncrosses, other.uncrosses)
+    found = tuple(_both(one, each, rows, why) for one, each in both)
+    return dataclasses.replace(first, uncrosses=found)
+
+
+def _both(one: Judged, other: Judged, rows: Rows, why: str) -> Judged:
+    """An uncross in another reading, whose differences are certain where the first one has them, or
+    has the same orders' shares too many or too few; with those of the first in doubt.
+    """
+    signs, own = _signs(one, rows), {marked(it) for it in one.certain}
+    same = {key for key, sign in _signs(other, rows).items() if signs.get(key) == sign}
+    kept = [
+        it if marked(it) in own or _is_made(it) and same & {*it.keys} else doubted([it], why)[0]
+        for it in other.differences
+    ]
+    shown = {marked(it) for it in kept}
+    rest = [it for it in doubted(one.differences, why) if marked(it) not in shown]
+    return dataclasses.replace(other, differences=(*kept, *rest))
+
+
+def _is_made(each: Difference) -> bool:
+    """Whether a difference is of a trade or a fill, and not of which auction it is."""
+    values = (each.recorded, each.lawful)
+    return all(it is None or isinstance(it, Trade | Fill) for it in values)
+
+
+def _signs(judged: Judged, rows: Rows) -> dict[int, int]:
+    """By key whether more (1) or fewer (-1) shares of an order than lawful were recorded."""
+    if judged.result is None:
+        return {}
+    made, due = recorded_sums(rows, judged.traded, judged.filled).by_key(), judged.result.fills
+    gaps = {key: made.get(key, 0) - shares for key, shares in due.by_key().items()}
+    gaps |= {key: shares for key, shares in made.items() if key not in gaps}
+    return {key: 1 if gap > 0 else -1 for key, gap in gaps.items() if gap}
+
+
+# ---- trades that say nothing of their auction
+
+
+def _placed(rows: Rows, found: Judgement) -> Rows | None:
+    """The rows with trades of no time and no name in the nearest auction, below their orders; None
+    without any, or with one auction.
+    """
+    ended = [it for it in found.uncrosses if it.is_ended and it.result is not None]
+    is_late = (rows.kind == TRADE) & (rows.time == clocks.NONE) & (rows.state <= 0)
+    if len(ended) < 2 or not is_late.any():
+        return None
+    state, entered = rows.state.copy(), rows.entered(len(rows.names.ids) + 1)
+    for place in numpy.flatnonzero(is_late).tolist():
+        last = max(0, *(int(entered[it[place]]) for it in (rows.bid, rows.ask)))
+        far = [(last > it.place, *_distance(rows, place, it)) for it in ended]
+        state[place] = 1 + ended[far.index(min(far))].auction
+    return dataclasses.replace(rows, state=state)
+
+
+def _distance(rows: Rows, place: int, judged: Judged) -> tuple[bool, bool, bool]:
+    """How far a trade is from an auction: of another price, no lawful pair, no open orders."""
+    assert judged.result is not None
+    result, pair = judged.result, (int(rows.bid[place]), int(rows.ask[place]))
+    prices = (int(rows.price[judged.place]), result.price)
+    is_lawful = bool(((result.bid == pair[0]) & (result.ask == pair[1])).any())
+    is_open = bool(numpy.isin(pair, judged.book.key).all())
+    return int(rows.price[place]) not in prices, not is_lawful, not is_open

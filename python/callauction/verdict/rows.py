@@ -1,11 +1,9 @@
-"""The rows of an extract as arrays, in the order in which they are read; and those that can't be,
-each with what that leaves in doubt.
-"""
+"""The rows of an extract as arrays, and those that can't be read, with what they leave in doubt."""
 import dataclasses
 import datetime
 import enum
 from collections import Counter
-from collections.abc import Mapping
+from collections.abc import Callable, Mapping
 from decimal import Decimal
 from typing import Any
 
@@ -14,6 +12,7 @@ from numpy.typing import NDArray
 
 from callauction.verdict import times
 from callauction.verdict.cells import Array, Codes, Ints, Mask, Source
+from callauction.verdict.columns import EMPTY
 from callauction.verdict.reading import End
 from callauction.words import AUCTIONS
 
@@ -129,9 +128,14 @@ class Names:
     begin: int = 0
     base: int = 0
     places: Ints | None = None
-    """Where rows are in the table, where some are there twice."""
+    """Where rows are in the table, where some are there twice or in another order."""
     dates: str = ""
     """What dates with strokes are (times.STROKES)."""
+
+    def moved(self, places: Ints) -> "Names":
+        """The names of rows that are at other places."""
+        at = places if self.places is None else self.places[places]
+        return dataclasses.replace(self, places=at)
 
     def order(self, key: int) -> str:
         """The text of an id, which of a key is the first one of its order."""
@@ -145,6 +149,11 @@ class Names:
     def time(self, place: int) -> str:
         """The time of a row as it is there, empty for none."""
         return self.cell(place, "time")
+
+    def legible_time(self, place: int) -> str:
+        """The time of a row as a person reads it, empty for none."""
+        text = self.time(place)
+        return "" if text.casefold() in EMPTY else times.legible(text)
 
     def date(self, place: int) -> datetime.date | None:
         """The date of a row's time; None where it has none."""
@@ -241,8 +250,7 @@ class Rows:
 
     def of(self, *kinds: int) -> Ints:
         """The places of the rows of these kinds."""
-        found: Ints = numpy.flatnonzero(numpy.isin(self.kind, kinds)).astype("i8")
-        return found
+        return numpy.flatnonzero(numpy.isin(self.kind, kinds)).astype("i8")
 
     def refuse(self, place: int, why: str, doubt: Doubt, since: int | None = None) -> None:
         """Notes a row as a bad one, which is nothing from then on."""
@@ -250,6 +258,12 @@ class Rows:
         kind = int(self.kind[place])
         self.bad.append(BadRow(int(place), self.labels[place], why, doubt, begin, kind))
         self.kind[place] = BAD
+
+    def entered(self, many: int) -> Ints:
+        """By its key the first row that enters an order, MISSING where none does."""
+        found, news = numpy.full(many, MISSING, "i8"), self.of(NEW)[::-1]
+        found[self.key[news]] = news
+        return found
 
     def with_said(self, place: int, other: int | None) -> "Rows":
         """The rows, of which one says what another result says, or none."""
@@ -271,14 +285,15 @@ class Rows:
     def ordered(self, order: Ints) -> "Rows":
         """The rows in another order, with the bad ones."""
         place = numpy.append(numpy.argsort(order), -1)
-        bad = [
-            dataclasses.replace(it, place=int(place[it.place]), since=int(place[it.since]))
-            for it in self.bad
-        ]
-        at = order if self.names.places is None else self.names.places[order]
-        names = dataclasses.replace(self.names, places=at)
-        holes = [dataclasses.replace(it, since=int(place[it.since])) for it in self.holes]
-        return dataclasses.replace(self.moved(order), bad=bad, holes=holes, names=names)
+        return self.placed(order, lambda at: int(place[at]))
+
+    def placed(self, places: Ints, where: Callable[[int], int]) -> "Rows":
+        """The rows of these places, and the bad ones and holes where `where` has theirs."""
+        bad = [dataclasses.replace(it, place=where(it.place), since=where(it.since))
+               for it in self.bad]  # fmt: skip
+        holes = [dataclasses.replace(it, since=where(it.since)) for it in self.holes]
+        names = self.names.moved(places)
+        return dataclasses.replace(self.moved(places), bad=bad, holes=holes, names=names)
 
     def take(self, begin: int, end: int) -> "Rows":
         """The rows of one instrument, with keys of its own."""
@@ -293,6 +308,8 @@ class Rows:
             for it in self.bad
             if begin <= it.place < end
         ]
-        names = dataclasses.replace(self.names, begin=begin, base=base)
+        at = self.names.places
+        places = None if at is None else at[begin:end] - begin
+        names = dataclasses.replace(self.names, begin=begin, base=base, places=places)
         notes = Counter(self.notes)
         return dataclasses.replace(self, **parts, bad=bad, holes=[], names=names, notes=notes)

@@ -2,7 +2,7 @@
 import dataclasses
 import pathlib
 import tomllib
-from collections.abc import Mapping
+from collections.abc import Iterable, Mapping
 from typing import Any
 
 from callauction.verdict.reading import Reading
@@ -52,20 +52,15 @@ def reading_of(name: str) -> Reading:
     return Reading(**{key: _plain(value) for key, value in given.items()})
 
 
-def _fault(key: str, value: object) -> str:
+def _fault(key: str, value: Any) -> str:
     """What the value of a key must be, empty where it is that."""
     if key in _TABLES:
-        texts: list[object] = [value]
-        if isinstance(value, Mapping):
-            texts = [*value.values()]
-        if key == "values":
-            of_tables = [it.values() if isinstance(it, Mapping) else [None] for it in texts]
-            texts = [it for those in of_tables for it in those]
-        is_good = isinstance(value, Mapping) and all(isinstance(it, str) for it in texts)
+        is_nested = key == "values" and isinstance(value, Mapping)
+        tables = [*value.values()] if is_nested else [value]
+        is_good = all(isinstance(it, Mapping) and _are_texts(it.values()) for it in tables)
         return "" if is_good else "a table of texts"
     if key in _LISTS:
-        is_good = isinstance(value, list) and all(isinstance(it, str) for it in value)
-        return "" if is_good else "a list of texts"
+        return "" if isinstance(value, list) and _are_texts(value) else "a list of texts"
     if key == "sort":
         return "" if isinstance(value, bool) else "true or false"
     if key in _CHOICES:
@@ -73,14 +68,16 @@ def _fault(key: str, value: object) -> str:
     return "" if isinstance(value, str) else "a text"
 
 
+def _are_texts(values: Iterable[object]) -> bool:
+    return all(isinstance(it, str) for it in values)
+
+
 def _plain(value: Any) -> Any:
     return tuple(value) if isinstance(value, list) else value
 
 
 def joined(shape: Reading, own: Mapping[str, Any]) -> Reading:
-    """A shape with what is said beside it: tables and lists grow, anything else is replaced where
-    it is said at all (isn't None).
-    """
+    """A shape with what is said beside it: tables and lists grow, what isn't None replaces."""
     said: dict[str, Any] = {}
     for name, value in own.items():
         before = getattr(shape, name)

@@ -1,6 +1,4 @@
-"""Trades and fills that name no auction, by the results and the rows of orders around them: which
-are within a call phase, and which may be of an auction whose result has no row.
-"""
+"""Trades and fills that name no auction: in a call phase, or of one whose result has no row."""
 import itertools
 from collections.abc import Iterator, Sequence
 
@@ -31,8 +29,8 @@ class Strays:
         return self.rows.time[these] if self.is_timed else these.astype("i8")
 
     def _around(self, ends: Ints) -> tuple[Ints, Ints, Ints, Mask, Mask]:
-        """How many of these results are before each, the last of them and the next one, and whether
-        a row of an order is between it and each of both.
+        """By trade how many results are before it, the last of these and the next, and whether
+        orders are between it and either: times or places, as _by has them.
         """
         stops, spots, at = numpy.sort(self._by(ends)), self.spots, self.at
         count = numpy.searchsorted(stops, at, "right")
@@ -49,13 +47,10 @@ class Strays:
             above, below, is_own = self._beside()
             began |= above & (self.at > before)
             goes_on |= (below | is_own) & (self.at < after)
-        found: Ints = self.made[began & goes_on & (count < len(self.uncrosses))]
-        return found
+        return self.made[began & goes_on & (count < len(self.uncrosses))]
 
     def _beside(self) -> tuple[Mask, Mask, Mask]:
-        """Whether the row of an order above each, and that below it, has its time, and whether that
-        above is of an order of it, above the next uncross.
-        """
+        """Whether the orders' rows above and below have its time, and that above its order."""
         rows, orders, made, time = self.rows, self.orders, self.made, self.rows.time
         place = numpy.searchsorted(orders, made)
         above, below = orders[numpy.maximum(place - 1, 0)], orders[place % len(orders)]

@@ -1,5 +1,4 @@
-"""Rows of one time, of which nothing says which was first: which other orders of them there are.
-"""
+"""Rows of one time, of which nothing says which was first: which other orders there are."""
 import itertools
 import math
 from collections.abc import Iterator
@@ -22,8 +21,7 @@ class Ties:
         self.rows, self.orders = rows, orders
 
     def cuts(self, place: int, these: Ints) -> Iterator[tuple[Ints, str]]:
-        """The rows of a call phase, cut at another row of the uncross's time, and why they may be.
-        """
+        """A call phase's rows, cut at another row of the uncross's time, and why they may be."""
         end = int(numpy.searchsorted(self.orders, place))
         above, below = self._tied(place)
         begin = end - len(these)
@@ -33,9 +31,7 @@ class Ties:
                 yield self.orders[begin:cut], self._one_time(int(first), place)
 
     def _tied(self, place: int) -> tuple[int, int]:
-        """How many rows of orders next above and below an uncross have its time, where it isn't
-        known on which side of it they are.
-        """
+        """How many rows of orders next above and below an uncross may be of either side of it."""
         if self.rows.is_cut:
             return 0, 0
         end, same = int(numpy.searchsorted(self.orders, place)), self._same(place)
@@ -50,9 +46,7 @@ class Ties:
         return same
 
     def untried(self, place: int) -> str:
-        """Why an uncross is in doubt whose time is coarser than those of orders: more of these may
-        be of it than are tried.
-        """
+        """Why an uncross of a coarser time is in doubt: more rows may be of it than are tried."""
         end, tied = int(numpy.searchsorted(self.orders, place)), self._tied(place)
         if not self.rows.slack or MOST_CUTS not in tied:
             return ""
@@ -97,18 +91,14 @@ class Ties:
         return [*sets.values()]
 
     def carried(self, book: Book, above: Ints) -> str:
-        """Why the book that a phase before left is in doubt: such replaces of an order in it, where
-        the day has too many to try.
-        """
+        """Why the book before a phase is in doubt: ties of its orders that are too many to try."""
         if self.orders_of_ties(self.orders)[1] is not None:
             return ""
         sets = [those for those in self._sets(above) if (book.key == self.rows.key[those[0]]).any()]
         return self._one_time(*sets[0][:2]) if sets else ""
 
     def orders_of_ties(self, these: Ints) -> tuple[str, list[Ints] | None]:
-        """Why an order's replaces at one time may be in another order, and the rows in each
-        other one; None where these are too many to try.
-        """
+        """Why replaces of one time may be in other orders, and these; None for too many."""
         sets = self._sets(these)
         if not sets:
             return "", []
@@ -149,9 +139,7 @@ class Ties:
         return next(filter(None, reasons), "")
 
     def _shared(self, book: Book, those: Mask, shares: Ints, result: Result) -> str | None:
-        """Whether the shares of a side's orders are lawful in another order of rows of one time,
-        and which these are; None where they aren't.
-        """
+        """Why a side's shares are lawful in another order of one time; None where they aren't."""
         rows = self.rows
         these = book.ranked(those)
         group, level = rows.group[book.since[these]], book.price[these]

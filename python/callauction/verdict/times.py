@@ -24,6 +24,8 @@ _EPOCHS = ((10**17, 10**9), (10**14, 10**6), (10**11, 10**3))
 """From which number on one is of nanoseconds, of microseconds and of milliseconds."""
 _EPOCH = 10**8
 """From which number on one counts from an epoch."""
+_LAST = 253_402_300_800
+"""The first second that is of no year of four digits."""
 _NUMBER = re.compile(r"\d{1,30}(?:[.,]\d{1,30})?", re.ASCII)
 _DATES = {"-": "%Y-%m-%d", ".": "%d.%m.%Y", "": "%Y%m%d", "/": "%Y/%m/%d"}
 STROKES = {"dmy": "%d/%m/%Y", "mdy": "%m/%d/%Y"}
@@ -40,6 +42,17 @@ def shown(value: object) -> str:
     if isinstance(value, datetime.datetime | datetime.time):
         return value.isoformat()
     return str(value).strip()
+
+
+def legible(text: str) -> str:
+    """A time as a person reads it: that of an epoch's number in place of that, in UTC."""
+    number = _number(text)
+    if number is None or not _EPOCH <= number[0] < _LAST * number[1]:
+        return text
+    digits = len(str(number[1])) - 1 - int(number[0].as_tuple().exponent)
+    whole, part = divmod(number[0] / number[1], 1)
+    moment = datetime.datetime(1970, 1, 1) + datetime.timedelta(seconds=int(whole))
+    return f"{moment}{f'{part:.{digits}f}'[1:]}Z"
 
 
 def _found(text: str) -> "re.Match[str] | None":
@@ -110,8 +123,8 @@ def is_stroked(date: str) -> bool:
 
 
 def strokes_of(dates: Iterable[str]) -> str:
-    """Which of STROKES dates are, where some have strokes: the one by which all are some, either
-    where all are one; empty where none is, or both are.
+    """Which of STROKES all dates with strokes are; either where all dates are one; empty where none
+    is, or both are.
     """
     known = {*dates}
     stroked = [*filter(is_stroked, known)]
@@ -126,8 +139,8 @@ def date_of(text: str, dates: str = "") -> datetime.date | None:
 
 
 def days(date: str | None, dates: str = "") -> int | None:
-    """The number of a date, 0 for none given; None where there is no such date, or it isn't known
-    what its first number is.
+    """The number of a date, 0 for none given; None for no date, or where its first number may be
+    the day or the month.
     """
     if date is None:
         return 0

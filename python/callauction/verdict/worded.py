@@ -9,13 +9,15 @@ import numpy
 from callauction.prices import BadCellError, number_of, whole_of
 from callauction.verdict import times
 from callauction.verdict.cells import Cells, Codes, Ints, Mask, Source, paired_codes
-from callauction.verdict.reading import ExtractError, Reading
+from callauction.verdict.columns import EMPTY, ExtractError
+from callauction.verdict.reading import Reading
 from callauction.verdict.rows import BAD, MARKET, MISSING, NO_PRICE, Bytes
 
 _NO_PRICE = ("none", "no price")
-EMPTY = ("null", "n/a", "#n/a", "nan", "-", "--")
-"""Words for an empty cell, in small letters, in columns of orders that may be empty."""
-_MAY_BE_EMPTY = ("member", "peak", "restriction", "kept")
+_WORDED = ("event", "price", "bid_member", "ask_member")
+"""Columns whose words for an empty cell mean something else in some rows."""
+_NONE = (*b"-#nN",)
+"""How such a word begins."""
 _COUNTED = re.compile(r"(\D*)(\d{1,18})", re.ASCII)
 _OF_TIMES = ":"
 """What sequences that are times count by."""
@@ -30,10 +32,24 @@ class Columns:
 
     def __init__(self, source: Source, names: Mapping[str, str], reading: Reading) -> None:
         self.source, self.names, self.reading = source, names, reading
+        self._cells: dict[str, Cells] = {}
 
     def cells(self, name: str) -> Cells:
-        """The cells of a column that the table has."""
-        return self.source.cells(self.names[name])
+        """The cells of a column that the table has, empty where they have a word for that."""
+        if name not in self._cells:
+            own = self.source.cells(self.names[name])
+            self._cells[name] = own if name in _WORDED else self._without_words(name, own)
+        return self._cells[name]
+
+    def _without_words(self, name: str, cells: Cells) -> Cells:
+        """The cells without words for an empty one, but for those that mean something else."""
+        may_be = (cells.length > 0) & (cells.length <= max(map(len, EMPTY)))
+        these = numpy.flatnonzero(may_be & numpy.isin(cells.buffer[cells.start], _NONE))
+        codes, texts = cells.take(these).texts()
+        length, others = cells.length.copy(), self.reading.values.get(name, {})
+        are = [text.casefold() in EMPTY and text not in others for text in texts]
+        length[these[numpy.array([*are, False])[codes]]] = 0
+        return Cells(cells.buffer, cells.start, length)
 
     def texts(self, name: str) -> tuple[Codes, list[str]]:
         """A number for each text of a column in our words, MISSING for none, and the texts."""
@@ -41,14 +57,7 @@ class Columns:
             return numpy.full(len(self.source), MISSING, "i4"), []
         codes, texts = self.cells(name).texts()
         words = self.reading.values.get(name, {})
-        texts = [words.get(text, text) for text in texts] if words else texts
-        if name in _MAY_BE_EMPTY:
-            codes = numpy.where(_of_words(codes, texts), numpy.int32(MISSING), codes)
-        return codes, texts
-
-    def is_empty(self, name: str) -> Mask:
-        """Which rows have a word for an empty cell."""
-        return _of_words(*self.texts(name))
+        return codes, [words.get(text, text) for text in texts] if words else texts
 
     def words(self, name: str, known: Mapping[str, int]) -> Bytes:
         """What is known of each word of a column, MISSING for none, BAD for another word."""
@@ -96,7 +105,7 @@ class Columns:
     def _is_market(self, text: str, value: Decimal | None) -> bool:
         words = [word.casefold() for word in self.reading.market]
         return text.casefold() in words or (
-            value is not None and any(value == number_of(word) for word in words)
+            value is not None and any(value == number_of(self.reading.said(it)) for it in words)
         )
 
     def sequence(self) -> Ints | None:
@@ -124,8 +133,8 @@ class Columns:
 
     @functools.cached_property
     def _whole_sequences(self) -> Ints | None:
-        """The number of each row's sequence, MISSING for none; None where they aren't whole numbers
-        alone, which are read without a text of each.
+        """The whole number of each row's sequence, MISSING for none; None where some are others:
+        these alone need a text of each.
         """
         has_words = bool(self.reading.values.get("sequence"))
         return None if has_words else self.cells("sequence").numbers()
@@ -137,7 +146,7 @@ class Columns:
         return codes, [self._counted(text) for text in texts]
 
     def row_numbers(self) -> Ints:
-        """The whole number of each row's sequence, MISSING for none; for all where some count in
+        """Each row's whole number in a sequence, MISSING for none; for all where some count in
         another way, as times do.
         """
         none = numpy.full(len(self.source), MISSING, "i8")
@@ -150,8 +159,7 @@ class Columns:
         if len(ways) != 1 or ways & {None, _OF_TIMES}:
             return none
         found = [int(it[1]) if it and it[1] == int(it[1]) else MISSING for it in keys]
-        numbers: Ints = numpy.array([*found, MISSING], "i8")[codes]
-        return numbers
+        return numpy.array([*found, MISSING], "i8")[codes]
 
     def _counted(self, text: str) -> tuple[str, Decimal] | None:
         """What is before a number, and the number; None where the text is no such. A decimal is
@@ -175,8 +183,3 @@ class Columns:
         for name in source.names:
             found = paired_codes(found, source.cells(name).codes()[0] + 1)
         return found
-
-
-def _of_words(codes: Codes, texts: list[str]) -> Mask:
-    """Which rows have one of EMPTY."""
-    return numpy.array([*(text.casefold() in EMPTY for text in texts), False])[codes]
