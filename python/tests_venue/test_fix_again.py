@@ -1,14 +1,16 @@
 """What is sent again after the venue was killed, as it was sent first: its time, and what a client
 isn't told otherwise.
 """
+import datetime
 import pathlib
 import time
 
 import fixing
 import psutil
+import pytest
 import served
 from callauction.fix.front import MOST_AGE
-from callauction.fix.seats import OTHER_DAY
+from callauction.fix.refusals import OTHER_DAY
 from fixing import Message, Pairs, Peer
 from test_fix_requests import Killable, killable, until_logged
 from test_fix_tags import order, picked
@@ -67,7 +69,7 @@ def test_a_reject_is_sent_again(tmp_path: pathlib.Path) -> None:
         peer = Peer(port, "ALICE")
         peer.logon(fixing.token_of(folder, "ALICE"))
         peer.say("1", [(112, "t1")])
-        peer.enter("a1", "1", 10, "2.00", (15, "EUR"))
+        peer.enter("a1", "1", 10, "2.00", (99, "2.00"))
         first = peer.take(lambda it: it[35] == "3")
         peer.enter("a2", "1", 10, "2.00")
         peer.take(lambda it: it.get(11) == "a2")
@@ -78,7 +80,7 @@ def test_a_reject_is_sent_again(tmp_path: pathlib.Path) -> None:
             ("3", "3", "Y"),
             ("8", "4", "Y"),
         ]
-        assert (first[45], first[371], first[372]) == ("3", "15", "D")
+        assert (first[45], first[371], first[372]) == ("3", "99", "D")
         told = {tag: first[tag] for tag in (34, 45, 58, 371, 372, 373)} | {122: first[52]}
         assert told.items() <= found[1].items()
         day.again()
@@ -133,3 +135,47 @@ def test_what_was_for_another_day(tmp_path: pathlib.Path) -> None:
             ("r", "q1", "", "", "0", OTHER_DAY),
             ("8", "a1", "I", "0", "", ""),
         ]
+
+
+def ago(seconds: float) -> str:
+    """The time so many seconds ago as FIX has it."""
+    then = datetime.datetime.now(datetime.timezone.utc) - datetime.timedelta(seconds=seconds)
+    return then.strftime("%Y%m%d-%H:%M:%S.%f")[:-3]
+
+
+def test_what_was_for_a_day_that_has_just_ended(tmp_path: pathlib.Path) -> None:
+    """It isn't done either, and its ClOrdID isn't used by that: the client may send it anew."""
+    port, folder = served.free_port(), tmp_path / "venue"
+    earlier, limit = ago(60), [(40, "2"), (44, "2.00")]
+    with served.served(tmp_path, fixing.day_of(port, "ALICE")) as venue:
+        venue.do("start")
+        peer = Former(port, "ALICE", [(earlier, "D", order("a1", "1", "10", *limit))] * 2)
+        peer.logon(fixing.token_of(folder, "ALICE"))
+        found = peer.take(lambda it: it.get(11) == "a1")
+        assert picked(found, 17, 150, 58) == ("R.ALICE.1", "8", OTHER_DAY)
+        peer.all()
+        peer.enter("a1", "1", 10, "2.00")
+        assert peer.take(lambda it: it.get(150) == "0")[11] == "a1"
+
+
+@pytest.mark.parametrize("behind", [100, -100])
+def test_whose_clock_is_wrong_sends_again(
+    tmp_path: pathlib.Path, behind: int, monkeypatch: pytest.MonkeyPatch
+) -> None:
+    """An order of this day that the venue hasn't had is done, by a clock that is nearly as wrong as
+    a session's may be; that of a day before isn't.
+    """
+    monkeypatch.setattr(fixing, "stamp", lambda: ago(behind))
+    port, folder = served.free_port(), tmp_path / "venue"
+    limit: Pairs = [(40, "2"), (44, "2.00")]
+    with served.served(tmp_path, fixing.day_of(port, "ALICE")) as venue:
+        venue.do("start")
+        former = [
+            (ago(behind), "D", order("a1", "1", "10", *limit)),
+            (ago(behind + 30), "D", order("a2", "1", "10", *limit)),
+        ]
+        peer = Former(port, "ALICE", former)
+        peer.logon(fixing.token_of(folder, "ALICE"))
+        peer.all()
+        found = sorted(picked(it, 11, 150, 58) for it in peer.got)
+        assert found == [("a1", "0", ""), ("a2", "8", OTHER_DAY)]

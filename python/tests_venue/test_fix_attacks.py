@@ -185,6 +185,33 @@ def test_who_says_much_in_time_is_heard_in_time(front: Fronted) -> None:
     assert late < 400 * ORDER_BYTES // SLICE // 2
 
 
+def test_a_long_message_is_heard_in_time(front: Fronted) -> None:
+    """It isn't held either: it costs no more than its bytes."""
+    peer, begin = front.peer("BOB"), time.monotonic()
+    for number in range(5):
+        peer.enter(f"b{number}", "2", 1, "3.00", (58, "x" * 65_000))
+        assert peer.take(lambda it: it.get(11) == f"b{number}")[39] == "0"
+    assert time.monotonic() - begin < 5 * 65_000 // SLICE * IN_VAIN_SECONDS / 4
+
+
+def test_half_a_message_holds_no_session_open(front: Fronted) -> None:
+    """It is no sign that somebody is there, however its bytes come."""
+    peer = Peer(front.port, "BOB")
+    peer.connect()
+    peer.say("A", [(98, "0"), (108, "1"), (554, front.password("BOB"))])
+    peer.take(lambda it: it[35] == "A")
+    begin = time.monotonic()
+    with pytest.raises(Closed):
+        peer.socket.sendall(b"8=FIX.4.4" + SOH + b"9=60000" + SOH + b"35=D" + SOH)
+        while time.monotonic() < begin + 30.0:
+            with contextlib.suppress(TimeoutError):
+                peer.take(lambda it: False, 0.1)
+            try:
+                peer.socket.sendall(b"x" * 99)
+            except OSError:
+                raise Closed from None
+
+
 def test_garbage_is_ended_in_time(front: Fronted) -> None:
     beside = front.peer("BOB")
     half = [socket.create_connection(("127.0.0.1", front.port)) for _ in range(40)]
@@ -252,16 +279,19 @@ def refused(front: Fronted, more: Pairs) -> dict[int, str]:
     return peer.take(lambda it: it[35] in "389j")
 
 
-@pytest.mark.parametrize("tag", [18, 110, 126, 99, 20000])
+@pytest.mark.parametrize("tag", [81, 110, 152, 99, 20000])
 def test_a_tag_that_is_unknown_is_refused(front: Fronted, tag: int) -> None:
     found = refused(front, [(tag, "1")])
     assert (found[35], found[45], found[371]) == ("3", "2", str(tag))
 
 
 def test_a_party_is_refused_by_the_group_s_count(front: Fronted) -> None:
-    """Not by one of its row's tags, which are sent before or after it."""
+    """Not by one of its row's tags, which are sent before or after it; orders alone may have one.
+    """
+    peer = front.peer("BOB")
     parties: list[tuple[int, str]] = [(453, "1"), (448, "DESK"), (447, "D"), (452, "1")]
-    found = refused(front, parties)
+    peer.say("q", [(11, "q1"), (530, "7"), (60, fixing.stamp()), *parties])
+    found = peer.take(lambda it: it[35] in "3r")
     assert (found[35], found[45], found[371], found[373]) == ("3", "2", "453", "2")
 
 
@@ -294,6 +324,35 @@ def test_other_types_are_refused(front: Fronted, kind: str) -> None:
     peer.say(kind, others.get(kind, [(58, "x")]))
     found = peer.take(lambda it: it[35] in "3j")
     assert (found[35], found[45], found[372], found[380]) == ("j", "2", kind, "3")
+    assert waits(peer, 3) < MOST_WAIT
+
+
+@pytest.mark.parametrize("kind", [*"89WXYhry", "AE"])
+def test_other_types_are_refused_whatever_is_in_them(front: Fronted, kind: str) -> None:
+    """By the same answer, once, and what came ahead of its turn after them is taken."""
+    peer = front.peer("BOB")
+    peer.number = 3
+    peer.enter("b1", "1", 10, "2.00")
+    asked = dict(fixing.parsed(peer.whole()))
+    peer.expected += 1
+    assert (asked[35], asked[7]) == ("2", "2")
+    peer.socket.sendall(peer.written(kind, 2, [(11, "x"), (9999, "y")], []))
+    found = peer.take(lambda it: it[35] in "3j")
+    assert (found[35], found[45], found[372], found[380]) == ("j", "2", kind, "3")
+    assert found[58] == "Unsupported Message Type"
+    assert peer.take(lambda it: it.get(11) == "b1")[150] == "0"
+    assert [it[35] for it in peer.got] == ["j", "8"]
+    assert waits(peer, 4) < MOST_WAIT
+
+
+LACKING: list[Pairs] = [[], [(45, "2")], [(45, "2"), (372, "D"), (380, "0"), (9999, "x")]]
+
+
+@pytest.mark.parametrize("pairs", LACKING)
+def test_a_refusal_that_lacks_a_tag_is_not_refused(front: Fronted, pairs: Pairs) -> None:
+    peer = front.peer("BOB")
+    peer.say("j", pairs)
+    assert peer.all() == []
     assert waits(peer, 3) < MOST_WAIT
 
 

@@ -109,7 +109,7 @@ def trade(venue: served.Served, alice: Peer, bob: Peer, copy: Peer) -> None:
     alice.take(lambda it: it[35] == "X" and it.get(269) == "A")
     alice.replace("a1", "a2", "1", 600, "2.10")
     alice.cancel("a9", "a3", "1")
-    assert answer(alice, "D", order("a4", "1", "10", (40, "1"), (22, "4")))[35] in "389Xh"
+    assert answer(alice, "D", order("a4", "1", "10", (40, "1"), (99, "4")))[35] in "389Xh"
     assert answer(alice, "V", [*whole("V", 267), (267, "1"), (269, "4")])
     alice.say("H", [(11, "a2"), (55, "XYZ"), (54, "1")])
     alice.say("AF", [(584, "s1"), (585, "7")])

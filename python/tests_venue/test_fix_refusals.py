@@ -1,9 +1,12 @@
 """What members by FIX are told of what isn't done: why, and what to do; and what the venue writes
 of it. What is expected is from the standard and docs/FIX.md.
 """
+import contextlib
 import json
 import pathlib
 import re
+import socket
+import struct
 from collections.abc import Iterator
 
 import fixing
@@ -102,6 +105,83 @@ def test_each_session_s_refusals_are_written(tmp_path: pathlib.Path) -> None:
     assert len(refused) <= 2 * len(names)
     stranger = "a Logon is refused: no session is FIX.4.4 from EVE to VENUE, from 127.0.0.1"
     assert any(it.endswith(stranger) for it in told(error))
+
+
+def test_why_a_connection_is_ended_is_written(tmp_path: pathlib.Path) -> None:
+    """Each end that the venue makes has a line with the session and the reason."""
+    port, names = served.free_port(), ["ALICE", "BOB", "CAROL", "DAVE", "ERIN"]
+    (tmp_path / "day.toml").write_text(fixing.day_of(port, *names), "utf-8")
+    words = ["--day", tmp_path / "day.toml", "--folder", tmp_path / "venue", "--log", "json"]
+    venue = served.started(*words, "--port", served.free_port())
+    try:
+        peers = {it: Peer(port, it) for it in names}
+        for name, peer in peers.items():
+            peer.logon(fixing.token_of(tmp_path / "venue", name))
+        with pytest.raises(Closed):  # ALICE is asked whether she is there, and says nothing
+            Peer(port, "ALICE").logon(fixing.token_of(tmp_path / "venue", "ALICE"))
+        password = (554, fixing.token_of(tmp_path / "venue", "BOB"))
+        peers["BOB"].say("A", [(98, "0"), (108, "30"), password])
+        venue.do("reset", session="CAROL")
+        venue.do("remove", member="DAVE")
+        linger = struct.pack("ii", 1, 0)
+        peers["ERIN"].socket.setsockopt(socket.SOL_SOCKET, socket.SO_LINGER, linger)
+        peers["ERIN"].close()  # its machine ends it
+        for name in names[:-1]:
+            until_closed(peers[name])
+    finally:
+        venue.child.terminate()
+        _, error = venue.child.communicate(timeout=served.SECONDS)
+    found = {name: ended_by(error, name) for name in names}
+    assert found == {
+        "ALICE": ["it said nothing for 5 s, and its session logs on once more"],
+        "BOB": [
+            "this connection is logged on: a Logon (35=A) is its first message alone; connect again"
+        ],
+        "CAROL": ["the operator resets this session: begin at 1 with an empty store"],
+        "DAVE": ["the operator has removed this member, whose orders are cancelled"],
+        "ERIN": ["[Errno 104] Connection reset by peer"],
+    }
+    for name in ("CAROL", "DAVE"):
+        text = f"fix: event FIX.4.4:VENUE->{name} Timed out waiting for logout response"
+        assert text in told(error)
+
+
+def test_what_a_client_refuses_is_written(tmp_path: pathlib.Path) -> None:
+    """Also what came ahead of its turn; of many texts of its own those of a second in one line."""
+    port, count = served.free_port(), 30
+    (tmp_path / "day.toml").write_text(fixing.day_of(port, "ALICE"), "utf-8")
+    words = ["--day", tmp_path / "day.toml", "--folder", tmp_path / "venue", "--log", "json"]
+    venue = served.started(*words, "--port", served.free_port())
+    try:
+        peer = Peer(port, "ALICE")
+        peer.logon(fixing.token_of(tmp_path / "venue", "ALICE"))
+        peer.number += 1  # 2 is missing, and a gap comes in its place
+        refused = [(45, "1"), (372, "8"), (380, "0")]
+        for number in range(count):
+            peer.say("j", [*refused, (58, "x" * number or "ahead")])
+        assert answer(peer, "H", [(11, "a"), (55, "XYZ"), (54, "1")])[103] == "5"
+    finally:
+        venue.child.terminate()
+        _, error = venue.child.communicate(timeout=served.SECONDS)
+    begin = "fix: event FIX.4.4:VENUE->ALICE Received BusinessMessageReject of 1: "
+    lines = [it.removeprefix(begin) for it in told(error) if it.startswith(begin)]
+    others = (re.search(r" \(and ([0-9]+) times more\)$", it) for it in lines)
+    assert lines[0] == "ahead" and len(lines) < count // 4
+    assert len(lines) + sum(int(it[1]) for it in others if it) == count
+
+
+def until_closed(peer: Peer) -> None:
+    """Waits until the venue ends a connection."""
+    peer.socket.settimeout(fixing.SECONDS)
+    with contextlib.suppress(Closed):
+        while True:
+            peer.whole()
+
+
+def ended_by(error: str, name: str) -> list[str]:
+    """Why a session's connection was ended, by the venue's log."""
+    begin = f"fix: event FIX.4.4:VENUE->{name} a connection is ended: "
+    return [it.removeprefix(begin) for it in told(error) if it.startswith(begin)]
 
 
 # ---- requests

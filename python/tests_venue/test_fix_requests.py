@@ -310,6 +310,29 @@ def test_an_open_book_has_sizes(tmp_path: pathlib.Path) -> None:
         assert rows(peer, "W") == [{269: "0", 270: "2.00", 271: "525"}]
 
 
+def test_an_open_book_has_visible_sizes(tmp_path: pathlib.Path) -> None:
+    """Of an iceberg order its peak, of orders of other auctions nothing."""
+    port = served.free_port()
+    day = fixing.day_of(port, "ALICE", "BOB") + '[[round]]\nbook = "open"\n'
+    with on(tmp_path, day, port, "ALICE", "BOB") as (venue, [alice, bob]):
+        venue.do("start")
+        alice.enter("a1", "1", 1000, "2.00", (111, "100"))
+        alice.enter("a2", "1", 70, "2.00", (59, "7"), (111, "10"))
+        alice.enter("a3", "2", 40, "2.10", (1138, "30"))
+        alice.take(lambda it: it.get(11) == "a3")
+        ask_data(bob, "d1", "1")
+        best = {269: "0", 270: "2.00"}
+        asked = {269: "1", 270: "2.10", 271: "30"}
+        assert rows(bob, "W") == [best | {271: "100"}, asked]
+        bob.enter("b1", "1", 25, "2.00")
+        bob.take(lambda it: it.get(11) == "b1")
+        assert rows(bob, "W") == [best | {271: "125"}, asked]
+        bob.enter("b2", "2", 900, "2.00")  # what is executed is of the whole orders
+        bob.take(lambda it: it.get(11) == "b2")
+        executed = [{269: "Q", 270: "2.00", 271: "900"}, {269: "B", 271: "900"}]
+        assert rows(bob, "W")[:2] == executed
+
+
 @pytest.mark.parametrize(
     "pairs, reason",
     [

@@ -4,6 +4,7 @@ standard's session protocol and its table of tests.
 """
 import pathlib
 import time
+from typing import Any
 
 import fixing
 import pytest
@@ -23,7 +24,7 @@ KINDS: dict[str, Pairs] = {
     "ZZ": [(58, "text")],
 }
 """Messages of a member and of the session, and one of a type that there isn't."""
-Heads = dict[int, str]
+Heads = dict[Any, str]
 NONE = "none"
 """A tag of a head with this value is left out."""
 
@@ -94,6 +95,37 @@ def refusal(given: list[Message]) -> tuple[str, ...]:
     [found] = given
     assert found[35] == "3" and found[58]
     return tuple(found.get(it, "") for it in (45, 372, 371, 373))
+
+
+REPORT: Pairs = [(37, "1"), (17, "x"), (150, "0"), (39, "0"), (55, "XYZ"), (54, "1")]
+REPORT += [(151, "0"), (14, "0"), (6, "0")]
+OF_VENUE: dict[str, Pairs] = {
+    "8": REPORT,
+    "9": [(37, "1"), (11, "x"), (41, "y"), (39, "0"), (434, "1"), (102, "1")],
+    "j": [(45, "1"), (372, "8"), (380, "0")],
+}
+"""Messages of types that the venue sends."""
+
+
+@pytest.mark.parametrize("kind", OF_VENUE)
+@pytest.mark.parametrize("value", ["yesterday", "20261126", "20261326-09:00:00", "9" * 40])
+def test_a_time_that_is_none(tmp_path: pathlib.Path, begin: str, kind: str, value: str) -> None:
+    """It is refused as in each other message, and the session goes on."""
+    speaker = Speaker(tmp_path, begin)
+    found = [refusal(speaker.say(it, OF_VENUE.get(it, ORDER), {52: value})) for it in ("D", kind)]
+    assert found == [("2", "D", "52", "6"), ("3", kind, "52", "6")]
+    assert not speaker.is_closed and speaker.is_heard()
+
+
+def test_what_comes_after_a_logout(tmp_path: pathlib.Path, begin: str) -> None:
+    """More than a message ends the connection, and the log says so, once."""
+    speaker = Speaker(tmp_path, begin)
+    speaker.engine.feed(speaker.connection, speaker.written("5", []))
+    for _ in range(3):
+        speaker.engine.feed(speaker.connection, b"x" * 65536)
+    ends = [text for _, _, text in speaker.engine.events() if b" is ended: " in text]
+    assert ends == [b"a connection is ended: more than a message came after a Logout"]
+    assert speaker.heard() == [] and speaker.is_closed
 
 
 # ---- Logons
@@ -343,3 +375,66 @@ def test_a_group_without_a_row(
     found = speaker.say("V", [(262, "d1"), (263, "1"), (264, "1"), *pairs])
     assert refusal(found) == ("2", "V", tag, "5")
     assert speaker.engine.said() == [] and speaker.is_heard()
+
+
+# ---- tags that are none, and what is out of its turn
+
+
+@pytest.mark.parametrize("tag", ["4294967334", "0000000038", "1000000000", "038"])
+def test_a_tag_that_is_none(tmp_path: pathlib.Path, begin: str, tag: str) -> None:
+    """It is refused, and isn't taken for another one."""
+    speaker = Speaker(tmp_path, begin)
+    more = {38: NONE, tag: "5"}
+    number = speaker.number
+    refused = (str(number), "D", "", "0")
+    assert refusal(speaker.say("D", [it for it in ORDER if it[0] != 38], more)) == refused
+    assert refusal(speaker.say("D", ORDER, {tag: "5"}))[1:] == refused[1:]
+    assert speaker.engine.said() == [] and speaker.is_heard()
+
+
+@pytest.mark.parametrize("tag", ["38x", "+38", "-38", " 38", ""])
+def test_a_tag_without_a_number(tmp_path: pathlib.Path, begin: str, tag: str) -> None:
+    """The message is refused, or passed over as garbled: then it is missing."""
+    speaker = Speaker(tmp_path, begin)
+    found = speaker.say("D", [it for it in ORDER if it[0] != 38], {tag: "5"})
+    assert speaker.engine.said() == []
+    assert found == [] and speaker.expected == 2 or refusal(found)[1:] == ("D", "", "0")
+
+
+def test_a_logon_s_password_has_its_tag(tmp_path: pathlib.Path, begin: str) -> None:
+    speaker = Speaker(tmp_path, begin)
+    speaker.engine.lost(speaker.connection)
+    assert speaker.connect("30", {2**32 + 554: "any"}) == [] and speaker.is_closed
+
+
+WRONG: dict[str, Heads] = {
+    "a tag": {9999: "x"},
+    "no tag": {2**32 + 38: "5"},
+    "a head": {49: NONE},
+    "a value": {60: "yesterday"},
+    "a type": {35: "ZZ"},
+}
+
+
+@pytest.mark.parametrize("wrong", WRONG)
+def test_what_is_wrong_ahead_of_a_gap(tmp_path: pathlib.Path, begin: str, wrong: str) -> None:
+    """What is before it is asked for at once; then it is refused in its turn, once, however often
+    it comes again, and what came after it is taken once.
+    """
+    speaker, heads = Speaker(tmp_path, begin), WRONG[wrong]
+    pairs = [it for it in ORDER if it[0] not in heads]
+    speaker.number = 4
+    [asked] = speaker.say("D", pairs, heads)
+    assert (asked[35], asked[7], asked[16]) == ("2", "2", "0")
+    assert speaker.say("D", ORDER) == []  # asked for already
+    again = {43: "Y", 122: fixing.stamp()}
+    kinds = {2: ORDER, 3: ORDER, 4: pairs, 5: ORDER}
+    answers: list[Message] = []
+    for number in (2, 3, 4, 5, 4, 3):
+        speaker.number = number
+        answers += speaker.say("D", kinds[number], again | (heads if number == 4 else {}))
+    [found] = answers
+    assert found[35] in "3j" and found[45] == "4"
+    assert [it[1][34] for it in speaker.engine.said()] == ["2", "3", "5"]
+    speaker.number = 6
+    assert speaker.expected == 6 and speaker.is_heard()

@@ -39,8 +39,13 @@ NEEDED: dict[str, list[Pairs]] = {
     "x": [[(320, "n1")], [(559, "4")]],
 }
 """The tags that each message needs, a group as one."""
-OTHERS = {"D": 99, "G": 126, "F": 453, "H": 453, "q": 64, "AF": 453, "V": 286, "g": 338, "x": 167}
+OTHERS = {"D": 99, "G": 99, "F": 660, "H": 660, "q": 64, "AF": 453, "V": 286, "g": 338, "x": 167}
 """A tag for each that the standard has, and the venue hasn't."""
+
+
+NO_ORDER = "there is no order of this ClOrdID in this day"
+OTHER_SIDE = "Side (54) isn't the order's, which is 1"
+"""What is said of a replace or a cancel that names another side than its order."""
 
 
 def whole(kind: str, *but: int) -> Pairs:
@@ -113,6 +118,74 @@ def test_tags_that_change_nothing(tmp_path: pathlib.Path) -> None:
         assert picked(found, 35, 531, 533) == ("r", "7", "0")
 
 
+OF_ALL = [(48, "XYZ"), (22, "8"), (167, "CS")]
+PARTIES = [(453, "2"), (448, "DESK"), (447, "D"), (452, "1"), (448, "TRADER"), (452, "11")]
+OF_ORDERS = [*OF_ALL, (15, "EUR"), (18, "1 5"), (126, "20991231-17:00:00")]
+FROM = [(115, "CLIENT"), (142, "FLOOR")]
+"""What clients send with orders beside what these are."""
+
+
+def test_what_is_sent_with_orders(tmp_path: pathlib.Path) -> None:
+    """It changes nothing, and isn't given back."""
+    port = served.free_port()
+    with on(tmp_path, fixing.day_of(port, "ALICE"), port, "ALICE") as (venue, [peer]):
+        venue.do("start")
+        limit = [(40, "2"), (44, "2.00")]
+        beside = [*OF_ORDERS, *PARTIES]
+        found = answer(peer, "D", [*order("a1", "1", "10", *limit), *beside], FROM)
+        assert picked(found, 150, 37, 38, 44, 59) == ("0", "XYZ.1", "10", "2.00", "0")
+        assert not {*found} & {15, 18, 22, 48, 115, 126, 142, 167, 447, 448, 452, 453}
+        replace = [(41, "a1"), *order("a2", "1", "12", *limit), *beside]
+        assert picked(answer(peer, "G", replace, FROM), 150, 37, 38) == ("5", "XYZ.1", "12")
+        asked = [(11, "a2"), (55, "XYZ"), (54, "1"), *OF_ALL, *PARTIES]
+        assert picked(answer(peer, "H", asked, FROM), 150, 37) == ("I", "XYZ.1")
+        gone = [(41, "a2"), *order("a3", "1", "12"), *OF_ALL, *PARTIES]
+        assert picked(answer(peer, "F", gone, FROM), 150, 37) == ("4", "XYZ.1")
+
+
+CONTRADICTING: list[tuple[Pairs, str, str]] = [
+    ([(48, "DE0007164600"), (22, "4")], "1", "SecurityID (48) isn't the Symbol (55), by which "),
+    ([(167, "BOND")], "11", "SecurityType (167) is CS"),
+    ([(15, "USD")], "11", "Currency (15) isn't the instrument's, which is EUR"),
+    ([(18, "G")], "11", "ExecInst (18) is of 1, 2 and 5, which change nothing"),
+    ([(18, "1 M")], "11", "ExecInst (18) is of 1, 2 and 5, which change nothing"),
+    ([(126, "20260102-09:00:00")], "11", "ExpireTime (126) isn't after today: an order ends by "),
+]
+"""What contradicts an order or its instrument, the reason and how the text begins."""
+
+
+def test_what_contradicts_an_order(tmp_path: pathlib.Path) -> None:
+    """Nothing is done, and it is said why."""
+    port = served.free_port()
+    with on(tmp_path, fixing.day_of(port, "ALICE"), port, "ALICE") as (venue, [peer]):
+        venue.do("start")
+        limit = [(40, "2"), (44, "2.00")]
+        assert answer(peer, "D", order("a0", "1", "10", *limit))[37] == "XYZ.1"
+        for place, (other, reason, text) in enumerate(CONTRADICTING):
+            found = answer(peer, "D", [*order(f"d{place}", "1", "10", *limit), *other])
+            assert picked(found, 150, 39, 37, 103) == ("8", "8", "NONE", reason), other
+            assert found[58].startswith(text)
+            replace = [(41, "a0"), *order(f"g{place}", "1", "12", *limit), *other]
+            found = answer(peer, "G", replace)
+            assert picked(found, 35, 37, 39) == ("9", "XYZ.1", "0") and found[58].startswith(text)
+            if other[0][0] in (48, 167):
+                gone = [(41, "a0"), *order(f"f{place}", "1", "12"), *other]
+                found = answer(peer, "F", gone)
+                assert picked(found, 35, 39) == ("9", "0") and found[58].startswith(text)
+                found = answer(peer, "H", [(11, "a0"), (55, "XYZ"), (54, "1"), *other])
+                assert picked(found, 150, 39) == ("I", "8") and found[58].startswith(text)
+
+
+def test_a_status_of_another_side(tmp_path: pathlib.Path) -> None:
+    port = served.free_port()
+    with on(tmp_path, fixing.day_of(port, "ALICE"), port, "ALICE") as (venue, [peer]):
+        venue.do("start")
+        assert answer(peer, "D", order("a1", "1", "10", (40, "1")))[37] == "XYZ.1"
+        found = answer(peer, "H", [(11, "a1"), (55, "XYZ"), (54, "2"), (790, "s1")])
+        expected = ("a1", "NONE", "I", "8", "11", OTHER_SIDE, "s1")
+        assert picked(found, 11, 37, 150, 39, 103, 58, 790) == expected
+
+
 BAD_ORDERS: list[tuple[Pairs, str]] = [
     ([(40, "2")], "11"),
     ([(40, "1"), (44, "2.00")], "11"),
@@ -167,7 +240,7 @@ def test_orders_that_are_not_entered(tmp_path: pathlib.Path) -> None:
 
 
 KEPT: list[tuple[Pairs, str]] = [
-    ([(54, "2")], "Side can't be changed"),
+    ([(54, "2")], OTHER_SIDE),
     ([(59, "0")], "MaxFloor and TimeInForce can't be changed"),
     ([(59, "7")], "MaxFloor and TimeInForce can't be changed"),
     ([(111, "6")], "MaxFloor and TimeInForce can't be changed"),
@@ -188,7 +261,7 @@ def test_what_a_replace_keeps(tmp_path: pathlib.Path) -> None:
             expected = ("9", "XYZ.1", f"b{number}", "a1", "0", "2", "99", text)
             assert picked(found, 35, 37, 11, 41, 39, 434, 102, 58) == expected
         found = answer(peer, "F", [(41, "a1"), (11, "b9"), (55, "XYZ"), (54, "2"), (60, TIME)])
-        assert picked(found, 35, 434, 102, 58) == ("9", "1", "99", "Side can't be changed")
+        assert picked(found, 35, 434, 102, 58) == ("9", "1", "99", OTHER_SIDE)
         same = order("c1", "1", "20", (41, "a1"), (40, "2"), (44, "2.10"), (59, "1"), (111, "5"))
         found = answer(peer, "G", same)
         assert picked(found, 150, 38, 44, 59, 111) == ("5", "20", "2.10", "1", "5")
@@ -232,7 +305,8 @@ def test_orders_that_are_asked_for(tmp_path: pathlib.Path) -> None:
     with on(tmp_path, fixing.day_of(port, "ALICE"), port, "ALICE") as (venue, [peer]):
         venue.do("start")
         market = order("a1", "2", "10", (40, "1"))
-        assert answer(peer, "D", market, [(97, "Y")])[17] == "XYZ.1"
+        of_today = [it for it in market if it[0] != 60] + [(60, fixing.stamp())]
+        assert answer(peer, "D", of_today, [(97, "Y")])[17] == "XYZ.1"
         found = answer(peer, "D", market, [(97, "Y")])
         assert picked(found, 17, 37, 150, 39, 151) == ("R.ALICE.3", "XYZ.1", "I", "0", "10")
         peer.cancel("a1", "a2", "2")
@@ -241,7 +315,7 @@ def test_orders_that_are_asked_for(tmp_path: pathlib.Path) -> None:
             found = answer(peer, "H", [(11, client), (55, "XYZ"), (54, "2")])
             assert picked(found, 37, 150, 39, 151) == ("XYZ.1", "I", "4", "0")
         found = answer(peer, "H", [(11, "b1"), (55, "XYZ"), (54, "2"), (790, "s1")])
-        expected = ("b1", "NONE", "I", "8", "5", "there is no order of this ClOrdID", "s1")
+        expected = ("b1", "NONE", "I", "8", "5", NO_ORDER, "s1")
         assert picked(found, 11, 37, 150, 39, 103, 58, 790) == expected
         found = answer(peer, "AF", [(584, "s1"), (585, "3")])
         assert picked(found, 584, 150, 39, 58) == (
@@ -287,18 +361,31 @@ def test_instruments_and_the_market_by_name(tmp_path: pathlib.Path) -> None:
         assert picked(found, 35, 262, 281) == ("Y", "n1", "6") and found[58]
 
 
-@pytest.mark.parametrize("halted", ["the board", "the venue"])
-def test_the_phase_of_what_is_halted(halted: str) -> None:
-    """TradSesStatus 1: halted."""
-    state = types.SimpleNamespace(phase=Phase.CALL, auction="closing", frozen=None, ends=None)
+def phase_said(halted: str, is_seen: bool) -> dict[int, str]:
+    """What is said of the phase of a board in a call that ends, where this has halted."""
+    state = types.SimpleNamespace(phase=Phase.CALL, auction="closing", frozen=None, ends=0.0)
     board = types.SimpleNamespace(
         state=state,
         engine=types.SimpleNamespace(halted=halted if halted == "the board" else None),
-        board=types.SimpleNamespace(market="XYZ"),
+        identity=types.SimpleNamespace(market="XYZ"),
+        is_seen=is_seen,
     )
     venue = types.SimpleNamespace(halted=halted if halted == "the venue" else None)
-    found = dict(phase_of(cast(Any, venue), cast(Any, board)))
-    assert found == {336: "XYZ", 625: "4", 340: "1", 58: "halted"}
+    return dict(phase_of(cast(Any, venue), cast(Any, board)))
+
+
+@pytest.mark.parametrize("halted", ["the board", "the venue"])
+def test_the_phase_of_what_is_halted(halted: str) -> None:
+    """TradSesStatus 1: halted."""
+    ends = {345: "19700101-00:00:00"}
+    assert phase_said(halted, True) == {336: "XYZ", 625: "4", 340: "1", 58: "halted"} | ends
+    assert phase_said(halted, False) == {336: "XYZ", 340: "1", 58: "halted"}
+
+
+def test_the_phase_of_what_isnt_known_yet() -> None:
+    """TradSesStatus 0: unknown; neither an auction nor an end is told."""
+    assert phase_said("nothing", False) == {336: "XYZ", 340: "0", 58: "unknown"}
+    assert phase_said("nothing", True).items() >= {625: "4", 340: "2", 58: "call"}.items()
 
 
 def test_what_is_sent_again(tmp_path: pathlib.Path) -> None:

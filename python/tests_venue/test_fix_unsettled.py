@@ -2,6 +2,7 @@
 where it or its answer is written, and each is done and answered once.
 """
 import pathlib
+import time
 from collections.abc import Callable
 
 import fixing
@@ -26,9 +27,9 @@ class Asked(Peer):
         super()._again(begin)
 
 
-def killed(folder: pathlib.Path, play: Play) -> tuple[Peer, int, str]:
+def killed(folder: pathlib.Path, play: Play) -> tuple[Peer, list[int], str]:
     """What a member was told over a kill after `play`, once a last order of it is answered: its
-    client, the number from which the venue asked for messages, and the journal.
+    client, the numbers from which the venue asked for messages, and the journal.
     """
     port, log = served.free_port(), folder / "venue"
     (folder / "day.toml").write_text(fixing.day_of(port, "ALICE", sync="true"), "utf-8")
@@ -50,8 +51,7 @@ def killed(folder: pathlib.Path, play: Play) -> tuple[Peer, int, str]:
         peer.all()
         status, journal = venue.call("api/download/journal/XYZ", token=venue.operator)
         assert status == 200
-        assert len(peer.asked) == 1
-        return peer, peer.asked[0], journal
+        return peer, peer.asked, journal
 
 
 def until_sent(folder: pathlib.Path, peer: Peer, text: str) -> None:
@@ -85,7 +85,7 @@ def overtaken(folder: pathlib.Path, venue: served.Served, peer: Peer) -> None:
         peer.enter(client, "1", 10, "2.00")
     cancel(peer, "f1")
     peer.say("H", [(11, "none"), (55, "XYZ"), (54, "1")])
-    peer.enter("a4", "1", 10, "2.00", (15, "EUR"))  # 35=3
+    peer.enter("a4", "1", 10, "2.00", (99, "2.00"))  # 35=3
     peer.take(lambda it: it[35] == "3")
     until_sent(folder, peer, f"R.ALICE.{peer.number - 2}")
     assert '"a2"' not in (folder / held.LOG).read_text("utf-8")
@@ -110,7 +110,7 @@ def test_an_answer_overtakes_orders(tmp_path: pathlib.Path) -> None:
     wrong it says again.
     """
     peer, asked, journal = killed(tmp_path, overtaken)
-    assert asked == 3
+    assert asked == [3]
     assert told(peer) == sorted([*EACH_ONCE, WRONG])
     assert entered(journal) == 4
 
@@ -119,7 +119,7 @@ def left_behind(folder: pathlib.Path, venue: served.Served, peer: Peer) -> None:
     """An answer waits for its file while an order that came after it is in the venue's log."""
     held.hold_of(folder / held.SENT).touch()
     cancel(peer, "f1")
-    peer.enter("a4", "1", 10, "2.00", (15, "EUR"))  # 35=3
+    peer.enter("a4", "1", 10, "2.00", (99, "2.00"))  # 35=3
     peer.say("H", [(11, "none"), (55, "XYZ"), (54, "1")])
     peer.enter("a2", "1", 10, "2.00")
     peer.enter("a3", "1", 10, "2.00")
@@ -131,7 +131,7 @@ def left_behind(folder: pathlib.Path, venue: served.Served, peer: Peer) -> None:
 def test_an_answer_is_behind_orders(tmp_path: pathlib.Path) -> None:
     """What it answers is asked for again, and the orders aren't done once more."""
     peer, asked, journal = killed(tmp_path, left_behind)
-    assert asked == 3
+    assert asked == [3]
     assert told(peer) == sorted(EACH_ONCE)
     assert entered(journal) == 4
 
@@ -148,7 +148,7 @@ def of_later(folder: pathlib.Path, venue: served.Served, peer: Peer) -> None:
 def test_what_comes_again_is_of_its_time(tmp_path: pathlib.Path) -> None:
     """A cancel that comes again doesn't find an order that came after it."""
     peer, asked, journal = killed(tmp_path, of_later)
-    assert asked == 3
+    assert asked == [3]
     answers = {it[17] if it[35] == "8" else it[20001]: it for it in peer.got}
     assert picked(answers["R.ALICE.3"], 11, 35, 102) == ("f1", "9", "1")
     assert picked(answers["R.ALICE.4"], 790, 37, 39) == ("h1", "NONE", "8")
@@ -166,7 +166,41 @@ def named_twice(folder: pathlib.Path, venue: served.Served, peer: Peer) -> None:
 def test_an_id_is_of_the_first(tmp_path: pathlib.Path) -> None:
     """The first order comes again, and its id is its own."""
     peer, asked, journal = killed(tmp_path, named_twice)
-    assert asked == 3
+    assert asked == [3]
     found = [picked(it, 35, 17, 39, 103) for it in peer.got if it.get(11) == "a2"]
     assert sorted(found) == [("8", "R.ALICE.4", "8", "6"), ("8", "XYZ.2", "0", "")]
     assert ",enter,bid,10," in journal and ",enter,bid,20," not in journal
+
+
+def behind_an_answer(folder: pathlib.Path, venue: served.Served, peer: Peer) -> None:
+    """An order is changed and cancelled while the venue's log waits, an answer takes the number
+    that was meant for the first of the two, and neither of their reports is written.
+    """
+    log, sent = (held.hold_of(folder / it) for it in (held.LOG, held.SENT))
+    log.touch()
+    peer.replace("a1", "c1", "1", 20, "2.00")
+    peer.cancel("a1", "c2", "1")
+    cancel(peer, "f1")
+    peer.take(lambda it: it.get(11) == "f1")
+    sent.touch()
+    log.unlink()
+    until_done(folder, ",delete,")
+
+
+def until_done(folder: pathlib.Path, text: str) -> None:
+    """Waits until the journal has a text. Raises AssertionError."""
+    for _ in range(600):
+        if text in (folder / "XYZ.journal.csv").read_text("ascii"):
+            return
+        time.sleep(0.1)
+    raise AssertionError(text)
+
+
+def test_an_order_is_told_in_its_order(tmp_path: pathlib.Path) -> None:
+    """Its change comes before its end, though a start knows of both what number they were to have.
+    """
+    peer, asked, journal = killed(tmp_path, behind_an_answer)
+    assert asked == []
+    assert [it[11] for it in peer.got] == ["a1", "f1", "c1", "c2", "last"]
+    assert [it.get(150, "") for it in peer.got] == ["0", "", "5", "4", "0"]
+    assert journal.count(",change,") == journal.count(",delete,") == 1

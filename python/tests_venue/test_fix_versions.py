@@ -17,6 +17,7 @@ from callauction.fix.feeds import snapshot
 from callauction.fix.settings import settings_of
 from callauction.fix.tags import FIX44, FIXT
 from fixing import Peer
+from test_fix_operator import reset
 from test_fix_venue import DICTIONARIES, SETTINGS, Initiator
 
 FIELD = re.compile(r"FIELD_SET\(\*this, FIX::(\w+)\)")
@@ -39,6 +40,31 @@ def day_of(port: int) -> str:
     """A day in which ALICE and COPY speak FIX 5.0SP2, and BOB FIX 4.4."""
     more = 'copy = "COPY"\nfix50 = ["ALICE", "COPY"]\n[fix.sessions]'
     return fixing.day_of(port, "ALICE", "BOB").replace("[fix.sessions]", more)
+
+
+def test_a_member_takes_another_version(tmp_path: pathlib.Path) -> None:
+    """Its numbers go on; once its session is reset, its messages are none that had the same ones in
+    a session of the other version.
+    """
+    port, folder = served.free_port(), tmp_path / "venue"
+    with served.served(tmp_path, fixing.day_of(port, "ALICE")) as venue:
+        venue.do("start")
+        token = fixing.token_of(folder, "ALICE")
+        for client, number in (("a1", 2), ("a2", 3)):  # 2 asks for what comes again
+            peer = Peer(port, "ALICE")
+            peer.logon(token)
+            assert peer.enter(client, "1", 10, "2.00") == number
+            assert peer.take(lambda it: it.get(11) == client)[150] == "0"
+            if client == "a1":
+                assert reset(venue, "ALICE")[0] == 200
+    newer = fixing.day_of(port, "ALICE").replace("[fix.s", 'fix50 = ["ALICE"]\n[fix.s')
+    with served.served(tmp_path, newer) as venue:
+        assert reset(venue, "ALICE")[0] == 200
+        peer = NewPeer(port, "ALICE")
+        peer.logon(token, (1137, "9"))
+        assert peer.enter("a3", "1", 10, "2.00") == 3
+        found = peer.take(lambda it: it.get(11) == "a3")
+        assert (found[150], found[37]) == ("0", "XYZ.3")
 
 
 def test_two_versions_trade_with_each_other(tmp_path: pathlib.Path) -> None:

@@ -42,7 +42,7 @@ SEEN_SECONDS = 1.0
 NO_FEED = "there is no subscription of this id"
 MOST_FEEDS = 64
 """What a session may ask for at a time."""
-HALTED = "1"
+UNKNOWN, HALTED = "0", "1"
 STATUSES = {
     Phase.WAITING: "4",
     Phase.CALL: "2",
@@ -70,7 +70,7 @@ class Data:
 
     def changed(self, board: Instrument, rows: Rows, send: Send) -> None:
         """Sends what has changed of a board."""
-        market = board.board.market
+        market = board.identity.market
         wanted = {kind: row for kind, row in rows.items() if kind in self.types}
         before = self.last.get(market, {})
         if market not in self.markets or wanted == before:
@@ -94,7 +94,7 @@ class Phases:
 
     def changed(self, board: Instrument, phase: Pairs, send: Send) -> None:
         """Sends a phase that has changed."""
-        market = board.board.market
+        market = board.identity.market
         if market in self.markets and self.last.get(market) != phase:
             self.last[market] = phase
             unasked = (Tag.UNSOLICITED_INDICATOR, "Y")
@@ -123,17 +123,19 @@ def changes_of(market: str, before: Rows, after: Rows) -> list[Pairs]:
 
 
 def phase_of(venue: Venue, board: Instrument) -> Pairs:
-    """The phase of a board."""
+    """The phase of a board; without the auction, and the end, of one that wasn't seen yet."""
     state = board.state
     is_halted = board.engine.halted is not None or venue.halted is not None
     text = "halted" if is_halted else "frozen" if state.frozen is not None else str(state.phase)
     status = STATUSES[state.phase] if text == state.phase else HALTED
-    found: Pairs = [
-        (Tag.TRADING_SESSION_ID, board.board.market),
-        (Tag.TRADING_SESSION_SUB_ID, OF_AUCTION.get(state.auction, AFTER)),
-        (Tag.TRAD_SES_STATUS, status),
-        (Tag.TEXT, text),
-    ]
+    found: Pairs = [(Tag.TRADING_SESSION_ID, board.identity.market)]
+    if not board.is_seen:
+        is_new = text == state.phase
+        status, text = (UNKNOWN, "unknown") if is_new else (status, text)
+        return [*found, (Tag.TRAD_SES_STATUS, status), (Tag.TEXT, text)]
+    auction = OF_AUCTION.get(state.auction, AFTER)
+    found += [(Tag.TRADING_SESSION_SUB_ID, auction), (Tag.TRAD_SES_STATUS, status)]
+    found.append((Tag.TEXT, text))
     if state.ends is None:
         return found
     ends = time.strftime("%Y%m%d-%H:%M:%S", time.gmtime(state.ends))
@@ -190,8 +192,8 @@ class Feeds:
                 phases.changed(board, phase_of(self._venue, board), send)
 
     def _levels(self, board: Instrument) -> Sequence[Level]:
-        """The levels of a board's book, where that is open."""
-        return board.levels if self._venue.is_open_book else []
+        """What is visible of a board's book at each limit, where that is open."""
+        return board.visible_levels if self._venue.is_open_book else []
 
     # ---- requests
 
@@ -224,14 +226,14 @@ class Feeds:
             raise SeatError(ENTRY_TYPE, f"MDEntryType is one of {', '.join(snapshots.TYPES)}")
         named = (seat.named_board(value) for tag, value in asked if tag == Tag.SYMBOL)
         boards = [*dict.fromkeys(named)]
-        data = Data(request, types, frozenset(it.board.market for it in boards), update == WHOLE)
+        data = Data(request, types, frozenset(it.identity.market for it in boards), update == WHOLE)
         if how == ON:
             self.check_room(request, self._data)
             seat.desk.watch(seat)
         await asyncio.gather(*map(seen, boards))
         for board in boards:
             rows = snapshots.rows_of(board, self._levels(board))
-            data.last[board.board.market] = {it: row for it, row in rows.items() if it in types}
+            data.last[board.identity.market] = {it: row for it, row in rows.items() if it in types}
         for market, rows in data.last.items():
             seat.desk.send(seat, Type.SNAPSHOT, *snapshot(request, market, rows))
         if how == ON:
@@ -248,11 +250,11 @@ class Feeds:
             raise SeatError(UNSUPPORTED, "SubscriptionRequestType is 0, 1 or 2")
         name = given.get(Tag.TRADING_SESSION_ID)
         boards = seat.boards() if name is None else [seat.named_board(name)]
-        phases = Phases(request, frozenset(it.board.market for it in boards))
+        phases = Phases(request, frozenset(it.identity.market for it in boards))
         if how == ON:
             self.check_room(request, self._phases)
         for board in boards:
-            phase = phases.last[board.board.market] = phase_of(self._venue, board)
+            phase = phases.last[board.identity.market] = phase_of(self._venue, board)
             seat.desk.send(seat, Type.PHASE, [(Tag.TRAD_SES_REQ_ID, request), *phase], [])
         if how == ON:
             self._phases[request] = phases

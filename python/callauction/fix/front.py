@@ -11,7 +11,7 @@ import pathlib
 import re
 import socket
 import tempfile
-from collections.abc import AsyncIterator, Callable, Container, Coroutine, Iterator
+from collections.abc import Callable, Collection, Container, Coroutine, Iterator
 from typing import Any
 
 from callauction.fix import requests, resets
@@ -43,6 +43,8 @@ from callauction.venue.serving import AddressError
 from callauction.venue.venue import Venue
 
 NOTICES = logging.getLogger("callauction.venue")
+REFUSES = "Received BusinessMessageReject"
+"""How what the module says begins of what a client refuses, in texts of its own."""
 REFUSED = "a Logon is refused: "
 """How what the module says of a Logon that isn't taken begins."""
 TICK, PAUSE = 1.0, 0.5
@@ -58,6 +60,7 @@ LOGOUT_SECONDS, LOGOUT_PAUSE = 1.0, 0.01
 """
 LEAVE_SECONDS = 4.0
 """How long a session that is reset may take to answer its Logout."""
+NO_ANSWER = f"its Logout wasn't answered for {LEAVE_SECONDS:g} s"
 MORE: dict[str, Act] = {
     Type.MASS_CANCEL: requests.cancel_all,
     Type.MASS_STATUS: requests.show_all,
@@ -93,7 +96,7 @@ Outgoing = tuple[int, bytes, int, bool]
 
 class Front:
     """The FIX sessions of a venue, which hears all entries of its boards from the venue's opening
-    on, and listens while it is `served`.
+    on, and listens from `begin` to `shut`.
     """
 
     engine: Engine
@@ -105,12 +108,13 @@ class Front:
         self._sent = Sent(venue.folder, venue.day.is_synced)
         self._sent.log.on_fault = self._failed
         follow = self._next, self._since
-        desk = Desk(venue, self._stream, self._tell, self._send, *follow, self._watch, MORE)
+        streams, say = (self._stream, self._former), (self._tell, self._send)
+        desk = Desk(venue, *streams, *say, *follow, self._watch, MORE)
         seats = [Seat(it, name, self._begin_of(it), desk) for it, name in terms.sessions.items()]
         if terms.copy:
             seats.append(CopySeat(terms.copy, self._begin_of(terms.copy), desk))
         for seat in seats:
-            seat.begin_anew(self._sent.resets[seat.session])
+            seat.begin_anew(self._sent.epochs[seat.comp_id], self._sent.marks[seat.comp_id])
         self._seats = {it.session: it for it in seats}
         self._by_member = {it.name: it for it in seats}
         self._streams: dict[str, Stream] = {}
@@ -123,6 +127,7 @@ class Front:
         self._news, self._has_begun = asyncio.Event(), asyncio.Event()
         self._on: dict[Seat, Wire] = {}
         self._listener: gates.Listener | None = None
+        self._listening: asyncio.Task[None] | None = None
         self._sockets: list[socket.socket] = []
         self._counts: Callable[[], dict[str, int]] = dict
         self._resetting: set[Seat] = set()
@@ -140,8 +145,7 @@ class Front:
 
     # ---- begin and end
 
-    @contextlib.asynccontextmanager
-    async def served(self, tls: gates.Tls | None) -> AsyncIterator[str]:
+    async def begin(self, tls: gates.Tls | None) -> str:
         """Listens, with this TLS: the line that says where. Raises AddressError."""
         with self._taking_address():
             sockets = gates.bound(self._terms.host, self._terms.port)
@@ -163,11 +167,8 @@ class Front:
         self._sockets = sockets
         with self._taking_address():
             gates.listen(sockets)
-        self._start(self._listen(tls))
-        try:
-            yield f"fix      {named(self._terms.host)}:{sockets[0].getsockname()[1]}"
-        finally:
-            await self._close()
+        self._listening = self._start(self._listen(tls))
+        return f"fix      {named(self._terms.host)}:{sockets[0].getsockname()[1]}"
 
     @contextlib.contextmanager
     def _taking_address(self) -> Iterator[None]:
@@ -208,7 +209,14 @@ class Front:
                 self.engine.restore(seat.session, number, text)
                 seat.recall(pairs_of(text), since)
                 await self._give_way()
-            self._owe(seat, sent)
+            passed = self._sent.passed(seat.session)
+            for it in passed:
+                last = max(self.engine.next(seat.session) - 1, it.last)
+                self.engine.set_next(seat.session, last + 1)
+                for event in it.events:
+                    seat.recall_event(event, it.last, it.since)
+                await self._give_way()
+            self._owe(seat, [sent, *(range(it.first, it.last + 1) for it in passed)])
             seat.lost()
             found = self.engine.expected(seat.session)
             if (last := seat.expected()) != found:
@@ -229,24 +237,30 @@ class Front:
         if self._steps % MOST_AT_ONCE == 0:
             await asyncio.sleep(0)
 
-    def _owe(self, seat: Seat, sent: Container[int]) -> None:
+    def _owe(self, seat: Seat, sent: Collection[Container[int]]) -> None:
         """Finds the reports that an earlier run may have sent under the numbers that the log says,
-        but for numbers under which something else was sent: they are stored under these before the
-        session may begin, all others after them.
+        but for numbers under which something else was sent. Before the session may begin each is
+        stored there where it comes after what is before it on its board, else after all of them.
         """
-        those = {event: it for event, it in seat.promised.items() if event not in seat.told}
-        seat.owed = {event: it for event, it in those.items() if it and it not in sent}
+        those = {event: it for event, it in seat.promised.items() if it and event not in seat.told}
+        free = {it for it in those.values() if not any(it in numbers for numbers in sent)}
+        seat.owed = {event: it for event, it in those.items() if it in free}
         seat.promised = {}
         last = max([self.engine.next(seat.session) - 1, *seat.owed.values()])
         self.engine.set_next(seat.session, last + 1)
         self._sent.reach(seat.session, last)
 
     async def _admit(self, seat: Seat) -> None:
-        """Has the venue know the member of a session, whose password a file keeps if it is new."""
-        if seat.name != OPERATOR and self._venue.members.named(seat.name) is None:
-            token = tokens.secret_of(self._venue.folder, f"fix.{seat.comp_id}")
+        """Has the venue know the member of a session, whose password a file keeps if it is new: not
+        one that another has had, of whom the CompID was before.
+        """
+        venue, role = self._venue, f"fix.{seat.comp_id}"
+        if seat.name != OPERATOR and venue.members.named(seat.name) is None:
+            token = tokens.secret_of(venue.folder, role)
+            if venue.members.is_given(token):
+                token = tokens.new_secret_of(venue.folder, role)
             try:
-                await self._venue.admit(seat.name, token)
+                await venue.admit(seat.name, token)
             except MessageError as fault:
                 NOTICES.error("fix: %s can't be a member: %s", seat.name, fault.text)
 
@@ -257,7 +271,7 @@ class Front:
         except Exception:
             NOTICES.critical("fix: %s has failed: start the venue again", seat.name, exc_info=True)
 
-    def _start(self, work: "Coroutine[Any, Any, None]") -> None:
+    def _start(self, work: "Coroutine[Any, Any, None]") -> "asyncio.Task[None]":
         """Begins a task, which ends with the front; a fault of one ends the front."""
 
         def ended(task: "asyncio.Task[None]") -> None:
@@ -268,6 +282,7 @@ class Front:
         task = asyncio.get_running_loop().create_task(work)
         self._tasks.add(task)
         task.add_done_callback(ended)
+        return task
 
     def _fail(self, fault: BaseException) -> None:
         """Ends by a fault."""
@@ -277,16 +292,22 @@ class Front:
     def _end(self) -> None:
         """Takes nothing more, and ends all connections."""
         self._is_ready = False
+        self.shut()
         for task in [*self._tasks]:
             task.cancel()
+        for wire in self._wires.values():
+            wire.end()
+
+    def shut(self) -> None:
+        """Takes no connection more."""
+        if self._listening is not None:
+            self._listening.cancel()
         if self._listener is not None:
             self._listener.close()
         for each in self._sockets:
             each.close()
-        for wire in self._wires.values():
-            wire.end()
 
-    async def _close(self) -> None:
+    async def end(self) -> None:
         """Logs all sessions out, where that can be written soon, and ends."""
         self._is_ready = False
         for number in self._wires:
@@ -415,11 +436,12 @@ class Front:
         self._wake()
         for what, session, text in self.engine.events():
             if what == "begins":
-                self._seats[session].cancels = text == b"Y"
+                self._seats[session].begins(text.decode("latin-1"))
             else:
                 said = text.decode("latin-1")
                 source = f", from {wire.address}" if wire and said.startswith(REFUSED) else ""
-                kind = {"of": f"{what} {session} {DIGITS.sub('', said)}{source}"}
+                form = REFUSES if said.startswith(REFUSES) else DIGITS.sub("", said)
+                kind = {"of": f"{what} {session} {form}{source}"}
                 NOTICES.info("fix: %s %s %s%s", what, session, said, source, extra=kind)
         for session, given, rows in self.engine.said():
             seat = self._seats[session]
@@ -516,12 +538,14 @@ class Front:
         groups: Groups,
         promised: int = 0,
         time: str = "",
+        passes: bool = False,
     ) -> int:
         """Stores a message, and sends it soon where its session is on: its number. It isn't written
-        where that is the promised one, and says that it was sent at this time.
+        where that is the promised one, and says that it was sent at this time; of one that passes
+        the number alone is kept.
         """
         self._wake()
-        return self.engine.send(seat.session, kind, pairs, groups, promised, time)
+        return self.engine.send(seat.session, kind, pairs, groups, promised, time, passes)
 
     async def _reset(self, comp_id: str) -> None:
         """Ends a session, and begins it anew with what its journals gave so far. Raises
@@ -538,10 +562,10 @@ class Front:
             if (wire := self._on.get(seat)) is not None:
                 self.engine.log_out(wire.number, RESET)
                 self._drain()
-                asyncio.get_running_loop().call_later(LEAVE_SECONDS, wire.cut)
+                asyncio.get_running_loop().call_later(LEAVE_SECONDS, wire.cut, NO_ANSWER)
             await asyncio.wait_for(self._ended(seat), RESET_SECONDS)
             self._beginning.add(seat)
-            anew = functools.partial(resets.begin_anew, self.engine, seat)
+            anew = functools.partial(resets.begin_anew, self.engine, seat, self._venue.mark)
             await self._sent.begin_anew(self.engine, seat.session, anew)
         except TimeoutError:
             raise MessageError("halted", UNANSWERED.format(comp_id)) from None
@@ -572,12 +596,20 @@ class Front:
 
     def _stream(self, board: Instrument) -> Stream:
         """The stream of a board."""
-        key = board.board.key
+        key = board.identity.key
         if key not in self._streams:
-            self._streams[key] = Stream(board, self._program, self._tell)
+            tell = functools.partial(self._tell, board=key)
+            self._streams[key] = Stream(board, self._program, tell)
             if self._is_ready:
                 self._start(self._streams[key].run())
         return self._streams[key]
+
+    def _former(self, board: Instrument) -> list[Stream]:
+        """The streams of a market's boards of earlier rounds, the last one first."""
+        market, number = board.identity.market, board.identity.round
+        boards = ((it, it.board.identity) for it in self._streams.values())
+        found = [it for it, of in boards if of.market == market and of.round < number]
+        return sorted(found, key=lambda it: -it.board.identity.round)
 
     def _entered(self, board: Instrument, message: Message, entry: Entry | None) -> None:
         """A message has its entry, or never had one."""
@@ -590,21 +622,33 @@ class Front:
             except Exception as fault:  # it is nobody else's
                 self._fail(fault)
 
-    def _tell(self, report: Report) -> None:
-        """Sends a member what it wasn't sent yet."""
+    def _tell(self, report: Report, board: str = "") -> None:
+        """Sends a member what it wasn't sent yet; what is of a board comes in its order."""
         seat = self._by_member.get(report.member)
-        if seat is None or report.event in seat.told:
+        if seat is None:
             return
-        seat.told.add(report.event)
+        if report.event not in seat.told:
+            self._tell_new(seat, report, seat.reached[board])
+        if board:
+            seat.reached[board] = max(seat.reached[board], seat.told[report.event])
+
+    def _tell_new(self, seat: Seat, report: Report, before: int) -> None:
+        """Stores a report under the number by which an earlier run may have sent it, else sends it.
+        It can't have been sent by one that isn't greater than that of what was before it.
+        """
         promised = seat.promised.pop(report.event, 0)
         time = report.time or now()
         pairs: Pairs = [*report.pairs, (Tag.TRANSACT_TIME, time)]
-        if number := seat.owed.pop(report.event, 0):
-            self.engine.store(seat.session, number, report.type, pairs, time)
+        if (owed := seat.owed.pop(report.event, 0)) > before:
+            self.engine.store(seat.session, owed, report.type, pairs, time)
+            seat.told[report.event] = owed
             return
         if promised and not is_recent(time, MOST_AGE):
             promised = 0
-        if self._send(seat, report.type, pairs, report.groups, promised, time) == promised:
+        more = (promised, time, report.passes)
+        number = self._send(seat, report.type, pairs, report.groups, *more)
+        seat.told[report.event] = number
+        if number == promised:
             self._sent.follows(seat.session, promised)
         self._unsent += 1
         if self._unsent >= MOST_AT_ONCE:

@@ -76,7 +76,8 @@ of it, SINCE is the number of the first message whose answer a crash might take 
 @dataclasses.dataclass(slots=True)
 class Report:
     """A message to a member; `event` is its id, by which it is sent once. What is for the operator
-    has OPERATOR as its member; `time` is its TransactTime, empty for now.
+    has OPERATOR as its member; `time` is its TransactTime, empty for now. One that `passes` says
+    what is only of its time, and isn't sent again.
     """
 
     member: str
@@ -85,6 +86,7 @@ class Report:
     pairs: Pairs
     groups: Groups = dataclasses.field(default_factory=list)
     time: str = ""
+    passes: bool = False
 
 
 @dataclasses.dataclass(slots=True)
@@ -154,7 +156,7 @@ class Orders:
         """The report of an entry."""
         fields = entry.record.split(",")
         if fields[1] == ENTER:
-            held = Held.of(self._board.board.key, message, entry, fields[2:])
+            held = Held.of(self._board.key_at(entry.place), message, entry, fields[2:])
             return self._entered(held, entry, event)
         known = self._open.get(int(fields[2]))
         if known is None or entry.reply.startswith("refused"):
@@ -234,7 +236,7 @@ class Orders:
             more: Pairs = [
                 (Tag.LAST_QTY, str(trade.quantity)),
                 (Tag.LAST_PX, self._price(trade.tick)),
-                (Tag.TRD_MATCH_ID, f"{self._board.board.key}.{trade.number}"),
+                (Tag.TRD_MATCH_ID, match_of(trade, event)),
             ]
             found.append(self.report(held, f"{event}.{trade.number}{letter}", Exec.TRADE, more))
         return [*found, self._captured(trade, f"{event}.{trade.number}")]
@@ -250,11 +252,11 @@ class Orders:
         pairs: Pairs = [
             (Tag.TRADE_REPORT_ID, event),
             (Tag.PREVIOUSLY_REPORTED, "N"),
-            (Tag.SYMBOL, self._board.board.market),
+            (Tag.SYMBOL, self._board.identity.market),
             (Tag.LAST_QTY, str(trade.quantity)),
             (Tag.LAST_PX, self._price(trade.tick)),
             (Tag.TRADE_DATE, now()[:8]),
-            (Tag.TRD_MATCH_ID, f"{self._board.board.key}.{trade.number}"),
+            (Tag.TRD_MATCH_ID, match_of(trade, event.rpartition(".")[0])),
         ]
         groups = [(Tag.NO_SIDES, Tag.SIDE, sides)]
         return Report(OPERATOR, Type.TRADE, event, pairs, groups)
@@ -272,8 +274,8 @@ class Orders:
 
     def over(self) -> list[Report]:
         """What the end of the board's round does to the orders that are open."""
-        event = f"{self._board.board.key}.end"
-        return [self._expired(held, event) for held in [*self._open.values()]]
+        event = f"{self._board.key_at_end()}.end"
+        return [self._expired(it, event) for it in [*self._open.values()]]
 
     def _expired(self, held: Held, event: str) -> Report:
         """An order has ended by itself. FIX's done for day would be one that goes on tomorrow."""
@@ -291,7 +293,7 @@ class Orders:
             (Tag.EXEC_ID, event),
             (Tag.EXEC_TYPE, kind),
             (Tag.ORD_STATUS, held.status),
-            (Tag.SYMBOL, self._board.board.market),
+            (Tag.SYMBOL, self._board.identity.market),
             (Tag.SIDE, CODES[held.side]),
             (Tag.ORDER_QTY, str(held.total)),
             (Tag.LEAVES_QTY, str(left)),
@@ -320,7 +322,12 @@ class Orders:
 
 def entry_event(board: Instrument, place: int) -> str:
     """The id of what an entry of a board comes to."""
-    return f"{board.board.key}.{place}"
+    return f"{board.key_at(place)}.{place}"
+
+
+def match_of(trade: views.Trade, event: str) -> str:
+    """The id of a trade, beside that of the uncross which made it."""
+    return f"{event.rpartition('.')[0]}.{trade.number}"
 
 
 @dataclasses.dataclass(frozen=True)

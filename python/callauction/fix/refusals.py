@@ -60,6 +60,12 @@ ALL = "530"
 NO_SIDE = "7"
 """The Side of a report that is of no order: undisclosed."""
 NO_SYMBOL = "[N/A]"
+USED = "this ClOrdID was used"
+OTHER_DAY = "it was sent first before this day began: empty your store each day"
+MADE_BEFORE = "its TransactTime (60) is before this day began, of which nothing is done today"
+FILLED = "it came ahead of its turn, and a gap came in its place: it isn't executed"
+UNUSED = (USED, OTHER_DAY, MADE_BEFORE, FILLED)
+"""What is said of a message that doesn't use its ClOrdID."""
 
 
 class SeatError(MessageError):
@@ -87,7 +93,7 @@ def refuse(seat: "Seat", given: Given, event: str, fault: MessageError) -> None:
     reason = fault.reason if isinstance(fault, SeatError) else REASONS.get(fault.code, OTHER)
     status = fault.status if isinstance(fault, SeatError) else Status.REJECTED
     kind = given[Tag.MSG_TYPE]
-    if kind in (Type.ENTER, Type.CANCEL, Type.REPLACE):
+    if kind in (Type.ENTER, Type.CANCEL, Type.REPLACE) and fault.text not in UNUSED:
         seat.keep(given)
     if kind in (Type.CANCEL, Type.REPLACE):
         client, origin = given[Tag.CL_ORD_ID], given[Tag.ORIG_CL_ORD_ID]
@@ -113,7 +119,8 @@ def tell_mass_cancelled(seat: "Seat", given: Given, event: str, more: Pairs) -> 
     count = str(seat.deleted[int(given[Tag.MSG_SEQ_NUM])])
     pairs: Pairs = [(tag, given[tag]) for tag in copied if tag in given]
     pairs += [(Tag.TOTAL_AFFECTED_ORDERS, count), *more]
-    seat.keep(given, pairs)
+    if dict(more).get(Tag.TEXT) not in UNUSED:
+        seat.keep(given, pairs)
     tell_mass_answer(seat, event, pairs)
 
 
@@ -195,7 +202,7 @@ def given_of(board: Instrument, message: Message, number: int) -> Given:
         kind, _, client = message.note[ALL].partition(" ")
         given |= {Tag.MASS_CANCEL_REQUEST_TYPE: kind, Tag.CL_ORD_ID: client}
         return given | {Tag.MSG_TYPE: Type.MASS_CANCEL}
-    given |= {Tag.CL_ORD_ID: message.note.get(CLIENT, NONE), Tag.SYMBOL: board.board.market}
+    given |= {Tag.CL_ORD_ID: message.note.get(CLIENT, NONE), Tag.SYMBOL: board.identity.market}
     if word == "enter":
         given |= {Tag.SIDE: CODES[fields[0]], Tag.ORDER_QTY: fields[1]}
         return given | {Tag.MSG_TYPE: Type.ENTER}

@@ -2,8 +2,8 @@
 OrderMassStatusRequest, SecurityListRequest.
 """
 import asyncio
-import re
 
+from callauction.fix.beside import CURRENCY
 from callauction.fix.orders import Held, Orders
 from callauction.fix.refusals import (
     ALL,
@@ -11,11 +11,12 @@ from callauction.fix.refusals import (
     OTHER,
     UNKNOWN,
     UNSUPPORTED,
+    USED,
     SeatError,
     tell_mass_answer,
     tell_mass_cancelled,
 )
-from callauction.fix.seats import USED, Seat, is_sent_again, side_of
+from callauction.fix.seats import Seat, is_sent_again, side_of
 from callauction.fix.tags import Exec, Given, Groups, Pairs, Tag, Type
 from callauction.venue.instrument import Instrument
 from callauction.venue.messages import MessageError
@@ -25,9 +26,8 @@ OF_ONE, OF_ALL = "1", "7"
 """MassCancelRequestType and MassStatusReqType: of an instrument, of all."""
 LIST_OF_ONE, LIST_OF_ALL = "0", "4"
 """SecurityListRequestType."""
-CURRENCY = re.compile("[A-Z]{3}")
 REPORTS_A_MESSAGE = 10
-"""How many reports of a mass status count as a message of its member, as all of them are kept."""
+"""How many reports of a mass status count as a message of its member."""
 
 
 def boards_of(seat: Seat, given: Given, tag: int, one: str, every: str) -> list[Instrument]:
@@ -63,7 +63,7 @@ async def cancel_all(seat: Seat, rows: Pairs, given: Given, number: int) -> None
     found = await asyncio.gather(*deleting)
     faults = {board: fault for board, fault in zip(boards, found) if fault is not None}
     left = [it for it in faults if it.awaits(seat.name) or orders_of(seat, given, it)]
-    texts = (f"{it.board.market} ({faults[it].text})" for it in left)
+    texts = (f"{it.identity.market} ({faults[it].text})" for it in left)
     text = f"not cancelled, and still open: {', '.join(texts)}"
     if not seat.deleted[number] and (left or len(faults) == len(boards)):
         raise SeatError(OTHER, text) if left else faults[boards[0]]
@@ -116,7 +116,7 @@ async def show_all(seat: Seat, rows: Pairs, given: Given, number: int) -> None:
         try:
             await seat.until_known(board)
         except MessageError:
-            late.append(board.board.market)
+            late.append(board.identity.market)
         orders = seat.desk.stream(board).orders
         found += [(orders, it) for it in orders_of(seat, given, board)]
     text = f"halted, and what was sent isn't answered yet: {', '.join(late)}" if late else ""
@@ -129,7 +129,9 @@ async def show_all(seat: Seat, rows: Pairs, given: Given, number: int) -> None:
         more: Pairs = [request, (Tag.TOT_NUM_REPORTS, str(len(found)))]
         more.append((Tag.LAST_RPT_REQUESTED, "Y" if is_last else "N"))
         more += [(Tag.TEXT, text)] if text and is_last else []
-        seat.desk.tell(orders.report(held, event, Exec.STATUS, more))
+        report = orders.report(held, event, Exec.STATUS, more)
+        report.passes = True
+        seat.desk.tell(report)
     seat.member.bucket.charge(len(found) // REPORTS_A_MESSAGE)
 
 
@@ -151,7 +153,7 @@ async def show_list(seat: Seat, rows: Pairs, given: Given, number: int) -> None:
 def row_of(board: Instrument) -> Pairs:
     """An instrument in a list."""
     terms = board.terms
-    row: Pairs = [(Tag.SYMBOL, board.board.market)]
+    row: Pairs = [(Tag.SYMBOL, board.identity.market)]
     row += [(Tag.CURRENCY, terms.currency)] if CURRENCY.fullmatch(terms.currency) else []
     row += [
         (Tag.MIN_PRICE_INCREMENT, format(terms.grid.tick_size, "f")),

@@ -13,6 +13,9 @@ import re
 from collections.abc import Awaitable, Callable, Collection, Mapping
 from typing import Any
 
+from callauction.fix import beside
+from callauction.fix.feeds import Feeds
+from callauction.fix.numbering import Number, key_of
 from callauction.fix.orders import (
     CLIENT,
     NUMBER,
@@ -30,16 +33,19 @@ from callauction.fix.orders import (
     entry_event,
     refusal,
 )
-from callauction.fix.feeds import Feeds
-from callauction.fix.numbering import Number, key_of
 from callauction.fix.refusals import (
     ALL,
     DUPLICATE,
     ENDED,
+    FILLED,
+    MADE_BEFORE,
     OTHER,
+    OTHER_DAY,
     QUANTITY,
     UNKNOWN,
     UNSUPPORTED,
+    UNUSED,
+    USED,
     PendingError,
     SeatError,
     given_of,
@@ -63,13 +69,14 @@ from callauction.fix.tags import (
     Status,
     Tag,
     Type,
+    epoch_name,
     event_in,
     now,
     refusal_of,
-    time_of,
+    seconds_of,
 )
 from callauction.limits import MOST_NUMBER
-from callauction.venue import messages
+from callauction.venue import clock, messages
 from callauction.venue.fix_terms import VENUE
 from callauction.venue.instrument import Instrument
 from callauction.venue.log import SOURCE
@@ -97,12 +104,10 @@ FLOAT = re.compile(r"(?=\.?[0-9])([0-9]{0,30})(?:\.([0-9]{0,30}))?")
 LOST: Given = {}
 """What comes in a session's queue when its connection is lost, whose orders are to end with it."""
 NOT_DONE = "it wasn't executed before its venue or program ended, and a gap came in its place"
-USED = "this ClOrdID was used"
 COMMANDS = (Type.ENTER, Type.CANCEL, Type.REPLACE, Type.MASS_CANCEL)
 """Messages that change orders."""
-MOST_BEHIND = 120
-"""Seconds by which a client's clock may be behind, which are those that QuickFIX lets it be."""
-OTHER_DAY = "it was sent first before this day began: empty your store each day"
+ROUNDED = 1.0
+"""Seconds by which the time of a client may be off, whose parts of a second it needn't say."""
 GONE = "the connection has ended, or its venue: CancelOrdersOnDisconnect (8013=Y)"
 PENDING = {"enter": Status.PENDING_NEW, "change": Status.PENDING_REPLACE}
 PENDING["delete"] = Status.PENDING_CANCEL
@@ -119,11 +124,12 @@ class Desk:
     """What a seat needs of its front: the stream of a board, and how messages are sent, those that
     are an event once; the number of the `next` one, and `since` which message of the session a
     crash may take an answer before that, 0 for none; `watch` has its session hear of what changes,
-    and `more` has what it takes beside orders.
+    and `more` has what it takes beside orders; `former` has a market's streams of earlier rounds.
     """
 
     venue: Venue
     stream: Callable[[Instrument], Stream]
+    former: Callable[[Instrument], list[Stream]]
     tell: Callable[[Report], None]
     send: Callable[["Seat", str, Pairs, Groups], int]
     next: Callable[["Seat"], int]
@@ -133,10 +139,13 @@ class Desk:
 
 
 class Seat:
-    """A member's session. `told` has the events that its store has, `numbers` its messages in the
-    log, and whether they were executed, both since it was last reset, for the `epoch`th time;
+    """A member's session. `told` has the events that its store has, each with its number there, and
+    `reached` the number of the last one of each board; `numbers` has its messages in the log, and
+    whether they were executed; all since it was last reset, which began its `epoch`, in ids by its
+    `epoch_name`; `latest` is the last epoch of which its member has sent a message;
     `clients` has who used a ClOrdID, and `mass` what was said to mass cancels by theirs;
-    `cancels` says whether its orders end with its connection; `heard` is called when all that came
+    `cancels` says whether its orders end with its connection, `behind` by how many seconds its
+    client's clock was behind the venue's at its Logon; `heard` is called when all that came
     was taken. `promised` has the events whose reports aren't sent yet, and the numbers that the log
     says for them, 0 for none; `owed` those that an earlier run may have sent under their numbers.
     """
@@ -144,8 +153,10 @@ class Seat:
     def __init__(self, comp_id: str, name: str, begin: str, desk: Desk) -> None:
         self.comp_id, self.name, self.begin, self.desk = comp_id, name, begin, desk
         self.session = f"{begin}:{VENUE}->{comp_id}"
-        self.told: set[str] = set()
-        self.epoch, self.cancels = 0, False
+        self.told: dict[str, int] = {}
+        self.reached: collections.Counter[str] = collections.Counter()
+        self.epoch, self.latest, self.epoch_name = 0, 0, ""
+        self.cancels, self.behind = False, 0.0
         self.numbers: dict[int, bool] = {}
         self.clients: dict[str, Number] = {}
         self.mass: dict[str, Pairs] = {}
@@ -207,7 +218,7 @@ class Seat:
 
     def refusal_of(self, number: object) -> str:
         """The id of the answer to a message that wasn't executed."""
-        return refusal_of(self.comp_id, number, self.epoch)
+        return refusal_of(self.comp_id, number, self.epoch_name)
 
     def expected(self) -> int:
         """The number of the first message that may be missing: in the log, and never executed nor
@@ -243,7 +254,7 @@ class Seat:
 
     def _enters(self, given: Given) -> bool:
         """Takes a new order where nothing has to be waited for: whether it did."""
-        if given is LOST or given[Tag.MSG_TYPE] != Type.ENTER:
+        if given is LOST or given[Tag.MSG_TYPE] != Type.ENTER or Tag.GAP_FILL in given:
             return False
         number, member = int(given[Tag.MSG_SEQ_NUM]), self.member
         event, is_known = self.refusal_of(number), given[Tag.CL_ORD_ID] in self.clients
@@ -262,6 +273,13 @@ class Seat:
             SOURCE.reset(before)
         return True
 
+    def begins(self, said: str) -> None:
+        """It begins by a Logon, which says whether its orders end with its connection, and when it
+        was sent by its client's clock.
+        """
+        self.cancels = said.startswith("Y")
+        self.behind = clock.now() - seconds_of(said[1:])
+
     def lost(self) -> None:
         """Its connection has ended, or had as the venue began."""
         if self.cancels:
@@ -273,6 +291,7 @@ class Seat:
         number = Number.of(-message.number)
         if entry is not None and CLIENT in message.note:
             self.clients[message.note[CLIENT]] = number
+        self.latest = max(self.latest, number.epoch)
         if number.epoch != self.epoch:
             return
         if number.part:
@@ -304,10 +323,11 @@ class Seat:
                 await asyncio.sleep(HALT_PAUSE)
             await self.desk.stream(board).until_now()
 
-    def begin_anew(self, epoch: int) -> None:
-        """Its session was reset, so often so far."""
-        self.epoch = epoch
-        self.told, self.numbers, self._lost = set(), {}, {}
+    def begin_anew(self, epoch: int, mark: str) -> None:
+        """Its session was reset, which began this epoch, after a restore of this mark."""
+        self.epoch, self.epoch_name = epoch, epoch_name(epoch, mark)
+        self.told, self.numbers, self._lost = {}, {}, {}
+        self.reached.clear()
         self.promised, self.owed, self._awaited = {}, {}, {}
         self._firm, self._greatest = 1, 0
         self.deleted.clear()
@@ -342,23 +362,28 @@ class Seat:
             return
         SOURCE.set(self.address)
         try:
-            self._check_day(given)
             if (act := self._does.get(kind)) is None:
                 self.refuse_type(given, event)
             else:
+                check_in_turn(given)
+                self._check_day(given)
                 await act(self, rows, given, number)
         except MessageError as fault:
             refuse(self, given, event, fault)
 
     def _check_day(self, given: Given) -> None:
         """Raises SeatError where a command that is sent again was for another day: a client's store
-        that has the numbers of that day would have it done today.
+        of that day would have it done today. That is by when it was sent first, or, where it has a
+        new number and its ClOrdID isn't known, by when it was made.
         """
-        if given.get(Tag.POSS_DUP) != "Y" or given[Tag.MSG_TYPE] not in COMMANDS:
+        if not is_sent_again(given) or given[Tag.MSG_TYPE] not in COMMANDS:
             return
-        begin = time_of(int(self.desk.venue.began) - MOST_BEHIND)
-        if given.get(Tag.ORIG_SENDING_TIME, begin) < begin:
-            raise SeatError(OTHER, OTHER_DAY)
+        is_resend = given.get(Tag.POSS_DUP) != "Y"
+        time = given.get(Tag.TRANSACT_TIME if is_resend else Tag.ORIG_SENDING_TIME)
+        if time is None or (is_resend and given[Tag.CL_ORD_ID] in self.clients):
+            return
+        if seconds_of(time) + self.behind < self.desk.venue.began - ROUNDED:
+            raise SeatError(OTHER, MADE_BEFORE if is_resend else OTHER_DAY)
 
     def refuse_type(self, given: Given, event: str) -> None:
         """Says that it may not do this: a member may do all that the dictionary has."""
@@ -385,7 +410,7 @@ class Seat:
             return False
         name = given.get(Tag.SYMBOL)
         boards = self._unanswered.values()
-        waiting = [it for it in boards if name in (it.board.market, it.board.name)]
+        waiting = [it for it in boards if name in (it.identity.market, it.identity.name)]
         return len(waiting) >= MOST_UNANSWERED and waiting[0].engine.halted is None
 
     def number(self, message: int, part: int = 0) -> Number:
@@ -426,7 +451,19 @@ class Seat:
             board = self.board(given)
         except MessageError:
             return None
-        return self.desk.stream(board).orders.of_client(self.name, client)
+        return self._known(board, client)[0]
+
+    def _known(self, board: Instrument, client: str) -> tuple[Held | None, Stream]:
+        """The order of a market to which its member gave this id, in this round or an earlier one,
+        and its stream; else the one of this round.
+        """
+        own = self.desk.stream(board)
+        if held := own.orders.of_client(self.name, client):
+            return held, own
+        for stream in self.desk.former(board):
+            if held := stream.orders.of_client(self.name, client):
+                return held, stream
+        return None, own
 
     async def until_answered(self, board: Instrument, answers: Answers) -> None:
         """Waits for answers of a board. Raises MessageError where one is left as it halts."""
@@ -434,7 +471,8 @@ class Seat:
         while waiting:
             self.desk.venue.check_running()
             if board.engine.halted is not None:
-                raise MessageError("halted", f"{board.board.market} has halted and hasn't answered")
+                market = board.identity.market
+                raise MessageError("halted", f"{market} has halted and hasn't answered")
             _, waiting = await asyncio.wait(waiting, timeout=HALT_PAUSE)
 
     def unanswered(self, board: Instrument) -> Answers:
@@ -450,22 +488,24 @@ class Seat:
         await self.until_answered(board, self.unanswered(board))
         await self.desk.stream(board).until_now()
 
-    async def _settled(self, given: Given, client: str) -> Held | None:
-        """The order that an id names, once what was sent before is answered. Raises MessageError,
-        PendingError where it isn't answered as its board has halted.
+    async def _settled(self, given: Given, client: str) -> tuple[Held | None, Stream]:
+        """The order that an id names and its stream, once what was sent before is answered. Raises
+        MessageError, PendingError where it isn't answered as its board has halted.
         """
         board = self.board(given)
         number = self.clients.get(client)
         if number and number.epoch == self.epoch and number.message > int(given[Tag.MSG_SEQ_NUM]):
-            return None  # this one comes again, and was before that
+            return None, self.desk.stream(board)  # this one comes again, and was before that
         if done := self.member.done.get(-number.key) if number else None:
             try:
                 await self.until_answered(board, [done.answer])
             except MessageError as fault:
                 raise PendingError(PENDING[done.record.partition(",")[0]], fault.text) from None
-        stream = self.desk.stream(board)
+        await self.desk.stream(board).until_now()
+        held, stream = self._known(board, client)
         await stream.until_now()
-        return stream.orders.of_client(self.name, client)
+        stream.end_before(self.board(given).identity.round)  # which may have begun since
+        return held, stream
 
     async def _is_known(self, given: Given, number: int) -> bool:
         """Whether an id was another message's, and this one is sent again: what became of the order
@@ -473,13 +513,27 @@ class Seat:
         """
         if not self.is_used(given, number):
             return False
-        is_again = is_sent_again(given)
-        held = await self._settled(given, given[Tag.CL_ORD_ID]) if is_again else None
+        if not is_sent_again(given):
+            raise SeatError(DUPLICATE, USED)
+        held, stream = await self._settled(given, given[Tag.CL_ORD_ID])
         if held is None:
             raise SeatError(DUPLICATE, USED)
-        orders = self.desk.stream(self.board(given)).orders
-        self.desk.tell(orders.report(held, self.refusal_of(number), Exec.STATUS))
+        self._tell_status(given, held, stream, number, [])
         return True
+
+    def _tell_status(
+        self, given: Given, held: Held, stream: Stream, number: int, more: Pairs
+    ) -> None:
+        """Says what an order is, as the answer to a message."""
+        if of_round := self._former_round(given, stream):
+            more = [*more, (Tag.TEXT, f"it {of_round}")]
+        self.desk.tell(stream.orders.report(held, self.refusal_of(number), Exec.STATUS, more))
+
+    def _former_round(self, given: Given, stream: Stream) -> str:
+        """Of which earlier round a stream is, empty for none."""
+        number = stream.board.identity.round
+        is_former = number < self.board(given).identity.round
+        return f"was of round {number}, which is over" if is_former else ""
 
     def is_used(self, given: Given, number: int) -> bool:
         """Whether an id was another message's. Raises SeatError where it is none."""
@@ -488,8 +542,8 @@ class Seat:
         return self.clients.get(given[Tag.CL_ORD_ID], own) != own
 
     def keep(self, given: Given, answer: Pairs = []) -> None:
-        """The id of a message is its own for the day, also where it was refused, but as too long;
-        a mass cancel's with what is said to it.
+        """The id of a message is its own for the day, also where it was refused, but as too long or
+        for UNUSED; a mass cancel's with what is said to it.
         """
         if len(client := given[Tag.CL_ORD_ID]) <= MOST_LETTERS:
             self.clients.setdefault(client, self.number(int(given[Tag.MSG_SEQ_NUM])))
@@ -501,24 +555,29 @@ class Seat:
         `since` was settled, or, where that is 0, all before what it answers.
         """
         given = dict(pairs)
-        if event := event_in(given, self.comp_id, self.epoch):
-            self.told.add(event)
-        answered = event.removeprefix(self.refusal_of(""))
-        if answered.isdecimal():
-            following = int(answered) + 1
-            self._firm = max(self._firm, min(since or following, following))
+        if event := event_in(given, self.comp_id, self.epoch_name):
+            self.recall_event(event, int(given[Tag.MSG_SEQ_NUM]), since)
         if given[Tag.MSG_TYPE] == Type.LOGON:
             self.cancels = given.get(Tag.CANCELS_ON_DISCONNECT) == "Y"
         self.learn(pairs)
 
+    def recall_event(self, event: str, number: int, since: int) -> None:
+        """Recalls an event, and under which number it was told."""
+        self.told[event] = number
+        answered = event.removeprefix(self.refusal_of(""))
+        if answered.isdecimal():
+            following = int(answered) + 1
+            self._firm = max(self._firm, min(since or following, following))
+
     def learn(self, pairs: Pairs) -> None:
         """Learns what it was told in an earlier run of a message that wasn't executed."""
         given = dict(pairs)
-        event = event_in(given, self.comp_id, self.epoch)
+        event = event_in(given, self.comp_id, self.epoch_name)
         number = event.removeprefix(self.refusal_of(""))
         given[Tag.MSG_SEQ_NUM] = number if number.isdecimal() else "0"  # from before a reset
         is_refused = given.get(Tag.EXEC_TYPE) == Status.REJECTED
-        is_own = event.startswith(refusal_of(self.comp_id, "", 0)) and given.get(Tag.TEXT) != USED
+        is_own = event.startswith(refusal_of(self.comp_id, "", ""))
+        is_own &= given.get(Tag.TEXT) not in UNUSED
         if is_own and (is_refused or given[Tag.MSG_TYPE] in OF_CLIENTS):
             is_mass = given[Tag.MSG_TYPE] == Type.MASS_CANCELED
             self.keep(given, [it for it in pairs if is_mass and it[0] in OF_MASS])
@@ -616,17 +675,20 @@ class Seat:
         if peak := peak_of(given):
             asked["peak"] = int(peak)
         board = self.board(given)
+        beside.check(given, board)
         self._submit(given, number, board, messages.entered(board.terms, asked), time)
 
     async def _edit(self, rows: Pairs, given: Given, number: int) -> None:
         """OrderCancelRequest and OrderCancelReplaceRequest. Raises MessageError."""
         if await self._is_known(given, number):
             return
-        held = await self._settled(given, given[Tag.ORIG_CL_ORD_ID])
+        beside.check(given, self.board(given))
+        held, stream = await self._settled(given, given[Tag.ORIG_CL_ORD_ID])
         if held is None:
             raise SeatError(UNKNOWN, "there is no order of this OrigClOrdID")
-        if given[Tag.SIDE] != CODES[held.side]:
-            raise SeatError(UNSUPPORTED, "Side can't be changed")
+        check_side(given, held)
+        if of_round := self._former_round(given, stream):
+            raise SeatError(ENDED, f"{ended_text(held)}, and {of_round}")
         if not held.open:
             is_over = self.board(given).state.phase is Phase.OVER
             raise SeatError(ENDED, ended_text(held, is_over))
@@ -640,18 +702,26 @@ class Seat:
 
     async def _show(self, rows: Pairs, given: Given, number: int) -> None:
         """OrderStatusRequest. Raises MessageError."""
-        held = await self._settled(given, given[Tag.CL_ORD_ID])
+        beside.check(given, self.board(given))
+        held, stream = await self._settled(given, given[Tag.CL_ORD_ID])
         if held is None:
-            raise SeatError(UNKNOWN, "there is no order of this ClOrdID")
-        orders, asked = self.desk.stream(self.board(given)).orders, Tag.ORD_STATUS_REQ_ID
+            raise SeatError(UNKNOWN, "there is no order of this ClOrdID in this day")
+        check_side(given, held)
+        asked = Tag.ORD_STATUS_REQ_ID
         more: Pairs = [(asked, given[asked])] if asked in given else []
-        self.desk.tell(orders.report(held, self.refusal_of(number), Exec.STATUS, more))
+        self._tell_status(given, held, stream, number, more)
 
 
 Act = Callable[[Any, Pairs, Given, int], Awaitable[None]]
 """What takes the messages of a type: of a seat, by the fields of their groups in their order, all
 fields by their tags, and their number. Raises MessageError.
 """
+
+
+def check_in_turn(given: Given) -> None:
+    """Raises SeatError where a gap is in the place of a message that came ahead of its turn."""
+    if Tag.GAP_FILL in given:
+        raise SeatError(OTHER, FILLED)
 
 
 def is_sent_again(given: Given) -> bool:
@@ -665,6 +735,12 @@ def check_client(given: Given) -> None:
     """Raises SeatError where an id is too long."""
     if len(given[Tag.CL_ORD_ID]) > MOST_LETTERS:
         raise SeatError(UNSUPPORTED, f"ClOrdID has at most {MOST_LETTERS} letters")
+
+
+def check_side(given: Given, held: Held) -> None:
+    """Raises SeatError where a message names another side than its order's."""
+    if given[Tag.SIDE] != CODES[held.side]:
+        raise SeatError(UNSUPPORTED, f"Side (54) isn't the order's, which is {CODES[held.side]}")
 
 
 def side_of(given: Given) -> str:

@@ -3,31 +3,50 @@ is enough for what they are sent at a time. What QuickFIX has in memory begins w
 
 It is on the disk before a byte is sent, but for what follows from the venue's log and the journals:
 the report of an entry that was sent under the number that the log says. Those aren't written: a
-start makes them again.
+start makes them again. Of what passes the numbers alone are written: a gap comes in its place.
 """
 import collections
+import itertools
 import json
 import pathlib
 from collections.abc import Callable, Iterator, Mapping
+from typing import NamedTuple
 
 from callauction.fix._quickfix import Engine
-from callauction.fix.tags import number_of
-from callauction.venue.copies import SENT
-from callauction.venue.log import Log, taking, text_of
+from callauction.fix.tags import event_of, number_of
+from callauction.venue.fix_terms import SENT
+from callauction.venue.log import Line, Log, taking, text_of
+
+New = tuple[int, bytes, bool]
+"""A message that was stored: its number, its text, and whether it passes."""
+
+
+class Passed(NamedTuple):
+    """Messages that a session isn't sent again: the numbers of the first one and the last, which
+    messages of it they answered, and the first message of it that wasn't settled then.
+    """
+
+    first: int
+    last: int
+    events: list[str]
+    since: int
 
 
 class Sent:
-    """The messages that sessions were sent, and how often each was reset; `former` has those from
-    before. `on_fault` of the log is called where it can't be written. Raises LogError, LogInUse,
-    OwnerError and OSError.
+    """The messages that sessions were sent since they were last reset, and in `former` those from
+    before; by CompID, in whichever version of FIX, the epoch that its last reset began, and the
+    mark of the last restore before that, if any. `on_fault` of the log is called where it can't be
+    written. Raises LogError, LogInUse, OwnerError and OSError.
     """
 
     def __init__(self, folder: pathlib.Path, is_synced: bool) -> None:
         self.log = Log(folder / SENT, is_synced)
-        self.resets: collections.Counter[str] = collections.Counter()
+        self.epochs: collections.Counter[str] = collections.Counter()
+        self.marks: collections.defaultdict[str, str] = collections.defaultdict(str)
         self.former: dict[str, list[bytes]] = {}
         self._texts: dict[str, list[tuple[bytes, int]]] = {}
-        self._new: dict[str, list[tuple[int, bytes]]] = {}
+        self._passed: dict[str, list[Passed]] = {}
+        self._new: dict[str, list[New]] = {}
         self._safe: collections.Counter[str] = collections.Counter()
         self._firm: dict[str, int] = {}
         staged: dict[str, list[tuple[bytes, int]]] = {}
@@ -36,11 +55,17 @@ class Sent:
             with taking(line):
                 session = line["session"]
                 if line["kind"] == "reset":
-                    self.resets[session] += 1
+                    comp_id = comp_id_of(session)
+                    self.epochs[comp_id] = line.get("epoch", self.epochs[comp_id] + 1)
+                    self.marks[comp_id] = line.get("mark", "")
                     texts = [text for text, _ in self._texts.pop(session, [])]
                     self.former.setdefault(session, []).extend(texts)
+                    self._passed.pop(session, None)
                     anew, count = staged.pop(session, []), int(line.get("anew", 0))
                     self._texts[session] = anew[len(anew) - count :]
+                elif line["kind"] == "passed":
+                    it = Passed(line["first"], line["last"], line["events"], line["since"])
+                    self._passed.setdefault(session, []).append(it)
                 else:
                     those = staged if line["kind"] == "anew" else self._texts
                     text = line["text"].encode("latin-1"), int(line.get("since", 0))
@@ -51,6 +76,10 @@ class Sent:
         number of the first message of it that wasn't settled then, 0 where that isn't known.
         """
         return {number_of(text): (text, it) for text, it in self._texts.pop(session, [])}
+
+    def passed(self, session: str) -> list[Passed]:
+        """What a session was sent in earlier runs and isn't sent again."""
+        return self._passed.pop(session, [])
 
     def firm(self, session: str) -> int:
         """Up to which of its messages a session's answers are on the disk, and none of them."""
@@ -87,8 +116,8 @@ class Sent:
 
     def _take(self, engine: Engine) -> None:
         """Takes what was stored since the last time, to be written."""
-        for session, number, text in engine.stored():
-            self._new.setdefault(session, []).append((number, text))
+        for session, number, text, passes in engine.stored():
+            self._new.setdefault(session, []).append((number, text, passes))
 
     def write(
         self, engine: Engine, sessions: Mapping[str, Callable[[], int]], then: Callable[[], None]
@@ -112,14 +141,14 @@ class Sent:
 
         self.log.append("\n".join(lines), written)
 
-    async def begin_anew(self, engine: Engine, session: str, anew: Callable[[], None]) -> None:
+    async def begin_anew(self, engine: Engine, session: str, anew: Callable[[], Line]) -> None:
         """Begins a session anew, and writes that with all that it is sent anew: the line that says
-        so comes last, and what is before it is nothing without it.
+        so, with what `anew` returns, comes last, and what is before it is nothing without it.
         """
         self._take(engine)
         self._new.pop(session, None)
         self._following.pop(session, None)
-        anew()
+        said = anew()
         self._take(engine)
         texts, last = self._new.pop(session, []), engine.next(session) - 1
 
@@ -129,14 +158,34 @@ class Sent:
             self.reach(session, last)
 
         self.log.append("\n".join(lines_of("anew", session, 1, texts)))
-        self.log.note(begun, kind="reset", session=session, anew=len(texts))
+        self.log.note(begun, kind="reset", session=session, anew=len(texts), **said)
         await self.log.written()
 
 
-def lines_of(kind: str, session: str, since: int, texts: list[tuple[int, bytes]]) -> Iterator[str]:
+def comp_id_of(session: str) -> str:
+    """The client's CompID in a session, as QuickFIX names that."""
+    return session.rpartition("->")[2]
+
+
+def lines_of(kind: str, session: str, since: int, texts: list[New]) -> Iterator[str]:
     """The lines of what a session was sent, with the number of the first message of it that isn't
-    settled: an answer may be before those to messages that wait.
+    settled: an answer may be before those to messages that wait. What passes one after the other
+    has one line.
     """
     head = text_of({"kind": kind, "session": session, "since": since})[:-1]
-    for _, text in sorted(texts):
-        yield f'{head},"text":{json.dumps(text.decode("latin-1"))}}}'
+    placed = enumerate(sorted(texts))
+    for (passes, _), those in itertools.groupby(placed, lambda it: (it[1][2], it[1][0] - it[0])):
+        if passes:
+            yield passed_line(session, since, [it for _, it in those])
+        else:
+            yield from (f'{head},"text":{json.dumps(it[1].decode("latin-1"))}}}' for _, it in those)
+
+
+def passed_line(session: str, since: int, those: list[New]) -> str:
+    """The line of messages that pass, under numbers without a gap; it names what they answered,
+    each by its last answer.
+    """
+    events = (event_of(text, "", "") for _, text, _ in those)
+    answered = [it for it in events if it.rpartition(".")[2].isdecimal()]
+    said = {"first": those[0][0], "last": those[-1][0], "events": answered}
+    return text_of({"kind": "passed", "session": session, "since": since} | said)

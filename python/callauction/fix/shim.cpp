@@ -25,11 +25,11 @@ namespace py = pybind11;
 using Group = std::tuple<int, int, std::vector<py::list>>;      // the counting tag, the first tag, the rows
 using Event = std::tuple<std::string, std::string, py::bytes>;  // what, the session, the text
 using Said = std::tuple<std::string, py::dict, py::list>;       // the session, fields by their tags, those of groups
-using Stored = std::tuple<std::string, int, py::bytes>;         // the session, the number, the text
+using Stored = std::tuple<std::string, int, py::bytes, bool>;   // the session, the number, the text, whether it passes
 using Outgoing = std::tuple<int, py::bytes, int, bool>;         // the connection, bytes, last number, whether it ends
 using Accepts = std::function<bool(const std::string&, const py::bytes&)>;
 struct Kept { std::string what, session, text; };
-struct Fresh { std::string session; int number; std::string text; };
+struct Fresh { std::string session; int number; std::string text; bool passes; };
 
 namespace {
 
@@ -37,13 +37,18 @@ const size_t most_length = 65536, most_of_logon = 16384;  // bytes of a message'
 const size_t most_around = 1024;  // bytes around a message's body
 const size_t most_unsent = 65536;  // bytes to send with which a connection is read no further
 const int most_again = 64;  // messages that are sent again at a time
+const size_t most_ahead = 1 << 20;  // bytes of what came ahead of its turn on a connection, with which no more is kept
 const char* const unsupported = "3";
+const char* const unsupported_text = FIX::BusinessRejectReason_UNSUPPORTED_MESSAGE_TYPE_TEXT;
 const int last_tag = 1617;  // of the standard
 const size_t most_digits = 9, most_letters = 18;  // of a MsgSeqNum and a HeartBtInt, without zeros before and with them
 const size_t to_second = 17;  // letters of a time, without what is less than a second
+const size_t most_text = 200;  // letters of what a session says that are in the log
 const size_t most_shown = 24;  // letters of what a refused Logon says of itself
 const int most_wait = 10;  // seconds after which what was asked for is asked for again
 const int most_waits = 3;  // seconds in which a Logout is to be answered
+const std::string no_answer = "a Logout wasn't answered for " + std::to_string(most_waits) + " s";
+const char* const after_logout = "more than a message came after a Logout";
 const std::string too_low = "MsgSeqNum too low";  // how QuickFIX begins a Logout for one
 const std::string remedy =
     "; where yours are lost, the venue's operator resets the session, and you begin at 1 with an empty store";
@@ -56,8 +61,11 @@ const std::string bad_length = "BodyLength (9) is a number of at most " + std::t
 const char* const not_ended = "what came has no end of a message (10) where it says it has (9)";
 const char* const logged_on = "this connection is logged on: a Logon (35=A) is its first message alone; connect again";
 const std::set<std::string> taken_types = {"D", "F", "G", "H", "V", "g", "q", "x", "AF"};  // what members may say
+const std::set<std::string> venue_types = {"8", "9", "r", "W", "X", "Y", "h", "y", "AE", "j"};  // what it says itself
+const std::set<std::string> commands = {"D", "F", "G", "q"};  // of these, those that change orders
 const std::set<std::string> passing_types = {"W", "X", "h"};  // what isn't sent again
 const std::set<int> of_parties = {447, 448, 452};  // the tags of a row of NoPartyIDs
+const FIX::ApplVerID version("9");  // that of FIX.5.0SP2, of which messages over FIXT are
 const char* const reject = "3";
 const char* const reject_again = "U3";  // it is sent again, which QuickFIX does with no message of the session
 const int cancels_on_disconnect = 8013;  // Y in a Logon: CancelOrdersOnDisconnect
@@ -77,8 +85,30 @@ bool is_count(const std::string& text) {
   return text.size() - std::min(text.find_first_not_of('0'), text.size()) <= most_digits;
 }
 
-// A tag of a message at which something is wrong, and the SessionRejectReason for that; 0 where nothing is.
+// A tag of a message at which something is wrong, and the SessionRejectReason for that; 0 where nothing is, and less
+// where what stands for a tag is none.
 struct Slip { int tag = 0, reason = 0; };
+const Slip no_tag{-1, FIX::SessionRejectReason_INVALID_TAG_NUMBER};
+
+// Whether a field has no tag, which is a number of 1 to 9 digits from 1 on: QuickFIX would take it for another one.
+bool has_no_tag(const std::string& text) {
+  for (size_t begin = 0; begin < text.size();) {
+    const size_t end = std::min(text.find('\001', begin), text.size());
+    const size_t size = std::min(text.find_first_of("=\001", begin), end) - begin;
+    if (size < 1 || size > most_digits || text[begin] == '0') return true;
+    for (size_t at = begin; at < begin + size; ++at) if (text[at] < '0' || text[at] > '9') return true;
+    begin = end + 1;
+  }
+  return false;
+}
+
+// What QuickFIX says of a slip.
+const char* said_of(const Slip& slip) {
+  const bool is_missing = slip.reason == FIX::SessionRejectReason_REQUIRED_TAG_MISSING;
+  if (is_missing) return FIX::SessionRejectReason_REQUIRED_TAG_MISSING_TEXT;
+  if (slip.tag < 0) return FIX::SessionRejectReason_INVALID_TAG_NUMBER_TEXT;
+  return FIX::SessionRejectReason_SENDINGTIME_ACCURACY_PROBLEM_TEXT;
+}
 
 // What is wrong in the head of a message that QuickFIX would take, or end its session for without a word. By the
 // standard a message that is sent again says when it was first, in an earlier second or the same one.
@@ -120,14 +150,16 @@ std::string addressed(FIX::Message& message, const FIX::SessionID& id, int numbe
 
 // A store in memory that nothing but the operator's wish begins anew: QuickFIX would at the end of a session's day, and
 // for a Logon with ResetSeqNumFlag. Whoever has the engine keeps what is `fresh`, and restores it; the next message is
-// none where it has the number `known`.
+// none where it has the number `known`. What isn't sent again isn't kept: where `passes` is set, the next message.
 class KeptStore : public FIX::MemoryStore {
  public:
   KeptStore(const FIX::SessionID& id, std::vector<Fresh>& fresh) : id_(id), session_(id.toString()), fresh_(fresh) {}
   bool set(int number, const std::string& text) throw(FIX::IOException) {
-    if (number != known) fresh_.push_back({session_, number, text});
+    const bool is_passing = passes || passing_types.count(type_of(text));
+    if (number != known) fresh_.push_back({session_, number, text, is_passing});
     known = 0;
-    return keep(number, text);
+    passes = false;
+    return is_passing || keep(number, text);
   }
   // What has numbers from `begin` to `end`. A Heartbeat is in the place of the last one where nothing has that number:
   // QuickFIX sends a gap in place of all that the numbers before it haven't, and of it.
@@ -143,7 +175,7 @@ class KeptStore : public FIX::MemoryStore {
     messages.push_back(addressed(nothing, id_, end));
   }
   void restore(int number, const std::string& text) {
-    keep(number, text);
+    if (!passing_types.count(type_of(text))) keep(number, text);
     setNextSenderMsgSeqNum(std::max(number + 1, getNextSenderMsgSeqNum()));
   }
   FIX::UtcTimeStamp getCreationTime() const throw(FIX::IOException) { return FIX::UtcTimeStamp(); }
@@ -152,7 +184,7 @@ class KeptStore : public FIX::MemoryStore {
     FIX::MemoryStore::reset();
     numbers_.clear();
   }
-  bool may_begin_anew = false;
+  bool may_begin_anew = false, passes = false;
   int known = 0;
 
  private:
@@ -189,6 +221,7 @@ class Reader {
   void add(const std::string& data) { bytes_ += data; }
   // Takes the next whole message: whether there is one. Raises MessageParseError where its length can't be.
   bool read(std::string& text) {
+    is_within = false;
     size_t body = 0;
     int length = 0;
     const size_t begin = bytes_.find("8=");
@@ -196,7 +229,8 @@ class Reader {
     bytes_.erase(0, begin);
     if (!parser_.extractLength(length, body, bytes_)) return false;
     if (length > static_cast<int>(most_length)) throw FIX::MessageParseError();
-    if (bytes_.size() < body + length) return false;
+    is_within = bytes_.size() < body + length;
+    if (is_within) return false;
     const size_t sum = bytes_.find("\00110=", body + length - 1);
     const size_t end = sum == std::string::npos ? sum : bytes_.find('\001', sum + 4);
     if (end == std::string::npos) return false;
@@ -204,6 +238,7 @@ class Reader {
     bytes_.erase(0, end + 1);
     return true;
   }
+  bool is_within = false;  // whether a message has begun whose length is known, and isn't whole
 
  private:
   FIX::Parser parser_;
@@ -230,6 +265,9 @@ struct Wire : FIX::Responder {
   FIX::Session* session = nullptr;
   Asked asked;
   size_t unread = 0;
+  std::set<int> early;  // the numbers of messages that came before their turn, and are refused where they come again
+  std::map<int, std::string> ahead;  // commands that QuickFIX keeps until their turn, by their numbers
+  size_t kept = 0;  // bytes that it was given so to keep: it forgets none over which a gap is filled
   std::string out, logout;  // to be sent; a Logout that came, and is answered after all that came before it
   Again again;
   bool is_part = false;  // whether what is sent now is a part of that
@@ -291,6 +329,9 @@ class Engine : public FIX::Application, FIX::LogFactory {
     return !wire.is_closed;
   }
 
+  // Whether a session's message has begun on a connection that isn't whole; it is no longer than one may be.
+  bool is_within(int number) { return wires_.at(number)->session && wires_.at(number)->reader.is_within; }
+
   // Whether a connection has said a Logout, which QuickFIX would answer at once: `log_off` does, once all that was said
   // before is answered.
   bool is_leaving(int number) { return !wires_.at(number)->logout.empty(); }
@@ -338,7 +379,9 @@ class Engine : public FIX::Application, FIX::LogFactory {
       Wire& wire = *each.second;
       if (!wire.session) continue;
       wire.session->next();
-      if (acceptor_ && wire.session->sentLogout() && ++wire.waits > most_waits) wire.is_closed = true;
+      if (!acceptor_ || wire.is_closed || !wire.session->sentLogout() || ++wire.waits <= most_waits) continue;
+      put_end(wire, no_answer);
+      wire.is_closed = true;
     }
   }
 
@@ -346,6 +389,7 @@ class Engine : public FIX::Application, FIX::LogFactory {
   void log_out(int number, const std::string& why) {
     FIX::Session* found = wires_.at(number)->session;
     if (!found) return;
+    put_end(*wires_.at(number), why);
     end_again(*wires_.at(number));
     found->logout(why);
     found->next();
@@ -378,23 +422,26 @@ class Engine : public FIX::Application, FIX::LogFactory {
   // All messages that were stored since the last time, in their order.
   std::vector<Stored> stored() {
     std::vector<Stored> found;
-    for (auto& each : stores_.fresh) found.emplace_back(each.session, each.number, py::bytes(each.text));
+    for (auto& each : stores_.fresh) found.emplace_back(each.session, each.number, py::bytes(each.text), each.passes);
     stores_.fresh.clear();
     return found;
   }
 
   // Stores a message under the next number and sends it, or leaves it to a later resend: the number. Where that is
-  // `known`, it isn't among those that were `stored`, and says that it was sent at this time. Raises where it couldn't
-  // be stored.
+  // `known`, it isn't among those that were `stored`, and says that it was sent at this time; one that `passes` isn't
+  // sent again. Raises where it couldn't be stored.
   int send(
       const std::string& session, const std::string& type, const py::list& pairs, const std::vector<Group>& groups,
-      int known, const std::string& time) {
+      int known, const std::string& time, bool passes) {
     FIX::Session& to = of(session);
     const int number = to.getExpectedSenderNum();
     FIX::Message message;
     fill(message, type, pairs, groups);
     const auto kept = stores_.stores.find(to.getSessionID());
-    if (kept != stores_.stores.end()) kept->second->known = known;
+    if (kept != stores_.stores.end()) {
+      kept->second->known = known;
+      kept->second->passes = passes;
+    }
     time_ = number == known ? time : "";
     if (!to.send(message)) throw std::runtime_error("not stored: " + session);
     return number;
@@ -472,19 +519,17 @@ class Engine : public FIX::Application, FIX::LogFactory {
       ends_ = wrong_time;
       message.setField(FIX::RefTagID(late_tag()));
     }
-    if (reason == FIX::SessionRejectReason_INVALID_TAG_NUMBER) tell_other_tag(message);
+    const int undefined = FIX::SessionRejectReason_TAG_NOT_DEFINED_FOR_THIS_MESSAGE_TYPE;
+    if (reason == FIX::SessionRejectReason_INVALID_TAG_NUMBER || reason == undefined) tell_other_tag(message);
     if (reason != FIX::SessionRejectReason_INVALID_MSGTYPE) return;
     message.getHeader().setField(FIX::FIELD::MsgType, "j");
     message.removeField(FIX::FIELD::SessionRejectReason);
     message.setField(FIX::FIELD::BusinessRejectReason, unsupported);
   }
 
-  // What a market was long ago isn't sent again.
   void toApp(FIX::Message& message, const FIX::SessionID&) throw(FIX::DoNotSend) override {
     FIX::Header& header = message.getHeader();
-    const std::string type = header.getField(FIX::FIELD::MsgType);
-    if (header.isSetField(FIX::FIELD::PossDupFlag) && passing_types.count(type)) throw FIX::DoNotSend();
-    if (type == reject_again) header.setField(FIX::MsgType(reject));
+    if (header.getField(FIX::FIELD::MsgType) == reject_again) header.setField(FIX::MsgType(reject));
     if (!time_.empty()) header.setField(FIX::FIELD::SendingTime, time_);
     time_.clear();
   }
@@ -494,7 +539,10 @@ class Engine : public FIX::Application, FIX::LogFactory {
     if (!acceptor_) return;
     const std::string type = message.getHeader().getField(FIX::FIELD::MsgType);
     if (type == "4") {
+      const int number = FIX::IntConvertor::convert(message.getHeader().getField(FIX::FIELD::MsgSeqNum));
+      if (hearing_ && hearing_->early.erase(number)) return;
       check_gap(message, of(id.toString()));
+      say_filled(FIX::IntConvertor::convert(message.getField(FIX::FIELD::NewSeqNo)), id);
       say(message, id);
     }
     if (type == "2") check_range(message, of(id.toString()));
@@ -502,7 +550,10 @@ class Engine : public FIX::Application, FIX::LogFactory {
   void fromApp(const FIX::Message& message, const FIX::SessionID& id) throw(
       FIX::FieldNotFound, FIX::IncorrectDataFormat, FIX::IncorrectTagValue, FIX::UnsupportedMessageType) override {
     const std::string type = message.getHeader().getField(FIX::FIELD::MsgType);
-    if (acceptor_ && type == "j") return;  // to a refusal nothing is said
+    if (acceptor_ && type == "j") {  // which came ahead of its turn
+      put_refusal(id.toString(), message.toString());
+      return;
+    }
     if (acceptor_ && !taken_types.count(type)) throw FIX::UnsupportedMessageType();
     if (acceptor_) check_groups(message);
     say(message, id);
@@ -540,6 +591,7 @@ class Engine : public FIX::Application, FIX::LogFactory {
     if (!wire.again.asked.empty()) return send_part(wire);
     if (!wire.logout.empty()) {
       wire.is_closed = is_too_much(wire);
+      if (wire.is_closed) put_end(wire, after_logout);
       return false;
     }
     std::string text;
@@ -572,8 +624,13 @@ class Engine : public FIX::Application, FIX::LogFactory {
       refused(why);
       return;
     }
-    put("event", wire.session->getSessionID().toString(), "a connection is ended: " + why);
+    put_end(wire, why);
     say_why(wire, why);
+  }
+
+  // Says why a connection is ended, whose session is known.
+  void put_end(const Wire& wire, const std::string& why) {
+    put("event", wire.session->getSessionID().toString(), "a connection is ended: " + why);
   }
 
   // Takes a message. One with a wrong checksum is passed over, as the standard says.
@@ -582,14 +639,16 @@ class Engine : public FIX::Application, FIX::LogFactory {
     hearing_ = &wire;
     try {
       if (!wire.session) wire.is_closed = !begins(wire, text) || !takes_logon(wire, text);
-      else if (acceptor_ && type_of(text) == "A") wire.is_closed = !say_why(wire, logged_on);
-      else if (acceptor_ && !has_head(text) && !is_passed(wire, text)) return;
+      else if (acceptor_ && type_of(text) == "A") end(wire, logged_on);
+      else if (acceptor_ && (is_beyond(wire, text) || !is_passed(wire, text))) {}  // which is done with
       else if (acceptor_ && is_long(wire, text)) begin_again(wire, text);
       else hand(wire, text);
     } catch (FIX::InvalidMessage&) {
       wire.is_closed = !wire.session || !wire.session->isLoggedOn();
-    } catch (FIX::Exception&) {
+      if (wire.is_closed && wire.session) put_end(wire, "a message whose length or sum is wrong isn't after a Logon");
+    } catch (FIX::Exception& it) {
       wire.is_closed = true;
+      if (wire.session) put_end(wire, it.what());
     }
     heard_ = nullptr;
     hearing_ = nullptr;
@@ -597,13 +656,50 @@ class Engine : public FIX::Application, FIX::LogFactory {
 
   // Gives QuickFIX a message. It would count a Logout or a Reject also where messages before it are missing, and then
   // never ask for one of those.
-  static void hand(const Wire& wire, const std::string& text) {
+  static void hand(Wire& wire, const std::string& text) {
     FIX::Session& session = *wire.session;
     const int expected = session.getExpectedTargetNum();
     session.setSendRedundantResendRequests(asks_again(wire.asked, text, expected));
     session.next(text, FIX::UtcTimeStamp());
+    keep_ahead(wire, text);
     if (session.getExpectedTargetNum() == expected || type_of(text) == "4") return;
     if (FIX::IntConvertor::convert(value_of(text, "34")) != expected) session.setNextTargetMsgSeqNum(expected);
+  }
+
+  // Counts what QuickFIX keeps until its turn, and keeps each command of that: it says nothing of one where a gap is
+  // filled over that.
+  static void keep_ahead(Wire& wire, const std::string& text) {
+    const int expected = wire.session->getExpectedTargetNum();
+    wire.ahead.erase(wire.ahead.begin(), wire.ahead.lower_bound(expected));
+    if (!wire.session->isLoggedOn() || !is_ahead(text, expected)) return;
+    const int number = FIX::IntConvertor::convert(value_of(text, "34"));
+    wire.kept += text.size() + most_around;
+    if (commands.count(type_of(text))) wire.ahead[number] = text;
+  }
+
+  // Whether QuickFIX keeps a message until its turn, as it is too early: it takes at once a ResendRequest, a Reject, a
+  // Logout, and a SequenceReset that fills no gap.
+  static bool is_ahead(const std::string& text, int expected) {
+    const std::string number = value_of(text, "34");
+    if (!is_count(number) || FIX::IntConvertor::convert(number) <= expected) return false;
+    const std::string type = type_of(text);
+    return type != "2" && type != "3" && type != "5" && (type != "4" || value_of(text, "123") == "Y");
+  }
+
+  // Whether a message is passed over, as it came ahead of its turn after as much as is kept: what is before it is asked
+  // for, and it comes again after that.
+  bool is_beyond(Wire& wire, const std::string& text) {
+    FIX::Session& session = *wire.session;
+    const int expected = session.getExpectedTargetNum();
+    if (wire.kept <= most_ahead || !is_ahead(text, expected)) return false;
+    if (!asks_again(wire.asked, text, expected)) return true;
+    put("event", session.getSessionID().toString(), "too much came ahead of its turn, and is asked for again");
+    FIX::Message message;
+    message.getHeader().setField(FIX::MsgType("2"));
+    message.setField(FIX::BeginSeqNo(expected));
+    message.setField(FIX::EndSeqNo(0));
+    session.send(message);
+    return true;
   }
 
   // Whether messages are asked for again where this one is too early. QuickFIX takes what it has asked for as being on
@@ -677,13 +773,16 @@ class Engine : public FIX::Application, FIX::LogFactory {
     if (again.is_begun) part.getHeader().setField(FIX::SendingTime(FIX::UtcTimeStamp(), 3));
     part.setField(FIX::BeginSeqNo(again.begin));
     part.setField(FIX::EndSeqNo(last));
+    std::string why;
     wire.is_part = is_quiet_ = true;
     try {
       wire.session->next(part.toString(), FIX::UtcTimeStamp());
-    } catch (FIX::Exception&) {
+    } catch (FIX::Exception& it) {
       wire.is_closed = true;
+      why = it.what();
     }
     wire.is_part = is_quiet_ = false;
+    if (!why.empty()) put_end(wire, why);
     again.begin = last + 1;
     again.is_begun = true;
     if (again.begin > again.end || wire.is_closed || counts_.rejects != refused) end_again(wire);
@@ -702,9 +801,91 @@ class Engine : public FIX::Application, FIX::LogFactory {
     return is_count(value_of(text, "34")) && value_of(text, "43") != "Y";
   }
 
-  // Whether QuickFIX is to have a message: not one that has no number, which ends the session, nor one whose head has
-  // another fault, which is refused. Raises InvalidMessage where its length or its sum is wrong.
+  // Whether QuickFIX is to have a message: not one that has no number, which ends the session, nor one that has another
+  // fault in its head or tags, which is refused; nor one that QuickFIX would refuse out of its turn. Raises
+  // InvalidMessage where its length or its sum is wrong.
   bool is_passed(Wire& wire, const std::string& text) {
+    const bool has_tags = !has_no_tag(text);
+    if (!has_tags || !has_head(text)) return is_right(wire, text, has_tags) && !is_venue_s(wire, text);
+    const int number = FIX::IntConvertor::convert(value_of(text, "34"));
+    if (number != wire.session->getExpectedTargetNum()) return !is_out_of_turn(wire, text, number, false);
+    return !is_venue_s(wire, text);
+  }
+
+  // Whether a message that is expected is of a type that the venue alone may send: whatever is in it, it is refused as
+  // each other type that members may not send, but a refusal, which is logged. Raises as `is_passed`.
+  bool is_venue_s(Wire& wire, const std::string& text) {
+    const std::string type = type_of(text);
+    const int number = FIX::IntConvertor::convert(value_of(text, "34"));
+    FIX::Session& session = *wire.session;
+    if (!venue_types.count(type) || number != session.getExpectedTargetNum() || !is_of(session, text)) return false;
+    pass_over(wire, number);
+    const std::string name = session.getSessionID().toString();
+    if (type == "j") {
+      put_refusal(name, text);
+      return true;
+    }
+    put("event", name, "Message " + std::to_string(number) + " Rejected: " + unsupported_text);
+    FIX::Message message;
+    message.getHeader().setField(FIX::MsgType("j"));
+    message.setField(FIX::FIELD::RefSeqNum, std::to_string(number));
+    message.setField(FIX::FIELD::RefMsgType, type);
+    message.setField(FIX::FIELD::BusinessRejectReason, unsupported);
+    message.setField(FIX::Text(unsupported_text));
+    session.send(message);
+    return true;
+  }
+
+  // Whether a message has the ids of its session, and the time. Raises InvalidMessage as `is_passed`.
+  static bool is_of(FIX::Session& session, const std::string& text) {
+    FIX::Message message;
+    message.setString(text, true);
+    const FIX::Header& head = message.getHeader();
+    const FIX::SessionID& id = session.getSessionID();
+    try {
+      FIX::SendingTime time;
+      head.getField(time);
+      const bool is_now = std::labs(FIX::UtcTimeStamp() - time) <= session.getMaxLatency();
+      const bool is_sender = head.getField(FIX::FIELD::SenderCompID) == id.getTargetCompID().getValue();
+      return is_now && is_sender && head.getField(FIX::FIELD::TargetCompID) == id.getSenderCompID().getValue();
+    } catch (FIX::Exception&) {
+      return false;
+    }
+  }
+
+  // Says what a client has refused; the venue says nothing to it.
+  void put_refusal(const std::string& session, const std::string& text) {
+    put("event", session, "Received BusinessMessageReject of " + shown(text, "45") + ": " + shown(text, "58"));
+  }
+
+  // What a message says under a tag, as it may be in the log.
+  static std::string shown(const std::string& text, const std::string& tag) {
+    std::string found = value_of(text, tag.c_str()).substr(0, most_text);
+    for (char& letter : found) if (letter < ' ' || letter > '~') letter = '?';
+    return found;
+  }
+
+  // Has QuickFIX expect what is after a message, as after a gap in its place.
+  static void pass_over(Wire& wire, int number) {
+    wire.early.insert(number);
+    hand(wire, gap_of(wire, number, number + 1));
+    wire.early.erase(number);
+  }
+
+  // A gap that a session is given in place of its own messages.
+  static std::string gap_of(const Wire& wire, int number, int end) {
+    const FIX::SessionID& id = wire.session->getSessionID();
+    FIX::Message gap;
+    gap.getHeader().setField(FIX::MsgType("4"));
+    gap.getHeader().setField(FIX::SendingTime(FIX::UtcTimeStamp(), 3));
+    gap.setField(FIX::GapFillFlag(true));
+    gap.setField(FIX::NewSeqNo(end));
+    const FIX::SessionID theirs(id.getBeginString(), id.getTargetCompID().getValue(), id.getSenderCompID().getValue());
+    return addressed(gap, theirs, number);
+  }
+
+  // Whether a message whose tags or head may have a fault has none.
+  bool is_right(Wire& wire, const std::string& text, bool has_tags) {
     FIX::Message message;
     message.setString(text, true);
     FIX::Header& head = message.getHeader();
@@ -716,24 +897,56 @@ class Engine : public FIX::Application, FIX::LogFactory {
       wire.is_closed = !say_why(wire, why);
       return false;
     }
-    const bool is_expected = FIX::IntConvertor::convert(number) == wire.session->getExpectedTargetNum();
-    const Slip slip = slip_of(head, is_expected);
+    const int place = FIX::IntConvertor::convert(number);
+    const bool is_expected = place == wire.session->getExpectedTargetNum();
+    const Slip slip = has_tags ? slip_of(head, is_expected) : no_tag;
+    if (!is_expected && is_out_of_turn(wire, text, place, slip.tag)) return false;
     if (slip.tag) refuse(*wire.session, head, slip, is_expected);
     return !slip.tag;
+  }
+
+  // Whether a message of a member that is refused has come out of its turn, as it comes again or came before: of one
+  // that is too early, what is before it is asked for.
+  bool is_out_of_turn(Wire& wire, const std::string& text, int number, bool has_slip) {
+    const bool is_early = number > wire.session->getExpectedTargetNum();
+    if (FIX::Message::isAdminMsgType(type_of(text)) || (!is_early && value_of(text, "43") != "Y")) return false;
+    if (!has_slip && is_known(*wire.session, text)) return false;
+    if (is_early) ask_before(wire, number);
+    return true;
+  }
+
+  // Whether QuickFIX finds nothing wrong in a message by its dictionaries.
+  static bool is_known(FIX::Session& session, const std::string& text) {
+    const FIX::DataDictionaryProvider& all = session.getDataDictionaryProvider();
+    const FIX::DataDictionary& own = all.getSessionDataDictionary(session.getSessionID().getBeginString());
+    const FIX::DataDictionary& app = session.getSessionID().isFIXT() ? all.getApplicationDataDictionary(version) : own;
+    try {
+      FIX::DataDictionary::validate(FIX::Message(text, own, app, true), &own, &app);
+    } catch (FIX::InvalidMessage&) {  // which is passed over
+    } catch (FIX::Exception&) {
+      return false;
+    }
+    return true;
+  }
+
+  // Has QuickFIX ask for what is before a message that is too early: it has a gap of no length in its place, so that
+  // the message is expected where it comes again.
+  void ask_before(Wire& wire, int number) {
+    wire.early.insert(number);
+    hand(wire, gap_of(wire, number, number));
+    wire.asked.end = std::max(wire.asked.end, number);
   }
 
   // Refuses a message by a Reject, after which the next one is expected.
   void refuse(FIX::Session& session, const FIX::Header& head, const Slip& slip, bool is_expected) {
     const std::string number = head.getField(FIX::FIELD::MsgSeqNum), type = head.getField(FIX::FIELD::MsgType);
-    const char* const text = slip.reason == FIX::SessionRejectReason_REQUIRED_TAG_MISSING
-        ? FIX::SessionRejectReason_REQUIRED_TAG_MISSING_TEXT
-        : FIX::SessionRejectReason_SENDINGTIME_ACCURACY_PROBLEM_TEXT;
+    const char* const text = said_of(slip);
     put("event", session.getSessionID().toString(), "Message " + number + " Rejected: " + text);
     FIX::Message message;
     message.getHeader().setField(FIX::MsgType(reject));
     message.setField(FIX::FIELD::RefSeqNum, number);
     message.setField(FIX::FIELD::RefMsgType, type);
-    message.setField(FIX::RefTagID(slip.tag));
+    if (slip.tag > 0) message.setField(FIX::RefTagID(slip.tag));
     message.setField(FIX::SessionRejectReason(slip.reason));
     message.setField(FIX::Text(text));
     if (is_expected && type != "4") session.setNextTargetMsgSeqNum(FIX::IntConvertor::convert(number) + 1);
@@ -755,6 +968,7 @@ class Engine : public FIX::Application, FIX::LogFactory {
     }
     if (!wire.out.empty()) return !wire.is_closed;
     const std::string why = fault_of(*wire.session, text);
+    put_end(wire, why.empty() ? "its Logon has a wrong length or sum" : why);
     return !why.empty() && say_why(wire, why);
   }
 
@@ -825,12 +1039,14 @@ class Engine : public FIX::Application, FIX::LogFactory {
   // Whether a first message is a Logon with the password of a session that isn't on. No other reaches its session: that
   // would reset or answer before it asked for a password.
   bool begins(Wire& wire, const std::string& text) {
+    if (has_no_tag(text)) return refused("a tag is no number of at most 9 digits");
     FIX::Message message;
     message.setString(text, false);
     FIX::Session* found = FIX::Session::lookupSession(text, true);
     if (!found) return refused("no session is " + sides_of(text));
     const std::string name = found->getSessionID().toString();
-    const std::string type = message.getHeader().getField(FIX::FIELD::MsgType);
+    const FIX::Header& head = message.getHeader();
+    const std::string type = head.getField(FIX::FIELD::MsgType);
     if (type != "A" || !message.isSetField(FIX::FIELD::Password)) return refused("no Logon with a Password", name);
     const py::bytes password(message.getField(FIX::FIELD::Password));
     if (!accepts_(name, password)) return refused("a wrong Password, or it can't be taken yet", name);
@@ -842,7 +1058,8 @@ class Engine : public FIX::Application, FIX::LogFactory {
     const bool cancels = is_set(message, cancels_on_disconnect);
     cancelling_.erase(found->getSessionID());
     if (cancels) cancelling_.insert(found->getSessionID());
-    put("begins", name, cancels ? "Y" : "N");
+    const int time = FIX::FIELD::SendingTime;
+    put("begins", name, (cancels ? "Y" : "N") + (head.isSetField(time) ? head.getField(time) : ""));
     found->logon();  // after a Logout of the venue too
     wire.session = acceptor_->getSession(text, wire);
     if (wire.session) taken_.insert(wire.session);
@@ -913,6 +1130,21 @@ class Engine : public FIX::Application, FIX::LogFactory {
     for (const int tag : {FIX::FIELD::NoMDEntryTypes, FIX::FIELD::NoRelatedSym})
       if (message.isSetField(tag) && FIX::IntConvertor::convert(message.getField(tag)) < 1)
         throw FIX::IncorrectTagValue(tag);
+  }
+
+  // A session fills a gap up to this number: of each command that came ahead of its turn it is said that it won't come
+  // again, by a GapFillFlag, which it can't have.
+  void say_filled(int end, const FIX::SessionID& id) {
+    if (!hearing_) return;
+    auto& ahead = hearing_->ahead;
+    const auto last = ahead.lower_bound(end);
+    for (auto each = ahead.lower_bound(of(id.toString()).getExpectedTargetNum()); each != last; ++each) {
+      FIX::Message message;
+      message.setString(each->second, false);
+      message.setField(FIX::GapFillFlag(true));
+      say(message, id);
+    }
+    ahead.erase(ahead.begin(), last);
   }
 
   // A session says this: its fields by their tags, the last one of each, and those of groups in their order.
@@ -1027,6 +1259,7 @@ PYBIND11_MODULE(_quickfix, module) {
       .def("connect", &Engine::connect)
       .def("begin", &Engine::begin)
       .def("feed", &Engine::feed)
+      .def("is_within", &Engine::is_within)
       .def("is_leaving", &Engine::is_leaving)
       .def("log_off", &Engine::log_off)
       .def("outgoing", &Engine::outgoing)
@@ -1039,7 +1272,8 @@ PYBIND11_MODULE(_quickfix, module) {
       .def("said", &Engine::said)
       .def("stored", &Engine::stored)
       .def("send", &Engine::send, py::arg("session"), py::arg("type"), py::arg("pairs"),
-           py::arg("groups") = std::vector<Group>(), py::arg("known") = 0, py::arg("time") = "")
+           py::arg("groups") = std::vector<Group>(), py::arg("known") = 0, py::arg("time") = "",
+           py::arg("passes") = false)
       .def("store", &Engine::store)
       .def("next", &Engine::next)
       .def("set_next", &Engine::set_next)

@@ -18,7 +18,7 @@ Rows = dict[str, Pairs]
 
 def rows_of(board: Instrument, levels: Sequence[views.Level]) -> Rows:
     """All that a board indicates: price, volume and surplus, or the best limits without a price,
-    with their shares where the levels of its book are given; nothing on a day that is over.
+    with their visible shares where the levels of its book are given; nothing on a day that is over.
     """
     if board.state.phase is Phase.OVER:
         return {}

@@ -45,7 +45,7 @@ class Stream:
 
     def end_before(self, number: int) -> None:
         """Sends what ends with the board, where that is of a round before this one."""
-        is_behind = self.board.board.round < number and self._place >= self.board.engine.count
+        is_behind = self.board.identity.round < number and self._place >= self.board.engine.count
         for report in self.orders.over() if is_behind else ():
             self._tell(report)
 

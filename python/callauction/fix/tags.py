@@ -1,4 +1,5 @@
 """Messages by FIX as pairs of tags and values, and the values that the venue uses."""
+import calendar
 import enum
 import functools
 import time
@@ -15,6 +16,7 @@ class Tag:
     CUM_QTY = 14
     CURRENCY = 15
     EXEC_ID = 17
+    EXEC_INST = 18
     LAST_PX = 31
     LAST_QTY = 32
     BEGIN_SEQ_NO = 7
@@ -29,6 +31,7 @@ class Tag:
     POSS_DUP = 43
     PRICE = 44
     REF_SEQ_NUM = 45
+    SECURITY_ID = 48
     SIDE = 54
     SYMBOL = 55
     TEXT = 58
@@ -41,9 +44,12 @@ class Tag:
     MAX_FLOOR = 111
     TEST_REQ_ID = 112
     ORIG_SENDING_TIME = 122
+    GAP_FILL = 123
+    EXPIRE_TIME = 126
     NO_RELATED_SYM = 146
     EXEC_TYPE = 150
     LEAVES_QTY = 151
+    SECURITY_TYPE = 167
     MD_REQ_ID = 262
     SUBSCRIPTION_REQUEST_TYPE = 263
     MARKET_DEPTH = 264
@@ -184,19 +190,25 @@ def pairs_of(text: bytes) -> Pairs:
     return [(int(tag), value) for tag, _, value in parts if tag.isdigit()]
 
 
-def refusal_of(comp_id: str, number: object, epoch: int) -> str:
-    """The id of the answer to a message that wasn't executed, of a session that was reset so often
-    before.
+def epoch_name(epoch: int, mark: str) -> str:
+    """How ids name the epoch of a session, which a reset began: its number, behind the mark of the
+    last restore before that, as what was lost then had the same; empty where it wasn't reset.
+    """
+    return f"{mark}-{epoch}" if epoch and mark else str(epoch or "")
+
+
+def refusal_of(comp_id: str, number: object, epoch: str) -> str:
+    """The id of the answer to a message that wasn't executed, of a session in an epoch by its name.
     """
     return f"R.{comp_id}.{f'{epoch}.' if epoch else ''}{number}"
 
 
-def event_of(text: bytes, comp_id: str, epoch: int) -> str:
+def event_of(text: bytes, comp_id: str, epoch: str) -> str:
     """The id of what a message to a session says, empty where it has none."""
     return event_in(dict(pairs_of(text)), comp_id, epoch)
 
 
-def event_in(given: Given, comp_id: str, epoch: int) -> str:
+def event_in(given: Given, comp_id: str, epoch: str) -> str:
     """The id of what a message to a session says, by its fields; empty where it has none."""
     kind = given.get(Tag.MSG_TYPE, "")
     if kind in REJECTS:
@@ -231,6 +243,15 @@ def is_recent(text: str, seconds: int) -> bool:
     current = now()
     is_this_second = text[:SECOND_LETTERS] == current[:SECOND_LETTERS]
     return text <= current and (is_this_second or now(seconds) <= text)
+
+
+def seconds_of(text: str) -> float:
+    """A time as FIX has it in seconds of the epoch, 0 for what is none."""
+    second, part = text[:SECOND_LETTERS], text[SECOND_LETTERS:]
+    try:
+        return calendar.timegm(time.strptime(second, "%Y%m%d-%H:%M:%S")) + float(f"0{part}")
+    except ValueError:
+        return 0.0
 
 
 @functools.lru_cache(2)

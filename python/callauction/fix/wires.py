@@ -2,6 +2,7 @@
 and it takes no more than a share of the time.
 """
 import asyncio
+import logging
 import time
 from typing import Protocol
 
@@ -21,6 +22,9 @@ ANSWER_SECONDS = 5.0
 """How long the connection of a session that logs on once more may say nothing: then nobody is there
 any more, and the next Logon is taken.
 """
+UNREAD = f"it left more than {MOST_UNSENT} bytes unread"
+SILENT = f"it said nothing for {ANSWER_SECONDS:g} s, and its session logs on once more"
+NOTICES = logging.getLogger("callauction.venue")
 BUSY_SHARE = 4
 """How often that time passes before more is read of it."""
 
@@ -69,6 +73,7 @@ class Wire(asyncio.Protocol):
         self.topics: frozenset[str] = frozenset()
         self._is_left = self._is_full = self._is_paused = False
         self._is_asked = self._is_ending = False
+        self._why = ""
         self._rests_until = 0.0
         self.seat: Seat | None = None
 
@@ -93,7 +98,8 @@ class Wire(asyncio.Protocol):
         seat = self._host.heard(self)
         if seat is not None and self.seat is None:
             self._begun(seat)
-        if seat is not None and seat.is_busy:
+        is_within = self._host.engine.is_within(self.number)
+        if seat is not None and (seat.is_busy or is_within):
             self._gate.untaken = 0
         self._host.take()
         if not self._is_ending and self._host.engine.is_leaving(self.number):
@@ -142,7 +148,7 @@ class Wire(asyncio.Protocol):
             self._host.has_news()
         self._transport.write(data)
         if self._transport.get_write_buffer_size() > MOST_UNSENT:
-            self._transport.abort()
+            self.cut(UNREAD)
         elif is_last:
             self._transport.close()
         elif self._is_left:
@@ -171,15 +177,16 @@ class Wire(asyncio.Protocol):
         """Ends where nothing was said, and not for what is still to be taken."""
         is_busy = self.seat is not None and self.seat.is_busy
         if self._is_asked and not is_busy:
-            self.cut()
+            self.cut(SILENT)
         self._is_asked = False
 
     def end(self) -> None:
         """Ends once all was sent."""
         self._transport.close()
 
-    def cut(self) -> None:
-        """Ends at once."""
+    def cut(self, why: str) -> None:
+        """Ends at once, for this reason."""
+        self._why = self._why or why
         self._transport.abort()
 
     def pause_writing(self) -> None:
@@ -193,5 +200,10 @@ class Wire(asyncio.Protocol):
         self.go_on()
 
     def connection_lost(self, fault: Exception | None) -> None:
-        """It has ended."""
+        """It has ended, which is said of a session's where the venue hasn't logged it out."""
+        why = self._why or self._gate.why or (f"{fault}" if fault else "")
+        if self.seat is not None and why:
+            session = self.seat.session
+            kind = {"of": f"end {session}"}
+            NOTICES.info("fix: event %s a connection is ended: %s", session, why, extra=kind)
         self._host.lost(self)
