@@ -17,44 +17,55 @@ def price(chance: random.Random) -> str:
     return f"{chance.randint(LOW, HIGH) / 100:.2f}"
 
 
-async def play(
-    venue: Served, token: str, pause: float, seed: int, stopped: threading.Event
-) -> None:
-    """Enters, changes and deletes orders until it is stopped."""
+async def play(venue: Served, token: str, pause: float, seed: int, market: str | None) -> None:
+    """Enters, changes and deletes orders for good."""
     chance = random.Random(seed)
     orders: list[int] = []
     async with AsyncClient(venue.url, token) as me:
-        while not stopped.is_set():
+        while True:
             with contextlib.suppress(VenueError):
+                quantity, limit = chance.randint(1, 1000), price(chance)
                 if len(orders) < 3:
                     side = chance.choice(["bid", "ask"])
-                    answer = await me.enter(side, chance.randint(1, 1000), price(chance))
+                    answer = await me.enter(side, quantity, limit, instrument=market)
                     orders += [answer.order] if answer.order is not None else []
                 elif chance.random() < 0.5:
-                    await me.change(chance.choice(orders), chance.randint(1, 1000), price(chance))
+                    await me.change(chance.choice(orders), quantity, limit, instrument=market)
                 else:
-                    await me.delete(orders.pop(chance.randrange(len(orders))))
+                    gone = orders.pop(chance.randrange(len(orders)))
+                    await me.delete(gone, instrument=market)
             await asyncio.sleep(chance.uniform(0, 2 * pause))
 
 
 async def play_all(
-    venue: Served, tokens: list[str], pause: float, stopped: threading.Event
+    venue: Served,
+    tokens: list[str],
+    pause: float,
+    market: str | None,
+    stopped: threading.Event,
 ) -> None:
-    """All robots at once."""
-    await asyncio.gather(
-        *(play(venue, token, pause, seed, stopped) for seed, token in enumerate(tokens))
-    )
+    """All robots at once until they are stopped, also where the venue is gone meanwhile."""
+    works = (play(venue, token, pause, seed, market) for seed, token in enumerate(tokens))
+    tasks = [asyncio.create_task(work) for work in works]
+    await asyncio.to_thread(stopped.wait)
+    for task in tasks:
+        task.cancel()
+    for found in await asyncio.gather(*tasks, return_exceptions=True):
+        if isinstance(found, Exception):
+            raise found
 
 
 @contextlib.contextmanager
-def busy(venue: Served, tokens: list[str], pause: float) -> Iterator[None]:
+def busy(
+    venue: Served, tokens: list[str], pause: float, market: str | None = None
+) -> Iterator[None]:
     """A call in which each of these members does something after a pause, in seconds."""
     stopped = threading.Event()
     faults: list[BaseException] = []
 
     def run() -> None:
         try:
-            asyncio.run(play_all(venue, tokens, pause, stopped))
+            asyncio.run(play_all(venue, tokens, pause, market, stopped))
         except BaseException as fault:
             faults.append(fault)
 

@@ -286,7 +286,8 @@ def test_tls(tmp_path: pathlib.Path) -> None:
 
 def test_one_venue_a_folder(venue: Served, tmp_path: pathlib.Path) -> None:
     status, error = ended("--folder", tmp_path / "venue", "--port", 0)
-    assert (status, "is in use by another venue: end that one, or --folder" in error) == (2, True)
+    who = f"is in use by another venue, process {venue.child.pid}: end that one, or --folder"
+    assert status == 2 and who in error
 
 
 def test_there_is_no_program(tmp_path: pathlib.Path) -> None:

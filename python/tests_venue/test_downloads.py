@@ -21,6 +21,7 @@ from callauction.venue import config, copies, downloads, instrument, log, report
 from callauction.venue.members import Members
 from conftest import FAST
 from served import Served
+from test_robots import until
 from test_rounds import trade
 
 DAY = FAST + """
@@ -72,6 +73,7 @@ def test_no_results_of_an_earlier_end_stay(tmp_path: pathlib.Path) -> None:
     with served.served(tmp_path, DAY) as venue:
         assert not any(it.exists() for it in files)
         trade(venue, anna, venue.join("Carl"), "2.50")
+        until(lambda: ",20,45.00," in download(venue, "results"))
         results = download(venue, "results")
     after = [it.read_text() for it in files]
     assert after[0] == results and after[0] != before[0] and after[1] != before[1]
@@ -137,7 +139,6 @@ def test_the_report(tmp_path: pathlib.Path) -> None:
     assert "Opening: price 2.50 EUR, 10 shares" in text
     assert text.count("The record of 3 entries is legal.") == 2
     assert text.count("Efficiency: 100 % of the greatest possible gain, 15.00 EUR") == 2
-    assert "limit 2.50 executes" in text.lower() or "2.50" in text
     assert text.count("<img ") == 2
     for cell in ("&#x27;=Anna", "Bert", "25.00", "7.50"):
         assert f">{cell}</" in text
@@ -205,7 +206,7 @@ def test_the_name_of_a_file(
     terms, began = day.instruments[0], 1_764_288_000.0
     kept = log.Log(tmp_path / "venue.log")
     board = instrument.opened(
-        instrument.Board("XYZ"), terms, day.rounds[0], day, tmp_path, "none", kept
+        instrument.BoardIdentity("XYZ"), terms, day.rounds[0], day, tmp_path, "none", kept
     )
     lesson = downloads.Lesson(day, [], Members(day.members, kept), "none", began)
     name = downloads.file_of(kind, lesson, board, language)

@@ -1,17 +1,23 @@
 """How a venue ends by signals that come in bursts, and goes on beside what hangs: who reads what it
 says, or the program of its check.
 """
+import csv
 import os
 import pathlib
 import random
+import re
 import signal
 import subprocess
+import sys
 import time
 
 import pytest
 import served
 from callauction.venue import checking
+from callauction.venue.config import DayTerms, Plan
+from callauction.venue.messages import Order
 from callauction.venue.process import ProcessError
+from callauction.venue.venue import Venue
 from conftest import FAST
 from patience import TIMED
 
@@ -112,3 +118,97 @@ def test_a_check_of_a_program_that_a_signal_ends(tmp_path: pathlib.Path) -> None
     )
     text = "venue: the program was ended by signal 11: install the program anew\n"
     assert (ran.returncode, ran.stdout, ran.stderr) == (3, "", text)
+
+
+@pytest.mark.asyncio
+async def test_the_tables_have_the_trades_of_an_uncross_just_before(tmp_path: pathlib.Path) -> None:
+    plan = Plan(call=0)
+    venue = Venue(DayTerms(is_synced=False, plan=plan), tmp_path, served.program())
+    await venue.open()
+    board = venue.instruments["XYZ"]
+    board.start_call()
+    for name, side in (("Anna", "bid"), ("Bert", "ask")):
+        member, _ = await venue.join(venue.members.codes[""], name)
+        answer, _ = venue.submit(member, Order(1, "XYZ", f"enter,{side},5,200"))
+        await answer
+    assert (await board.uncross()).endswith(" trades 1")
+    await venue.close()
+    with open(tmp_path / "results.csv", newline="", encoding="utf-8") as file:
+        rows = {it["name"]: it for it in csv.DictReader(file) if it["round"] == "1"}
+    assert (rows["Anna"]["bought"], rows["Bert"]["sold"]) == ("5", "5")
+
+
+LONG = """
+import atexit, gc, sys
+from callauction.venue import __main__ as venue
+
+kept = []
+def dismissed(self, dismiss=venue.Venue.dismiss):
+    kept.extend([it] for it in range(COUNT))
+    dismiss(self)
+venue.Venue.dismiss = dismissed
+atexit.register(lambda: print(len(gc.get_objects()), flush=True))
+sys.argv[0] = "venue"
+sys.exit(venue.main())
+"""
+"""A venue that has as many objects at its end as a day leaves, and says to how many of all Python's
+collector would look as the process ends: for some million that took many seconds.
+"""
+COUNT = 300_000
+
+
+def test_an_end_after_a_long_day(tmp_path: pathlib.Path) -> None:
+    words = [sys.executable, "-c", f"COUNT = {COUNT}\n{LONG}", "--folder", str(tmp_path / "venue")]
+    words += ["--port", str(served.free_port())]
+    pipe = subprocess.PIPE
+    with subprocess.Popen(
+        words, env=served.environment(), stdout=pipe, stderr=pipe, text=True
+    ) as child:
+        served.begun(child)
+        child.terminate()
+        said, error = child.communicate(timeout=served.SECONDS)
+    assert (child.returncode, error) == (0, "")
+    assert int(said.splitlines()[-1]) < COUNT / 10
+
+
+def begins(child: "subprocess.Popen[str]") -> None:
+    """Waits until the code of a venue has begun: Python itself takes SIGINT before. Raises
+    AssertionError where that stays so.
+    """
+    status = pathlib.Path(f"/proc/{child.pid}/status")
+    caught = re.compile(r"^SigCgt:\s+(\w+)$", re.M)
+    last, was_caught = time.monotonic() + 5, False
+    while time.monotonic() < last:
+        found = caught.search(status.read_text())
+        is_caught = found is not None and bool(int(found[1], 16) & 2)
+        if was_caught and not is_caught:
+            return
+        was_caught = is_caught
+        time.sleep(0.001)
+    raise AssertionError("SIGINT leaves a trace")
+
+
+@TIMED
+@pytest.mark.parametrize("number", BURST)
+def test_a_signal_while_it_starts(tmp_path: pathlib.Path, number: signal.Signals) -> None:
+    """It ends at once, or as soon as it can, without a trace, and the next start goes on."""
+    folder, pipe = tmp_path / "venue", subprocess.PIPE
+    words = served.words_of("--folder", folder, "--port", served.free_port())
+    for place in range(12):
+        with subprocess.Popen(
+            words, env=served.environment(), stdout=pipe, stderr=pipe, stdin=pipe, text=True
+        ) as child:
+            begins(child)
+            time.sleep(0.08 * place)
+            child.send_signal(number)
+            if number is signal.SIGHUP:
+                time.sleep(1)
+                child.terminate()
+            _, error = child.communicate(timeout=served.SECONDS)
+        allowed = (0, -number) if number is not signal.SIGHUP else (0, -number, -signal.SIGTERM)
+        assert child.returncode in allowed, (place, error)
+        assert all(it.startswith(HUNG_UP) for it in error.splitlines()), error
+    ran = subprocess.run(
+        [*words, "--check"], env=served.environment(), capture_output=True, text=True
+    )
+    assert (ran.returncode, ran.stderr) == (0, "")

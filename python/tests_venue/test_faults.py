@@ -1,8 +1,10 @@
 """Slow and silent clients, full disks, and folders that a venue can't go on with."""
 import asyncio
 import contextlib
+import json
 import os
 import pathlib
+import shutil
 import signal
 import subprocess
 import sys
@@ -14,7 +16,10 @@ import judged
 import psutil
 import pytest
 import served
-from callauction.venue import Answer, AsyncClient, Client, VenueError
+from callauction.venue import Answer, AsyncClient, Client, VenueError, clock
+from callauction.venue import venue as venues
+from callauction.venue.config import DayTerms, Plan
+from callauction.venue.venue import Venue
 from conftest import FAST
 from patience import TIMED
 from served import Served
@@ -304,7 +309,38 @@ def test_a_clock_that_was_set_back_before_a_start(tmp_path: pathlib.Path, is_bef
         assert state["phase"] == "call" and 600 < state["ends"] - state["now"] < 900, state
     assert len(said) == 1 and "the clock is 7" in said[0], said
     lines = (tmp_path / "venue/venue.log").read_text().splitlines()
-    assert sum('"kind":"clock","instrument":"XYZ","behind":7' in line for line in lines) == 1
+    starts = [json.loads(line) for line in lines if '"kind":"boot"' in line]
+    assert [7000 < it.get("behind", 0) < 7300 for it in starts] == [False, True, False]
+
+
+@pytest.mark.asyncio
+@pytest.mark.parametrize("is_orderly", [False, True])
+async def test_a_quiet_call_before_a_clock_was_set_back(
+    tmp_path: pathlib.Path, monkeypatch: pytest.MonkeyPatch, is_orderly: bool
+) -> None:
+    """A call in which nothing comes has left what it had as the venue ended."""
+    monkeypatch.setattr(venues, "LOOK_SECONDS", 600 if is_orderly else 0.1)
+    day = DayTerms(is_synced=False, plan=Plan(call=900))
+    for name in ("left", "copy"):
+        (tmp_path / name).mkdir()
+    first = Venue(day, tmp_path / "left", served.program())
+    await first.open()
+    first.instruments["XYZ"].start_call()
+    await asyncio.sleep(3)
+    left = 900 - 3
+    if is_orderly:
+        await first.close()
+    shutil.copytree(tmp_path / "left", tmp_path / "copy", dirs_exist_ok=True)
+    lines = (tmp_path / "copy/venue.log").read_text().splitlines()
+    assert sum('"kind":"time"' in line for line in lines) <= 3 / 0.1 + 2
+    monkeypatch.setattr(clock, "BEGAN", clock.BEGAN - 7200)
+    second = Venue(day, tmp_path / "copy", served.program())
+    await second.open()
+    ends = second.instruments["XYZ"].state.ends
+    assert ends is not None and left - 2 < ends - clock.now() < left + 1
+    await second.close()
+    if not is_orderly:
+        await first.close()
 
 
 # ---- full disks

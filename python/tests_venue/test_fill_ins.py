@@ -10,7 +10,7 @@ from callauction.venue import robots
 from callauction.venue.accounts import Fill
 from callauction.venue.config import DayTerms, InstrumentTerms
 from callauction.venue.gains import Value
-from callauction.venue.instrument import Board, opened
+from callauction.venue.instrument import BoardIdentity, opened
 from callauction.venue.log import Log
 from callauction.venue.treatments import Treatment
 from hypothesis import given
@@ -82,12 +82,14 @@ def test_robots_go_on_after_a_kill(venue: Served, tmp_path: pathlib.Path) -> Non
 
 
 def test_a_value_that_comes_late_in_a_call(venue: Served) -> None:
-    """A robot that bids by its value waits for one, and then enters its order."""
+    """A robot that bids by its value waits for one, and then enters an order at it."""
     venue.do("robots", kind="truthful", count=2)
     venue.do("start")
     time.sleep(robots.MOST_SECONDS + 1)
+    assert sees(venue, "ladder")["levels"] == []
+    crossed = {"price": "3.00", "bid": 10, "ask": 10}
     venue.do("give", low="3.00", high="3.00", quantity=10)
-    until(lambda: bool(sees(venue, "ladder")["levels"]))
+    until(lambda: bool(sees(venue, "ladder")["levels"] == [crossed]))
 
 
 @pytest.mark.parametrize("body", [{"kind": "clever", "count": 1}, {"kind": "zero", "count": 201},
@@ -107,7 +109,7 @@ def test_the_order_of_a_robot(log: Log, kind: str, side: str, tick: int, traded:
     """No robot offers more than is left of its value, nor at a loss."""
     nowhere = pathlib.Path("/nowhere")
     board = opened(
-        Board("XYZ"), InstrumentTerms(), Treatment(), DayTerms(), nowhere, "none", log
+        BoardIdentity("XYZ"), InstrumentTerms(), Treatment(), DayTerms(), nowhere, "none", log
     )
     board.give_number("Robot 1", 1)
     board.accounts.give({"Robot 1": Value(side, tick, 10)}, True, 0)

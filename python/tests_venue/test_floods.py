@@ -106,7 +106,8 @@ def test_half_requests_shut_out_nobody(tmp_path: pathlib.Path, text: bytes) -> N
         texts = (line.partition(" (and ")[0] for line in error.splitlines())
         lines = collections.Counter(texts)
         seconds = time.monotonic() - begin
-        assert len(lines) <= 2 * ADDRESSES and max(lines.values()) <= 1 + seconds, (error, seconds)
+        most = 2 + seconds  # one at once, one a second, and at the end how often it came since
+        assert len(lines) <= 2 * ADDRESSES and max(lines.values()) <= most, (error, seconds)
 
 
 HALF_HELLO = b"\x16\x03\x01\x02\x00\x01\x00\x01\xfc\x03\x03"

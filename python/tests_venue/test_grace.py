@@ -81,6 +81,23 @@ async def test_a_halt_over_the_end_of_a_call(
 
 
 @pytest.mark.asyncio
+@pytest.mark.parametrize("whose", ["venue", "instrument"])
+async def test_a_halt_just_before_the_end_of_a_call(
+    tmp_path: pathlib.Path, monkeypatch: pytest.MonkeyPatch, whose: str
+) -> None:
+    """Who was away has as much time as after a halt over its end."""
+    monkeypatch.setattr(instrument, "GRACE_SECONDS", GRACE)
+    async with in_call(tmp_path, LONG, True) as venue, asyncio.timeout(served.SECONDS):
+        board = venue.instruments["XYZ"]
+        await halt(venue, board, whose, LONG - 1.5)
+        went_on, end = clock.now(), board.state.ends
+        assert end is not None and end > went_on
+        await asyncio.sleep(0.5)
+        assert board.state.ends is not None and board.state.phase is Phase.CALL
+        assert board.state.ends - went_on == pytest.approx(GRACE, abs=1)
+
+
+@pytest.mark.asyncio
 async def test_a_halt_within_a_call(tmp_path: pathlib.Path) -> None:
     """It leaves the end where it was; and a call that isn't uncrossed by itself ends as ever."""
     async with in_call(tmp_path / "automatic", 60, True) as venue:
@@ -96,6 +113,18 @@ async def test_a_halt_within_a_call(tmp_path: pathlib.Path) -> None:
 
 
 DAY = "sync = false\n[phases]\ncall = 5\nautomatic = {}\n[members]\nrate = 1000\nburst = 1000\n"
+
+
+def test_a_crash_just_before_the_end_of_a_call(tmp_path: pathlib.Path) -> None:
+    day = DAY.format("true").replace("call = 5", "call = 20")
+    with served.served(tmp_path, day) as venue:
+        venue.do("start")
+        venue.child.kill()
+        venue.child.wait(served.SECONDS)
+    time.sleep(10)
+    with served.served(tmp_path, day) as venue:
+        state = venue.call("api/look/state", token=venue.join("Anna"))[1]
+        assert state["phase"] == "call" and 20 - 5 < state["ends"] - state["now"] <= 20, state
 
 
 @pytest.mark.parametrize("is_automatic", [True, False])

@@ -5,12 +5,14 @@ import asyncio
 import contextlib
 import pathlib
 import signal
+import socket
 import subprocess
 import sys
 import threading
 import time
 from collections.abc import Iterator
 
+import crowd
 import judged
 import psutil
 import pytest
@@ -297,3 +299,79 @@ def test_a_program_that_refuses_its_journal(tmp_path: pathlib.Path, text: str) -
                 assert time.monotonic() < last
                 time.sleep(0.02)
             assert me.look("state")["halted"] == text
+
+
+HANGING_ENDS = """
+import asyncio, sys
+from callauction.venue import __main__ as venue, http
+
+class Hanging:
+    files = 0
+    async def begin(self, tls):
+        return "hangs    here"
+    def shut(self):
+        print("shut", flush=True)
+    async def end(self):
+        await asyncio.Event().wait()
+    def measures(self):
+        return {}
+
+async def hangs(self, request):
+    await asyncio.Event().wait()
+
+if "front" in WHAT:
+    venue.fronts_of = lambda venue, program: [Hanging()]
+http.Site._schema = hangs
+sys.argv[0] = "venue"
+sys.exit(venue.main())
+"""
+"""A venue with a page that hangs, and where WHAT says so with a front that hangs at its end."""
+PARTS = ("front", "page", "program", "members")
+MANY = 100
+
+
+@contextlib.contextmanager
+def asking(venue: Served) -> Iterator[None]:
+    """Somebody waits for a page that hangs."""
+    host, port = venue.url.split("/")[2].split(":")
+    with socket.create_connection((host, int(port)), served.SECONDS) as asked:
+        asked.sendall(b"GET /api/schema HTTP/1.1\r\nHost: " + host.encode() + b"\r\n\r\n")
+        time.sleep(0.2)
+        yield
+
+
+def members(venue: Served, count: int) -> list[str]:
+    """The tokens of as many members."""
+    return [venue.join(f"Member {place}") for place in range(count)]
+
+
+@pytest.mark.parametrize("what", [*((it,) for it in PARTS), PARTS], ids="-".join)
+def test_an_end_leaves_the_tables_whatever_hangs(
+    tmp_path: pathlib.Path, what: tuple[str, ...]
+) -> None:
+    """All is ended side by side, within the time that a venue has to end."""
+    (tmp_path / "day.toml").write_text(TWO)
+    words = [sys.executable, "-c", f"WHAT = {what}\n{HANGING_ENDS}"]
+    words += ["--day", str(tmp_path / "day.toml"), "--folder", str(tmp_path / "venue")]
+    words += ["--port", str(served.free_port()), "--metrics", f"127.0.0.1:{served.free_port()}"]
+    pipe = subprocess.PIPE
+    with subprocess.Popen(
+        words, env=served.environment(), stdout=pipe, stderr=pipe, text=True
+    ) as child, contextlib.ExitStack() as stack:
+        stack.callback(child.kill)
+        venue = served.begun(child)
+        tokens = members(venue, MANY if "members" in what else 1)
+        for name in ("HUNG", "SOUND"):
+            venue.do("start", instrument=name)
+        with Client(venue.url, tokens[0]) as me:
+            assert me.enter("bid", 1, "2.00", instrument="HUNG").entry == 1
+        if "page" in what:
+            stack.enter_context(asking(venue))
+        if "program" in what:
+            program_of(venue, "HUNG").suspend()
+        if "members" in what:
+            stack.enter_context(crowd.busy(venue, tokens, 0.05, "SOUND"))
+            time.sleep(2)
+        assert ends_in_time(child) == (0, "")
+    left = {it.name for it in (tmp_path / "venue").iterdir()}
+    assert {"results.csv", "HUNG.members.csv", "SOUND.members.csv"} <= left

@@ -450,18 +450,21 @@ async def test_who_has_said_who_it_is_may_be_silent(
     own = gates.Gates()
     site = Site(inside, served.program(), frozenset(["127.0.0.1"]), own)
     _, token = await inside.join(inside.members.codes[""], "Anna")
-    async with serving.served(site.application(), own, "127.0.0.1", 0) as port:
-        async with aiohttp.ClientSession() as web:
-            url = f"http://127.0.0.1:{port}/api/socket"
-            async with web.ws_connect(url) as silent, web.ws_connect(url) as known:
-                await known.send_json({"type": "hello", "token": token, "topics": []})
-                assert (await known.receive_json())["type"] == "welcome"
-                async with asyncio.timeout(served.SECONDS):
-                    assert (await silent.receive()).type is aiohttp.WSMsgType.CLOSED
-                await asyncio.sleep(0.5)
-                await known.send_json({"type": "nothing"})
-                assert (await known.receive_json())["error"] == "not_allowed"
-                assert len(own) == 1
+    pages = serving.Pages(site.application(), own)
+    port = await pages.begin("127.0.0.1", 0)
+    async with aiohttp.ClientSession() as web:
+        url = f"http://127.0.0.1:{port}/api/socket"
+        async with web.ws_connect(url) as silent, web.ws_connect(url) as known:
+            await known.send_json({"type": "hello", "token": token, "topics": []})
+            assert (await known.receive_json())["type"] == "welcome"
+            async with asyncio.timeout(served.SECONDS):
+                assert (await silent.receive()).type is aiohttp.WSMsgType.CLOSED
+            await asyncio.sleep(0.5)
+            await known.send_json({"type": "nothing"})
+            assert (await known.receive_json())["error"] == "not_allowed"
+            assert len(own) == 1
+    pages.shut()
+    await pages.end()
 
 
 class GoneSocket:

@@ -98,9 +98,9 @@ async def test_what_others_changed_is_told_beside_the_loop(
     """A million entries take seconds to read one by one, in which others' orders are served."""
     read, check = Read(), Mark.check
 
-    def checked(mark: Mark, those: Sequence[Entry]) -> None:
+    def checked(mark: Mark, those: Sequence[Entry], **others: Any) -> None:
         read.took(b"")
-        check(mark, those)
+        check(mark, those, **others)
 
     monkeypatch.setattr(Mark, "check", checked)
     engine = engine_of(tmp_path, entries(1, COUNT))

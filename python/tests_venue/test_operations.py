@@ -678,11 +678,37 @@ def analyzed(*words: object) -> str:
 
 
 def test_systemd_takes_the_unit() -> None:
-    if shutil.which("systemd-analyze") is None:
-        print("there is no systemd here that could look at the unit")
-        return
     analyzed("verify", UNIT)
     analyzed("security", "--offline=true", "--threshold=20", UNIT)  # 2.0 of 10
+
+
+AS_SYSTEMD = """
+mount -t tmpfs tmpfs /run && mkdir -p /run/systemd/system
+PATH=$1:$PATH exec sh "$2" "$3" 1.0
+"""
+"""Runs a script of a package where systemd runs, with its `systemctl` from a folder."""
+
+
+@pytest.mark.parametrize(
+    "script, word, said",
+    [
+        ("postinst", "configure", ["daemon-reload"]),
+        ("prerm", "remove", ["stop callboard-venue@*.service"]),
+        ("prerm", "upgrade", []),
+    ],
+)
+def test_what_the_package_does_with_venues_that_run(
+    tmp_path: pathlib.Path, script: str, word: str, said: list[str]
+) -> None:
+    """A new unit is read, a removal ends them, and an upgrade doesn't."""
+    systemctl = tmp_path / "systemctl"
+    systemctl.write_text(f'#!/bin/sh\necho "$*" >> {tmp_path}/said\n')
+    systemctl.chmod(0o700)
+    (tmp_path / "said").touch()
+    path = UNIT.parent / f"callboard-venue.{script}"
+    words = ["unshare", "-rm", "sh", "-ec", AS_SYSTEMD, "sh", tmp_path, path, word]
+    subprocess.run([*map(str, words)], check=True)
+    assert (tmp_path / "said").read_text().splitlines() == said
 
 
 def calls_of(name: str) -> set[str]:
@@ -694,9 +720,6 @@ def calls_of(name: str) -> set[str]:
 
 
 def test_the_unit_allows_what_a_venue_does(tmp_path: pathlib.Path) -> None:
-    if not (shutil.which("systemd-analyze") and shutil.which("strace")):
-        print("there is no systemd here, or no strace")
-        return
     (tmp_path / "day.toml").write_text("")
     words = ["--day", tmp_path / "day.toml", "--folder", tmp_path / "venue", "--log", "json"]
     words += [*certificate(tmp_path, "venue"), "--port", served.free_port()]
@@ -1200,7 +1223,8 @@ def test_a_copy_that_was_changed_is_refused(tmp_path: pathlib.Path) -> None:
     (copy / copies.SUMS).write_bytes(copies.sums_of(files))
     ran("restore", copy, place)
     text = ran("restore", copy, place, status=1)
-    assert text == f"restore: {place} is there already: move it away, or name another\n"
+    told = "is there already, and stays as it is: move it away, or name another folder"
+    assert text == f"restore: {place} {told}\n"
     (copy / copies.SUMS).unlink()
     text = ran("restore", copy, tmp_path / "other", status=1)
     assert text == f"restore: {copy} isn't the copy that was made: its SHA256SUMS is missing\n"
@@ -1241,6 +1265,22 @@ def test_a_copy_isnt_put_into_its_day(tmp_path: pathlib.Path) -> None:
         text = ran("backup", tmp_path / "venue", place, status=1)
         assert text == f"backup: {place} is in the folder of the day itself\n"
     copied(tmp_path / "venue", tmp_path / "venue2")
+
+
+def test_a_place_that_is_taken(tmp_path: pathlib.Path) -> None:
+    """It is said before anything is read: who restores a day has little time."""
+    for name in ("place", "other.new"):
+        (tmp_path / name).mkdir()
+        (tmp_path / name / "file").write_text("kept")
+    told = "is there already, and stays as it is: move it away, or name another folder"
+    left = f"{tmp_path}/other.new is there, of a copy that was ended or goes on: "
+    left += "if none does, move it away"
+    for command in ("backup", "restore"):
+        text = ran(command, tmp_path / "none", tmp_path / "place", status=1)
+        assert text == f"{command}: {tmp_path}/place {told}\n"
+        text = ran(command, tmp_path / "none", tmp_path / "other", status=1)
+        assert text == f"{command}: {left}\n"
+    assert (tmp_path / "place/file").read_text() == (tmp_path / "other.new/file").read_text()
 
 
 def test_a_copy_on_a_full_disk(tmp_path: pathlib.Path) -> None:
@@ -1364,7 +1404,7 @@ def test_a_log_that_says_what_cant_be(tmp_path: pathlib.Path, line: dict[str, An
     before = contents(tmp_path / "venue")
     status, error = ended(*words, "--port", 0)
     assert status == 1 and error.startswith("venue: ") and error.count("\n") == 1, error
-    assert "line" in error and "of a log" in error or "of the log" in error
+    assert "line" in error and ("of a log" in error or "of the log" in error), error
     after = contents(tmp_path / "venue")
     assert after["venue.log"].startswith(before["venue.log"])
     assert after["XYZ.journal.csv"] == before["XYZ.journal.csv"]

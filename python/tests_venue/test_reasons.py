@@ -9,6 +9,7 @@ import pytest
 import served
 from browsing import Page, opened, joins
 from callauction.venue import messages
+from callauction.venue.venue import AHEAD, AWAY, DOES, STOOD
 
 PACKAGE = served.PACKAGE / "callauction/venue"
 SAID = {"bad_message", "bad_phase", "bad_name", "above_limit", "not_covered", "no_shares"}
@@ -114,6 +115,14 @@ def test_each_reason_is_said_in_german(page: Page) -> None:
      "Titel: 'a<b' enthält <, > oder ein Steuerzeichen"),
     ("text has <, > or a control character", "hier steht <, > oder ein Steuerzeichen"),
     ("there is no member Ann {} from 1 to 2", "Ann {} from 1 to 2 ist kein Mitglied"),
+    (AHEAD.format(7200.5, "XYZ"),
+     "die Uhr ist der letzten Zeile des Protokolls 7.200,5 s voraus, der Aufruf von XYZ danach zu "
+     "Ende"),
+    (AWAY.format(7200.5, "XYZ"),
+     "die letzte Zeile des Protokolls ist 7.200,5 s alt, der Aufruf von XYZ seitdem zu Ende"),
+    (STOOD.format("XYZ"), "der Aufruf von XYZ ging zu Ende, während es ausgesetzt war"),
+    (DOES[False], "„Verlängern“ hilft"),
+    (DOES[True].format(30), "er geht noch 30 s weiter, dann wird der Preis ermittelt"),
     ("as nobody ever said", "as nobody ever said"),
 ])
 def test_a_reason(page: Page, said: str, german: str) -> None:

@@ -345,3 +345,26 @@ def test_members_see_an_open_book(venue: Served) -> None:
         RECEIVED.validate(me.look("ladder"))
     until(lambda: bool(sees(venue, "ladder", token)["levels"] == [level]))
     until(lambda: bool(sees(venue, "ladder", venue.beamer)["levels"] == [level]))
+
+
+def test_nobody_is_shown_the_hidden_shares_of_others(venue: Served) -> None:
+    """Members and the screen see the visible quantities of the book, the teacher the whole ones."""
+    token = venue.join("Anna")
+    limited(venue, book="open")
+    with Client(venue.url, token) as me:
+        me.enter("bid", 1000, "2.00", peak=100)
+        me.enter("bid", 7, "2.00")
+        me.enter("ask", 60, "2.50", peak=20)
+        me.enter("ask", 80, "market")
+        me.enter("bid", 50, "1.00", peak=10, only="closing")
+        levels = [
+            {"price": None, "bid": 0, "ask": 80},
+            {"price": "2.50", "bid": 0, "ask": 20},
+            {"price": "2.00", "bid": 107, "ask": 0},
+        ]
+        until(lambda: bool(me.look("ladder")["levels"] == levels))
+    until(lambda: bool(sees(venue, "ladder", token)["levels"] == levels))
+    until(lambda: bool(sees(venue, "ladder", venue.beamer)["levels"] == levels))
+    whole = [dict(zip(("price", "bid", "ask"), it)) for it in ((None, 0, 80), ("2.50", 0, 60))]
+    whole.append({"price": "2.00", "bid": 1007, "ask": 0})
+    until(lambda: bool(sees(venue, "ladder")["levels"] == whole))

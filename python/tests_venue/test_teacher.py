@@ -330,6 +330,7 @@ HALTS = {
     "the venue's log can't be written: it was changed by others": "halt_file",
     "the venue's log can't be written: No space left on device": "halt_disk",
     "journal failed": "halt_disk",
+    "journal in use": "halt_in_use",
     "the program hasn't answered for 10 s": "halt_disk",
     "the venue's log can't be written: it waits for the disk for more than 1 s": "halt_slow",
     "the program was ended by signal 9": "halt_program",
@@ -338,14 +339,17 @@ HALTS = {
 READ = """
 const [whys, settle] = arguments;
 Promise.all([import("/pages/states.js"), import("/pages/common.js")]).then(([states, { text }]) =>
-  settle(whys.map(([why, key]) => [states.haltText(why), text(key, text("resume"))])),
+  settle(whys.map(([why, key]) => [states.haltText("Pears", why), text(key, text("resume"))])),
   (fault) => settle(String(fault)));
 """
 
 
 def test_what_to_do_by_the_kind_of_a_halt(lesson: dict[str, Any]) -> None:
     found = lesson["teacher"].driver.execute_async_script(READ, [*HALTS.items()])
-    assert [said for said, _ in found] == [wanted for _, wanted in found] and found
+    assert found and all(
+        said.startswith("Pears has halted: ") and said.endswith(f". {wanted}")
+        for said, wanted in found
+    ), found
 
 
 def test_a_journal_that_is_put_back(lesson: dict[str, Any]) -> None:
@@ -354,10 +358,11 @@ def test_a_journal_that_is_put_back(lesson: dict[str, Any]) -> None:
     teacher.clicks("#tab-auction")
     journal = max(lesson["folder"].glob("venue/XYZ*.journal.csv"))
     journal.rename(lesson["folder"] / "right")
-    teacher.waits(lambda it: it.text("next").endswith("right one back; then press “Try again”."))
+    teacher.waits(lambda it: it.text("halts").endswith("right one back; then press “Try again”."))
     anna.waits(lambda it: it.text("next").startswith("No order is taken now. Wait for the teacher"))
     (lesson["folder"] / "right").rename(journal)
     teacher.clicks("[data-do=resume]")
     for page in (teacher, anna):
         page.waits(lambda it: "Halted" not in it.text("phase"))
-        assert "Try again" not in page.text("next") and "No order" not in page.text("next")
+        assert "No order" not in page.text("next")
+    teacher.waits(lambda it: not it.shows("halts"))

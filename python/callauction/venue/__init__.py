@@ -9,6 +9,19 @@
 `python3 -m callauction.venue` serves one; docs/VENUE.md has a lesson and a robot. The program
 decides each reply, price and trade; the venue knows who may speak and who sees what.
 """
-from callauction.venue.client import Answer, AsyncClient, Client, VenueError
+import importlib
+from typing import TYPE_CHECKING
+
+if TYPE_CHECKING:
+    from callauction.venue.client import Answer, AsyncClient, Client, VenueError
 
 __all__ = ["Answer", "AsyncClient", "Client", "VenueError"]
+
+
+def __getattr__(name: str) -> object:
+    """A public name, imported when it is first used: a venue that starts says first how a signal
+    ends it. Raises AttributeError for another name.
+    """
+    if name not in __all__:
+        raise AttributeError(f"module {__name__!r} has no attribute {name!r}")
+    return getattr(importlib.import_module("callauction.venue.client"), name)

@@ -1,15 +1,19 @@
 """The command line of a venue: `python3 -m callauction.venue`; --help has the rest."""
-import argparse
-import asyncio
-import logging
-import os
-import pathlib
-import sys
+import signal
 
-from callauction import finder
-from callauction.fix.build import MISSING
-from callauction.statuses import DONE
-from callauction.venue import notices, owned, tried
+signal.signal(signal.SIGINT, signal.SIG_DFL)  # as SIGTERM and SIGHUP, until a venue is begun
+
+import argparse  # noqa: E402
+import asyncio  # noqa: E402
+import logging  # noqa: E402
+import os  # noqa: E402
+import pathlib  # noqa: E402
+import sys  # noqa: E402
+
+from callauction import finder  # noqa: E402
+from callauction.fix.build import MISSING  # noqa: E402
+from callauction.statuses import DONE  # noqa: E402
+from callauction.venue import notices, owned, tried  # noqa: E402
 
 tried.check_start()  # before what needs aiohttp as it is inside
 
@@ -17,15 +21,22 @@ from callauction.venue import remedies  # noqa: E402
 from callauction.venue.begun import OtherDayError, OtherTermsError  # noqa: E402
 from callauction.venue.checking import checked  # noqa: E402
 from callauction.venue.config import DayTerms  # noqa: E402
-from callauction.venue.serving import Address, AddressError, Front, serve  # noqa: E402
+from callauction.venue.serving import (  # noqa: E402
+    Address,
+    AddressError,
+    Front,
+    serve,
+    stopped_by_signals,
+)
 from callauction.venue.venue import Venue  # noqa: E402
 
 NOTICES = logging.getLogger("callauction.venue")
 FOLDER = "class.venue"
 EPILOG = """statuses: 0 ended by SIGINT or SIGTERM; 1 a bad day file, or a log, a token or a journal
-with a fault; 2 wrong words, an address that can't be listened on, a folder or journal in use, of
-another day, or a file of the venue that other users own or may write; 3 no program, a read or a
-write failed, or something didn't end in time; 4 a journal with an unlawful reply"""
+with a fault; 2 wrong words, an address that can't be listened on, a folder in use, one or a journal
+of another day, or a file of the venue that other users own or may write; 3 no program, a read or a
+write failed, a journal in use, or something didn't end in time; 4 a journal with an unlawful reply
+"""
 
 
 def arguments() -> argparse.ArgumentParser:
@@ -136,11 +147,12 @@ def run(asked: argparse.Namespace, address: Address, program: str) -> None:
         for line in checked(day, folder, address, program):
             print(line, flush=True)
         return
-    owned.make_folder(folder)
 
     async def opened() -> None:
+        stopped = stopped_by_signals()
+        owned.make_folder(folder)
         venue = Venue(day, folder, program)
-        await serve(venue, program, address, fronts_of(venue, program))
+        await serve(venue, program, address, fronts_of(venue, program), stopped)
 
     asyncio.run(opened())
 

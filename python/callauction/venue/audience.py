@@ -47,6 +47,7 @@ class Audience:
         self.watchers: dict[Watcher, None] = {}
         self.beamer_shows = SHOWN[0]
         self.payoffs_shown = PAYOFFS[0]
+        self.late: dict[str, tuple[str, str]] = {}
         self.urls: Callable[[], list[str]] = lambda: ["http://localhost/"]
 
     @property
@@ -66,7 +67,7 @@ class Audience:
     def watching(self, instrument: Instrument) -> Iterator[Watcher]:
         """Who sees a board."""
         for watcher in [*self.watchers]:
-            if watcher.member is None or watcher.member.group == instrument.board.group:
+            if watcher.member is None or watcher.member.group == instrument.identity.group:
                 yield watcher
 
     def members_watching(self, instrument: Instrument, topic: str) -> Iterator[tuple[Watcher, str]]:
@@ -99,6 +100,24 @@ class Audience:
 
     # ---- a board
 
+    @property
+    def are_gains_known(self) -> bool:
+        """Whether it was seen what all boards have."""
+        return all(it.is_seen for round_ in self.rounds for it in round_.boards.values())
+
+    def check_gains_known(self) -> None:
+        """Raises MessageError until it was seen what all boards have."""
+        for board in [it for round_ in self.rounds for it in round_.boards.values()]:
+            board.check_seen()
+
+    @property
+    def early_halts(self) -> list[tuple[Instrument, str]]:
+        """The boards of earlier rounds that have halted before it was seen what they have, and why.
+        """
+        boards = [it for round_ in self.rounds[:-1] for it in round_.boards.values()]
+        halts = [(it, it.engine.halted) for it in boards if not it.is_seen]
+        return [(it, why) for it, why in halts if why is not None]
+
     def state_of(self, instrument: Instrument) -> shown.Json:
         """What everybody may see of an instrument."""
         state = shown.state_of(instrument, clock.now())
@@ -106,13 +125,22 @@ class Audience:
 
     def show_state(self, instrument: Instrument) -> None:
         """Shows all what everybody may see."""
+        if instrument.identity.name in self.late and not instrument.is_late:
+            del self.late[instrument.identity.name]
+            self.show_round_to_operator()
         state = self.state_of(instrument)
         for watcher in self.watching(instrument):
             if "states" in watcher.topics:
                 watcher.offer(f"state {instrument.terms.name}", state)
 
     def show_news(self, instrument: Instrument, members: frozenset[str], traded: bool) -> None:
-        """The program has shown something new."""
+        """The program has shown something new; of an earlier round it is what that came to, and of
+        one that isn't begun yet nothing.
+        """
+        if instrument not in self.instruments.values():
+            if instrument.identity.round < self.round.number:
+                self.show_payoffs()
+            return
         self.show_state(instrument)
         name = instrument.terms.name
         for watcher in self.watching(instrument):
@@ -126,15 +154,19 @@ class Audience:
 
     def show_gains(self, instrument: Instrument) -> None:
         """Shows who may see it what members have of an instrument."""
+        if instrument.is_seen:
+            self._show_fills(instrument)
+        self.show_members()
+        self.show_payoffs()
+
+    def _show_fills(self, instrument: Instrument) -> None:
+        """Shows members their fills, and others what came of all."""
         key = f"fills {instrument.terms.name}"
         for watcher, name in self.members_watching(instrument, "fills"):
             watcher.offer(key, shown.fills_of(instrument, name))
-        self.show_members()
         efficiency = shown.efficiency_of(instrument, self.members.title_of)
-        for watcher in self.watchers:
-            if watcher.member is None:
-                watcher.offer(f"efficiency {instrument.terms.name}", efficiency)
-        self.show_payoffs()
+        for watcher in [it for it in self.watchers if it.member is None]:
+            watcher.offer(f"efficiency {instrument.terms.name}", efficiency)
 
     def _show_trades(self, instrument: Instrument) -> None:
         """Shows members the trades, without who made them."""
@@ -148,12 +180,13 @@ class Audience:
         """
         name = instrument.terms.name
         if watcher.member is not None:
-            if self.is_open_book and "ladder" in watcher.topics:
+            if self.is_open_book and instrument.is_ladder_seen and "ladder" in watcher.topics:
                 watcher.offer(f"ladder {name}", shown.ladder_of(instrument))
             return
         watcher.offer(f"course {name}", shown.course_of(instrument))
-        if watcher.role == "operator" or self.is_book_on_screen:
-            watcher.offer(f"ladder {name}", shown.ladder_of(instrument))
+        is_operator = watcher.role == "operator"
+        if instrument.is_ladder_seen and (is_operator or self.is_book_on_screen):
+            watcher.offer(f"ladder {name}", shown.ladder_of(instrument, is_operator))
         if is_all:
             last = instrument.trades[-shown.MOST_SHOWN :]
             trades = shown.trades_of(instrument, last, self.members.title_of)
@@ -240,12 +273,39 @@ class Audience:
         if watcher.role == "operator":
             following = self.day.treatment(self.round.number + 1)
             found |= {"next": shown.treatment_of(following), "planned": len(self.day.rounds)}
+            found["late"] = self._late_shown()
+            found["halts"] = self._halts_shown()
         watcher.offer("round", found)
+
+    def show_round_to_operator(self) -> None:
+        """Shows the operator which round it is, and what is said of others and of late calls."""
+        for watcher in self.watchers:
+            if watcher.role == "operator":
+                self._offer_round(watcher)
+
+    def _halts_shown(self) -> list[shown.Json]:
+        """What is said of boards of earlier rounds that have halted."""
+        return [
+            {"instrument": it.identity.name, "round": it.identity.round, "why": why}
+            for it, why in self.early_halts
+        ]
+
+    def _late_shown(self) -> list[shown.Json]:
+        """What is said of calls whose end had passed as the venue, or their board, began, and what
+        comes of them, until something does.
+        """
+        return [
+            {"instrument": name, "why": why, "does": does}
+            for name, (why, does) in self.late.items()
+            if (board := self.instruments.get(name)) is not None and board.is_late
+        ]
 
     def show_payoffs(self) -> None:
         """Shows members what they are paid, as far as the operator lets them, and the operator all
-        of it.
+        of it, once that is known.
         """
+        if not self.are_gains_known:
+            return
         if self.payoffs_shown == "none" and not any(it.role == "operator" for it in self.watchers):
             return
         paid = results.payoffs(self.day, self.rounds, self.members)
@@ -283,7 +343,8 @@ class Audience:
         self._offer_round(watcher)
         for instrument in self.boards_of(watcher.member).values():
             self._greet_with(watcher, instrument)
-        if watcher.role == "operator" or self.payoffs_shown != "none":
+        is_shown = watcher.role == "operator" or self.payoffs_shown != "none"
+        if is_shown and self.are_gains_known:
             self._offer_payoffs(watcher, results.payoffs(self.day, self.rounds, self.members))
         self.show_members()
 
@@ -292,11 +353,20 @@ class Audience:
         name, member = instrument.terms.name, watcher.member
         if "states" in watcher.topics:
             watcher.offer(f"state {name}", self.state_of(instrument))
-        self._show_book(instrument, watcher, True)
+        self._greet_with_lists(watcher, instrument)
         instrument.touch([member.name] if member else [])
+
+    def _greet_with_lists(self, watcher: Watcher, instrument: Instrument) -> None:
+        """Shows somebody who has come those lists of a board that are known now; the others once
+        they are.
+        """
+        name, member = instrument.terms.name, watcher.member
+        if not instrument.is_seen:
+            return
+        self._show_book(instrument, watcher, True)
         if member is None:
             return
-        if "orders" in watcher.topics:
+        if "orders" in watcher.topics and instrument.knows_orders_of(member.name):
             watcher.offer(f"orders {name}", shown.orders_of(instrument, member.name))
         if "fills" in watcher.topics:
             watcher.offer(f"fills {name}", shown.fills_of(instrument, member.name))

@@ -12,7 +12,8 @@ def main() -> int:
     parser = argparse.ArgumentParser(
         prog="python3 -P -m callauction.venue.backup",
         description="Copies the folder of a venue, which may run meanwhile, as it was at a moment.",
-        epilog="statuses: 0 copied; 1 a journal and the log don't fit; 3 a read or a write failed",
+        epilog="statuses: 0 copied; 1 a journal and the log don't fit, or the copy is there "
+        "already; 3 a read or a write failed",
     )
     parser.add_argument("folder", type=pathlib.Path, metavar="FOLDER", help="of the venue")
     parser.add_argument("copy", type=pathlib.Path, metavar="COPY", help="a new folder")

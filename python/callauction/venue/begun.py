@@ -6,9 +6,10 @@ import dataclasses
 import hashlib
 import pathlib
 import time
-from collections.abc import Iterable
+from collections.abc import Iterable, Sequence
 
 from callauction.venue import config
+from callauction.venue.fix_terms import SENT
 from callauction.venue.log import Line, taking
 
 TERMS = ("low", "high", "reference", "range", "open", "calls", "currency")
@@ -16,6 +17,8 @@ TERMS = ("low", "high", "reference", "range", "open", "calls", "currency")
 PARTS = {"is_synced": "sync", "plan": "phases", "bounds": "limits"}
 PARTS |= {"rounds": "round", "instruments": "instrument"}
 """The keys of a day's file whose fields have other names."""
+ANEW = "--folder NEW begins anew"
+"""What may be done instead."""
 
 
 class OtherDayError(ValueError):
@@ -27,7 +30,7 @@ class OtherTermsError(OtherDayError):
 
     def __init__(self, folder: pathlib.Path, why: str) -> None:
         self.fault = f"{folder} was begun with another day: {why}"
-        super().__init__(f"{self.fault}; --folder NEW begins anew")
+        super().__init__(f"{self.fault}; {ANEW}")
 
 
 def date_of(moment: float) -> str:
@@ -41,7 +44,15 @@ def kept(day: config.DayTerms) -> Line:
         PARTS.get(field.name, field.name): sum_of(getattr(day, field.name))
         for field in dataclasses.fields(day)
     }
-    return {"instruments": {it.name: terms_of(it) for it in day.instruments}, "parts": parts}
+    found: Line = {"instruments": {it.name: terms_of(it) for it in day.instruments}}
+    return found | {"parts": parts, "sessions": sessions_of(day)}
+
+
+def sessions_of(day: config.DayTerms) -> dict[str, str]:
+    """The member of each CompID of a day; that of the operator's copy has none."""
+    if day.fix is None:
+        return {}
+    return {**day.fix.sessions} | ({day.fix.copy: ""} if day.fix.copy else {})
 
 
 def sum_of(part: object) -> str:
@@ -61,9 +72,10 @@ def terms_of(instrument: config.InstrumentTerms) -> dict[str, str]:
 
 def changes(day: config.DayTerms, lines: Iterable[Line], folder: pathlib.Path) -> list[str] | None:
     """The keys of a day's file that are others than when its folder was last opened; None where the
-    log doesn't know a day yet. Raises OtherDayError, and LogError.
+    log doesn't know a day yet. Raises OtherDayError, LogError and OSError.
     """
-    known = [line for line in lines if line["kind"] == "day"]
+    those = [*lines]
+    known = [line for line in those if line["kind"] == "day"]
     if not known:
         return None
     now = kept(day)
@@ -73,7 +85,75 @@ def changes(day: config.DayTerms, lines: Iterable[Line], folder: pathlib.Path) -
         found = [name for name, sum_now in now["parts"].items() if parts.get(name) != sum_now]
     if why:
         raise OtherTermsError(folder, why)
+    check_sessions(now["sessions"], known, those, folder)
     return found
+
+
+def check_sessions(
+    now: dict[str, str], known: Sequence[Line], lines: Iterable[Line], folder: pathlib.Path
+) -> None:
+    """Raises OtherDayError where a CompID is another's than before by which somebody has logged on,
+    as the other would be sent what is not its own, or where the last one of a member is missing who
+    has entered orders by FIX: it could cancel them by none, and the numbers of its messages go by
+    that one. Raises OSError.
+    """
+    before = {comp_id: name for line in known for comp_id, name in sessions_in(line).items()}
+    others = [it for it, name in before.items() if now.get(it, name) != name]
+    if (given := next((it for it in others if has_logged_on(it, folder)), None)) is not None:
+        text = f"is {named(now[given])}, and was {named(before[given])} in {folder}"
+        remedy = "a CompID stays its own for the day: give the other one a new CompID"
+        raise OtherDayError(f"fix: sessions: {given!r} {text}; {remedy}; {ANEW}")
+    owners = owners_in(lines)
+    last = sessions_in(known[-1])
+    gone = next((it for it, name in last.items() if it not in now and name in owners), None)
+    if gone is not None:
+        text = f"is missing, by which the member {last[gone]!r} has sent orders in {folder}"
+        remedy = "put it back, or remove that member first by the operator's page"
+        raise OtherDayError(f"fix: sessions: {gone!r} {text}; {remedy}; {ANEW}")
+
+
+def has_sessions(lines: Iterable[Line]) -> bool:
+    """Whether the last of these lines that is about a day says whose its CompIDs are."""
+    return "sessions" in [line for line in lines if line["kind"] == "day"][-1]
+
+
+def sessions_in(line: Line) -> dict[str, str]:
+    """The member of each CompID by a line about a day. Raises LogError."""
+    with taking(line):
+        return {**line.get("sessions", {})}
+
+
+def has_logged_on(comp_id: str, folder: pathlib.Path) -> bool:
+    """Whether somebody has logged on by a CompID, as what was sent by FIX says. Raises OSError."""
+    path, own = folder / SENT, f'->{comp_id}"'.encode("ascii")
+    if not path.exists():
+        return False
+    with path.open("rb") as file:
+        return any(own in line for line in file)
+
+
+def named(member: str) -> str:
+    """Whose a CompID is."""
+    return f"the member's {member!r}" if member else "the operator's copy"
+
+
+def owners_in(lines: Iterable[Line]) -> set[str]:
+    """The members who have entered orders by FIX by these lines, but for those who were removed
+    since, whose orders are deleted.
+    """
+    found: set[str] = set()
+    for line in lines:
+        with taking(line):
+            if line["kind"] == "sent" and is_entered_by_fix(line):
+                found.add(line["member"])
+            elif line["kind"] == "removed":
+                found.discard(line["name"])
+    return found
+
+
+def is_entered_by_fix(line: Line) -> bool:
+    """Whether a message that was sent is a new order by FIX, whose number is below 0."""
+    return bool(line["number"] < 0 and line["record"].split(",")[1] == "enter")
 
 
 def difference(before: dict[str, dict[str, str]], now: dict[str, dict[str, str]]) -> str:

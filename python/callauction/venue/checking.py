@@ -12,9 +12,10 @@ import time
 from collections.abc import Collection, Iterable, Iterator, Sequence
 
 from callauction.statuses import FAILED
-from callauction.venue import begun, config, copies, gates, owned, tokens
+from callauction.venue import begun, config, copies, gates, owned, room, tokens
 from callauction.venue.begun import OtherDayError, date_of
 from callauction.venue.fields import ConfigError
+from callauction.venue.fix_terms import SENT
 from callauction.venue.log import Line, read_lines, taking
 from callauction.venue.phases import Phase, State
 from callauction.venue.process import OPENED, START_SECONDS, ProcessError
@@ -24,6 +25,7 @@ from callauction.venue.recovery import (
     RolledBackError,
     entries_in,
     entries_of,
+    first_of,
     settled,
 )
 from callauction.venue.rounds import Round
@@ -38,7 +40,9 @@ from callauction.venue.venue import (
     check_version,
     mark_of,
     runs_of,
+    set_since,
     starting,
+    warnings_of_clock,
 )
 
 ROLES = ("operator", "beamer")
@@ -69,6 +73,8 @@ def checked(
     if is_there:
         owned.make_folder(folder)
     check_room(folder if is_there else folder.parent, ROOM * (len(day.instruments) + 1))
+    if text := room.too_small(day, folder):
+        yield f"warning: {text}"
     if not is_there:
         check_ports(day, address, False)
         yield f"{folder}: not there yet"
@@ -76,7 +82,7 @@ def checked(
     for name in (*ROLES, *(f"fix.{it}" for it in (day.fix.sessions if day.fix else ()))):
         if owned.check_file(folder / f"{name}.token"):
             tokens.secret_of(folder, name)
-    for name in (LOG, copies.SENT):
+    for name in (LOG, SENT):
         if owned.check_file(folder / name):
             os.close(owned.opened(folder / name, os.O_RDONLY))
     runs = (folder / LOG).exists() and is_in_use(folder / LOG)
@@ -84,13 +90,13 @@ def checked(
     check_ports(day, address, runs)
 
 
-def check_room(folder: pathlib.Path, room: int) -> None:
+def check_room(folder: pathlib.Path, least: int) -> None:
     """Raises OSError where a folder can't have as many bytes more: its disk is full, or is there to
     be read. What is tried leaves no name.
     """
     try:
         with tempfile.TemporaryFile(dir=folder) as tried:
-            os.posix_fallocate(tried.fileno(), 0, room)
+            os.posix_fallocate(tried.fileno(), 0, least)
     except OSError as fault:
         raise OSError(fault.errno, fault.strerror, str(folder)) from None
 
@@ -192,6 +198,7 @@ def checked_day(day: config.DayTerms, folder: pathlib.Path, lines: list[Line]) -
     if behind := behind_of(lines):
         yield f"warning: {BEHIND % behind}"
         return
+    yield from (f"warning: {text}" for text in warnings_of_clock(0.0, set_since(lines)))
     for path in sorted(folder.glob(f"*{copies.JOURNAL}")):
         behind = round(os.lstat(path).st_mtime - time.time(), 3)
         if behind >= LEAST_BEHIND:
@@ -223,7 +230,7 @@ def checked_journals(
         except RolledBackError as fault:  # it halts, and the others are served
             yield f"warning: {fault}: {PUT_BACK}"
     last = asyncio.run(rehearse(day, folder, lines, found, program))
-    if all(is_over(found.get(it.board.key, [])) for it in last.boards.values()):
+    if all(is_over(found.get(it.identity.key, [])) for it in last.boards.values()):
         yield f"warning: {OVER}"
         check_later(day, folder, lines, last.number)
 
@@ -319,7 +326,7 @@ def entries_known(journal: pathlib.Path, name: str, lines: list[Line]) -> list[E
     is_there, mark = owned.check_file(journal), mark_of(lines)
     entries = entries_of(journal) if is_there else []
     try:
-        mark.check(entries, is_there)
+        mark.check(entries, is_there, first_of(journal))
         settled(runs_of(lines).get(name, []), entries)
     except RecoveryError as fault:
         raise type(fault)(f"{name}: {fault}") from None

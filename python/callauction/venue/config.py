@@ -9,7 +9,9 @@ import tomllib
 from decimal import Decimal
 from typing import Any, Self
 
-from callauction.limits import MOST_CALLS, MOST_MEMBERS, MOST_OPEN, MOST_TICK, MOST_TICKS
+from callauction.limits import (
+    MOST_CALLS, MOST_MEMBERS, MOST_OPEN, MOST_QUANTITY, MOST_TICK, MOST_TICKS,
+)  # fmt: skip
 from callauction.prices import BadCellError, Grid, decimal_of
 from callauction.venue import owned
 from callauction.venue.bounds import Bounds, bounds_of
@@ -21,7 +23,6 @@ from callauction.venue.names import folded, is_role, is_seen
 from callauction.venue.tokens import LEAST_CODE
 from callauction.venue.treatments import MOST_SECONDS, Limits, Read, Treatment, treatment_of
 
-MOST_QUANTITY = 1_000_000_000
 MOST_TRADERS = MOST_MEMBERS - 1
 """The members who may trade an instrument."""
 INSTRUMENT_NAME = re.compile(r"[A-Za-z0-9][A-Za-z0-9_-]{0,23}")

@@ -8,14 +8,17 @@ import hashlib
 import os
 import pathlib
 import re
+import secrets
 import shutil
 import subprocess
 import sys
+import time
 
 from callauction.statuses import BAD_DAY, BAD_FILE, FAILED
 from callauction.venue import owned, tokens
 from callauction.venue.downloads import NAMES_FILE, RESULTS_FILE
-from callauction.venue.log import Line, LogError, read_lines
+from callauction.venue.fix_terms import SENT
+from callauction.venue.log import Line, LogError, read_lines, text_of
 from callauction.venue.owned import OwnerError
 from callauction.venue.recovery import (
     Entry,
@@ -35,9 +38,9 @@ LEFT_OUT = re.compile(rf".*\.new|.*\.cut-\d+|lost\+found|{SUMS}|.*{NAMES_FILE}|{
 """What no copy has: what was begun, or put aside; what a disk has of its own; sums of a copy; what
 the end of a day leaves, which may be of an earlier moment, and is made anew by the next one.
 """
-SENT = "fix.sent"
-"""What sessions by FIX were sent, which is read first: the journals have all of it."""
 NAME = re.compile(r"[^\x00-\x1f\x7f]{1,255}")
+MARK_BYTES = 3
+"""Random bytes by which two days that were restored from one copy differ: v1f3a2b is a mark."""
 MOST_BYTES = 1 << 30
 """The bytes that a file of a day may have."""
 Files = dict[str, bytes]
@@ -173,12 +176,26 @@ def difference(files: Files, sums: bytes) -> str:
     return found[0] + (f", and {len(found) - 1} more" if found[1:] else "")
 
 
+def begun_of(folder: pathlib.Path) -> pathlib.Path:
+    """Where a folder is until it is whole."""
+    return folder.with_name(f"{folder.name}.new")
+
+
+def check_new(folder: pathlib.Path) -> None:
+    """Raises CopyError where something is in the place of a new folder, which stays as it is."""
+    if os.path.lexists(folder):
+        text = "is there already, and stays as it is: move it away, or name another folder"
+        raise CopyError(f"{folder} {text}")
+    if os.path.lexists(begun_of(folder)):
+        text = "is there, of a copy that was ended or goes on: if none does, move it away"
+        raise CopyError(f"{begun_of(folder)} {text}")
+
+
 def write_day(files: Files, folder: pathlib.Path) -> None:
     """Writes a day to a new folder, whole and on the disk, or nothing. Raises OSError, CopyError.
     """
-    if os.path.lexists(folder):
-        raise CopyError(f"{folder} is there already: move it away, or name another")
-    begun = folder.with_name(f"{folder.name}.new")
+    check_new(folder)
+    begun = begun_of(folder)
     begun.mkdir(mode=owned.FOLDER_MODE)
     try:
         for name, content in files.items():
@@ -194,6 +211,7 @@ def backup(folder: pathlib.Path, copy: pathlib.Path) -> Files:
     """Copies a day, which may run meanwhile: its files. Raises CopyError, LogError, OSError."""
     if copy.resolve().is_relative_to(folder.resolve()):
         raise CopyError(f"{copy} is in the folder of the day itself")
+    check_new(copy)
     files = consistent(*read_day(folder))
     write_day(files | {SUMS: sums_of(files)}, copy)
     return files
@@ -204,6 +222,7 @@ def restore(copy: pathlib.Path, folder: pathlib.Path, program: str) -> Files:
     and by the program each reply of them. Raises CopyError, LogError, OSError, and OwnerError where
     others could have changed all of that, and its tokens.
     """
+    check_new(folder)
     owned.check_copy(copy, is_folder=True)
     for it in copy.iterdir():
         owned.check_copy(it)
@@ -220,8 +239,23 @@ def restore(copy: pathlib.Path, folder: pathlib.Path, program: str) -> Files:
             raise CopyError(f"{copy / name} holds no token")
     for file in journals_of(files).values():
         audit(program, file, files[file])
-    write_day(files, folder)
+    write_day(files | {LOG: files[LOG] + restored_line(files)}, folder)
     return files
+
+
+def restored_line(files: Files) -> bytes:
+    """The line of the log that says how many entries each journal had as a day was restored, and
+    which round it was: what comes after them has a mark in its ids, as those without it may be of
+    what is lost.
+    """
+    lines = read_lines(files[LOG], LOG)
+    last = max((it["time"] for it in lines if "time" in it), default=0.0)
+    rounds = [it["round"] for it in lines if it["kind"] == "round"]
+    counts = {key: files[file].count(b"\n") - 1 for key, file in journals_of(files).items()}
+    line: Line = {"time": max(last, round(time.time(), 3)), "kind": "restored"}
+    line |= {"mark": f"v{secrets.token_hex(MARK_BYTES)}", "entries": counts}
+    line["round"] = max(rounds, default=1)
+    return text_of(line).encode("ascii") + b"\n"
 
 
 def audit(program: str, name: str, journal: bytes) -> None:

@@ -99,7 +99,7 @@ async def made_in(folder: str, kind: str, lesson: Lesson, language: str) -> byte
     """
     paths = {}
     for _, each in lesson.boards():
-        paths[each.board.key] = path = pathlib.Path(folder, f"{each.board.key}.csv")
+        paths[each.identity.key] = path = pathlib.Path(folder, f"{each.identity.key}.csv")
         path.write_bytes(journal_of(each))
     if kind == "trades":
         return table(TRADES, await trades_of(lesson, paths), language)
@@ -113,7 +113,7 @@ def file_of(kind: str, lesson: Lesson, board: Instrument, language: str = PLAIN)
     title = re.sub(r"\W+", "-", lesson.day.title)[:MOST_LETTERS].strip("-")
     day = time.strftime("%Y-%m-%d", time.localtime(lesson.began))
     word = GERMAN.get(kind, kind) if language == "de" else kind
-    words = [title, day, *([board.board.key] if kind in OF_BOARD else []), word]
+    words = [title, day, *([board.identity.key] if kind in OF_BOARD else []), word]
     return f"{'-'.join(filter(None, words))}.{KINDS[kind][0]}"
 
 
@@ -163,7 +163,7 @@ def results_of(lesson: Lesson) -> Iterator[SheetRow]:
     for round_, board in lesson.boards():
         for member in lesson.members.everybody:
             has_part = member.name in board.numbers or member.name in board.accounts.values
-            if has_part or (member.group == board.board.group and not member.is_removed):
+            if has_part or (member.group == board.identity.group and not member.is_removed):
                 head = {"name": plain(member.title), "robot": member.robot}
                 yield head | result_of(lesson.day, round_, board, member.name)
     for it in results.payoffs(lesson.day, lesson.rounds, lesson.members):
@@ -209,7 +209,7 @@ async def trades_of(lesson: Lesson, paths: dict[str, pathlib.Path]) -> list[Shee
     """The trades of all rounds, with the names of both members, in money. Raises DownloadError."""
     found: list[SheetRow] = []
     for round_, board in lesson.boards():
-        given = paths[board.board.key].read_bytes()
+        given = paths[board.identity.key].read_bytes()
         printed = await output([lesson.program, "--print", "trades"], given)
         for row in csv.DictReader(io.StringIO(printed.decode("ascii"))):
             quantity, tick = int(row["quantity"]), int(row["tick"])
@@ -259,7 +259,7 @@ def board_of(
     """What a report says of a board."""
     most = board.most
     return {
-        "key": board.board.key,
+        "key": board.identity.key,
         "title": title_of(lesson, round_, board, language),
         "round": round_.number,
         "instrument": board.terms.name,

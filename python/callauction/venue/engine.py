@@ -16,22 +16,26 @@ import os
 import pathlib
 import re
 from collections.abc import Callable, Sequence
-from typing import ParamSpec, TypeVar
+from typing import Any, ParamSpec, TypeVar
 
-from callauction.venue import owned
+from callauction.statuses import FAILED
+from callauction.venue import leftovers, owned
 from callauction.venue.latency import Times
+from callauction.venue.leftovers import Program
 from callauction.venue.log import Log, sent_text, text_of
 from callauction.venue.messages import MessageError
 from callauction.venue.owned import OwnerError
 from callauction.venue.process import IN_USE, Process, ProcessError
 from callauction.venue.recovery import (
     Entry,
+    OTHER_FIRST,
     Mark,
     Message,
     RecoveryError,
     RolledBackError,
     Run,
     Sum,
+    first_of,
     known_entries,
     matched,
     settled,
@@ -49,6 +53,10 @@ MARK_SECONDS = 0.05
 """How long after an entry the log has a mark of it, by which an older journal is known."""
 IN_USE_SECONDS = 15.0
 """How long another run of the program is waited for, such as one whose venue was killed."""
+LEFT_SECONDS = 5.0
+"""How long the last run of the program may take to its end once its venue was killed."""
+HELD = "%s: its journal is in use%s"
+LEFT = "%s: process %s, the program of the last run, has its journal and doesn't end: it was ended"
 
 P = ParamSpec("P")
 T = TypeVar("T")
@@ -62,6 +70,14 @@ class Sent:
     message: Message
     answer: "asyncio.Future[Entry]"
     since: float
+
+
+class InUseError(ProcessError):
+    """Another process has the journal: `by` names it with what ends it, where it is seen."""
+
+    def __init__(self, by: str) -> None:
+        super().__init__(IN_USE, FAILED)
+        self.by = by
 
 
 class Engine:
@@ -78,6 +94,7 @@ class Engine:
         self.on_change: Callable[[], None] = lambda: None
         self._process: Process | None = None
         self._started_last: Process | None = None
+        self._left: Program | None = None
         self._pending: dict[Message, Sent] = {}
         self._held: list[Sent] = []
         self._holds = 0
@@ -94,12 +111,15 @@ class Engine:
 
     # ---- begin and end
 
-    async def open(self, runs: Sequence[Run], mark: Mark) -> tuple[list[Entry], Settled]:
+    async def open(
+        self, runs: Sequence[Run], mark: Mark, left: Program | None = None
+    ) -> tuple[list[Entry], Settled]:
         """Starts the program: the entries of its journal, and what became of the messages of
-        earlier runs. `mark` is the last that the log has. Raises ProcessError, RecoveryError,
-        OwnerError, and OSError where the journal can't be read; RolledBackError where nothing is to
-        be executed on this journal.
+        earlier runs. `mark` is the last that the log has, and `left` the program of the last run.
+        Raises ProcessError, RecoveryError, OwnerError, and OSError where the journal can't be read;
+        RolledBackError where nothing is to be executed on this journal.
         """
+        self._left = left
         process, entries = await self._started_on(mark)
         try:
             found = settled(runs, entries)
@@ -108,6 +128,7 @@ class Engine:
             raise
         self._sum = Sum(entries)
         self.is_open, self.halted = True, None
+        self._is_closed = False  # also of a round that is over, whose journal was put back
         self._begin(process)
         if process.has_ended:
             self._ended(ProcessError("", -1))
@@ -127,6 +148,7 @@ class Engine:
             is_same = await self._in_thread(operator.eq, entries[:both], before[:both])
             if not is_same or len(entries) < count:
                 raise RolledBackError("the journal was changed while its program began")
+            self._first = await self._in_thread(first_of, self.journal)
         except (RecoveryError, OwnerError, OSError):
             await process.stop()
             raise
@@ -244,10 +266,10 @@ class Engine:
     # ---- the program
 
     async def _started(self) -> tuple[Process, int]:
-        """A run of the program, and how many entries its journal has. Raises ProcessError."""
+        """A run of the program, and how many entries its journal has. Raises ProcessError, OSError.
+        """
         loop = asyncio.get_running_loop()
-        last = loop.time() + IN_USE_SECONDS
-        ends = 0
+        begin, ends = loop.time(), 0
         while True:
             process = Process(self.words, self._ended)
             try:
@@ -258,16 +280,39 @@ class Engine:
                 ends += fault.text != IN_USE
                 if fault.text != IN_USE and (fault.is_final or ends > MOST_ENDS):
                     raise
-                if loop.time() > last:
-                    raise
+                if loop.time() > begin + IN_USE_SECONDS:
+                    raise (await self._in_use() if fault.text == IN_USE else fault) from None
+            if loop.time() > begin + LEFT_SECONDS:
+                await self._end_left()
             await asyncio.sleep(PAUSE)
+
+    async def _in_use(self) -> InUseError:
+        """Says who has the journal, and how to go on: one that hangs may end later. Raises OSError
+        where there is no thread.
+        """
+        holders = await self._in_thread(leftovers.holders_of, self.journal)
+        return InUseError(leftovers.named(holders))
+
+    async def _end_left(self) -> None:
+        """Ends the program of the last run where that has the journal still, as it hangs. Raises
+        OSError where there is no thread.
+        """
+        left, self._left = self._left, None
+        if left is None:
+            return
+        holders = await self._in_thread(leftovers.holders_of, self.journal)
+        if left.pid in holders and left.end():
+            NOTICES.warning(LEFT, self.name, left.pid)
 
     def _begin(self, process: Process) -> None:
         """Writes after which entries a run begins, and what is sent to it first; then sends that.
         """
         self._turn += 1
         turn, first = self._turn, [*self._pending.values()]
-        lines = [self._mark_line("start"), *(self._line(sent.message) for sent in first)]
+        program = Program.of(process.pid)
+        about = {"first": self._first} | (program.kept() if program else {})
+        start = self._mark_line("start", **about)
+        lines = [start, *(self._line(sent.message) for sent in first)]
 
         def go() -> None:
             if turn == self._turn and not self._is_closed and not process.has_ended:
@@ -283,10 +328,11 @@ class Engine:
         of, it = self.name, message
         return sent_text(of, it.member, it.number, it.record, it.source, it.note)
 
-    def _mark_line(self, kind: str) -> str:
-        """The log's line of the entries so far."""
-        mark = dataclasses.asdict(self._sum.mark)
-        return text_of({"kind": kind, "instrument": self.name} | mark)
+    def _mark_line(self, kind: str, **more: Any) -> str:
+        """The log's line of the entries so far, and of more."""
+        mark = self._sum.mark
+        kept = {"entries": mark.entries, "sha256": mark.sha256}
+        return text_of({"kind": kind, "instrument": self.name} | kept | more)
 
     def _mark(self) -> None:
         """Writes a mark of the entries so far, where the log has none."""
@@ -349,8 +395,8 @@ class Engine:
             first, rest = await self._in_thread(sums_of, self.journal, size)
             self._first = self._first or first
             if (first, rest) != (self._first, mark.sha256):
-                await self._known_entries(mark)
-                raise RolledBackError("the journal is another one: its first line isn't the day's")
+                await self._known_entries(dataclasses.replace(mark, first=self._first))
+                raise RolledBackError(OTHER_FIRST)
             self._looked = state
         except (RolledBackError, OwnerError) as fault:
             self._give_up(turn, str(fault))
@@ -405,7 +451,7 @@ class Engine:
         try:
             process, entries = await self._started_on(self._sum.mark)
         except (ProcessError, RecoveryError, OwnerError, OSError) as found:
-            self.halt(str(found))
+            self.halt_by(found)
             return
         try:
             self._catch_up(entries)
@@ -430,14 +476,25 @@ class Engine:
         """Whether it has halted, and nobody tries it again."""
         return self.halted is not None and not self._is_tried
 
+    @property
+    def refusal(self) -> MessageError:
+        """How it refuses while it has halted."""
+        return MessageError("halted", f"{self.name} has halted; nothing was done")
+
     def halt(self, text: str) -> None:
         """Takes nothing more, until it is tried again."""
         self.halted, self._is_tried = text or "the program doesn't run", False
         held, self._held = self._held, []
         for sent in held:
             if not sent.answer.done():
-                sent.answer.set_exception(MessageError("halted"))
+                sent.answer.set_exception(self.refusal)
         self.on_change()
+
+    def halt_by(self, fault: Exception) -> None:
+        """Halts by a fault; who has the journal is said to operations alone."""
+        if isinstance(fault, InUseError) and fault.by:
+            NOTICES.warning(HELD, self.name, fault.by)
+        self.halt(str(fault))
 
     def resume(self) -> None:
         """Tries again after a halt, which lasts until `resumed` has seen that it goes on; one that
@@ -446,6 +503,7 @@ class Engine:
         if self.halted is None or self._is_tried or not self.is_open:
             return
         self._is_tried, self._ends = True, 0
+        self._is_closed = False  # also of a round that is over, and that wasn't seen
         again = self._start_again(ProcessError("", -1))
         nobody = contextvars.Context()  # what follows isn't asked for by who resumes
         self._restart = asyncio.get_running_loop().create_task(again, context=nobody)

@@ -10,20 +10,23 @@ VENUE = "VENUE"
 """The CompID of the venue."""
 COMP_ID = re.compile(r"[A-Za-z0-9_.]{1,24}")
 ADDRESS = re.compile(r"(?P<host>[A-Za-z0-9.-]+|\[[0-9A-Fa-f:.]+\]):(?P<port>[0-9]{1,5})")
+SENT = "fix.sent"
+"""What sessions were sent, which a copy of the folder reads first: the journals have all of it."""
 HOST, PORT = "127.0.0.1", 9878
 
 
 @dataclasses.dataclass(frozen=True)
 class Terms:
     """Where it listens, the name of the member of each CompID, and the CompID of the operator, who
-    is sent a copy of each trade, empty for none; the CompIDs that speak FIX 5.0SP2.
+    is sent a copy of each trade, empty for none; the CompIDs that speak FIX 5.0SP2, in order, as a
+    sum of this tells days apart.
     """
 
     sessions: Mapping[str, str]
     host: str = HOST
     port: int = PORT
     copy: str = ""
-    fix50: frozenset[str] = frozenset()
+    fix50: tuple[str, ...] = ()
 
 
 def terms_of(table: dict[str, Any]) -> Terms:
@@ -39,7 +42,7 @@ def terms_of(table: dict[str, Any]) -> Terms:
     for comp_id in fix50:
         if comp_id not in (copy, *members):
             raise fields.fault("fix50", f"{comp_id!r} is no CompID of the sessions")
-    return Terms(members, host, port, copy, frozenset(fix50))
+    return Terms(members, host, port, copy, tuple(sorted(fix50)))
 
 
 def address_of(fields: Fields) -> tuple[str, int]:

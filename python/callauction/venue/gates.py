@@ -38,6 +38,7 @@ ACCEPT_PAUSE = 0.1
 """Seconds until connections are taken again after that failed."""
 STUCK_SECONDS = 30.0
 """How long somebody who is known may take nothing of what it was sent."""
+STUCK = f"it took nothing of what it was sent for {STUCK_SECONDS:g} s"
 SLICE, HEAD_SLICE = 8192, 1024
 """Bytes of a connection that are looked at before it is the turn of the others: of one that is
 known, each two of whose slices have a whole message, and of another.
@@ -68,7 +69,8 @@ class Stage(enum.Enum):
 @dataclasses.dataclass(eq=False)
 class Gate:
     """A connection from an address, or a network that one has of IPv6; `ends` is when it has waited
-    too long. `speaker` is whose token its last request had, empty where that was nobody's.
+    too long. `speaker` is whose token its last request had, empty where that was nobody's; `why`
+    says for what it was ended that took nothing.
     """
 
     address: str
@@ -81,6 +83,7 @@ class Gate:
     unsent: int = 0
     untaken: int = 0
     is_held: bool = False
+    why: str = ""
     on_known: Callable[[], None] = lambda: None
 
     @contextlib.contextmanager
@@ -262,6 +265,7 @@ class Gates:
                 gate.ends = now + STUCK_SECONDS
             gate.unsent = unsent
             if gate.ends < now:
+                gate.why = STUCK
                 self.leave(gate)
                 gate.close()
 
@@ -468,12 +472,13 @@ class Listener:
         self._tasks.append(loop.create_task(self._sweep()))
 
     def close(self) -> None:
-        """Takes nothing more, also of those who come at this moment."""
-        for each in self._sockets:
+        """Takes nothing more, also of those who come at this moment; once."""
+        sockets, self._sockets = self._sockets, []
+        for each in sockets:
             asyncio.get_running_loop().remove_reader(each)
         for task in [*self._tasks, *self._serving]:
             task.cancel()
-        for each in self._sockets:
+        for each in sockets:
             each.close()
 
     async def _sweep(self) -> None:

@@ -261,6 +261,7 @@ class Site:
         what = request.match_info["what"]
         if what == "state":
             return answered(self._venue.state_of(instrument))
+        instrument.check_seen()
         if what == "orders":
             return answered(await teaching.orders_of(instrument, member.name))
         if what == "fills":
@@ -275,7 +276,7 @@ class Site:
         if what == "ladder":
             if not self._venue.is_open_book:
                 raise MessageError("not_allowed", "the book is closed in this round")
-            await instrument.refresh()
+            await instrument.refresh(has_ladder=True)
             return answered(shown.ladder_of(instrument))
         raise web.HTTPNotFound
 
@@ -336,8 +337,10 @@ class Site:
         if kind not in downloads.KINDS:
             raise web.HTTPNotFound
         board = self._board_of(request)
-        if kind in downloads.OF_ALL and not self._venue.is_known:
-            raise MessageError("halted", "a journal of a round is missing, or another one")
+        if kind in downloads.OF_ALL:
+            self._venue.check_gains_known()
+        elif kind == "members":
+            board.check_known()
         language = request.query.get("language", sheets.PLAIN)
         if language not in sheets.LANGUAGES:
             raise MessageError("bad_message", "language is none of en, de")

@@ -37,14 +37,17 @@ LEAST_PAUSE = 0.1
 """Seconds between two looks at the program."""
 TICK = 0.1
 """Seconds between two looks at the clock."""
+LAST_SECONDS = 0.5
+"""How long the program has for the last look at it before its input ends; it may answer later."""
 GRACE_SECONDS = 30
-"""How long a call goes on whose end passed while nobody could change an order, and after which it
-is uncrossed by itself; a shorter one as long as it is.
+"""How long a call goes on at least, after which it is uncrossed by itself, once nobody could change
+an order; a shorter one as long as it is.
 """
 BUSY_SHARE = 4
 """How often the time that a look took passes before the next one."""
 CODES_SECONDS = 1.0
 """How long the codes of a board are taken as they were: thousands of members may have some."""
+NOT_KNOWN = "{} {}: what it has isn't known until it goes on"
 FULL_SHARE = 0.9
 """The part of the open orders, and of the commands, of a day from which on it is nearly full."""
 FULL = "%s: %s of at most %s %s, then members' are refused: `%s` of the next day may be greater"
@@ -70,7 +73,7 @@ class Point:
 
 
 @dataclasses.dataclass(frozen=True)
-class Board:
+class BoardIdentity:
     """Which board an instrument has: its market, which is its name in the day's file; its group,
     from 1; its round, from 1.
     """
@@ -97,14 +100,14 @@ class Instrument:
 
     def __init__(
         self,
-        board: Board,
+        identity: BoardIdentity,
         terms: config.InstrumentTerms,
         plan: config.Plan,
         limits: Limits,
         engine: Engine,
         log: Log,
     ) -> None:
-        self.board, self.terms, self.plan, self.limits = board, terms, plan, limits
+        self.identity, self.terms, self.plan, self.limits = identity, terms, plan, limits
         self.engine, self._log = engine, log
         self.state, self.has_begun = State(), False
         self.numbers: dict[str, int] = {}
@@ -115,6 +118,7 @@ class Instrument:
         self.indication = views.Indication()
         self.day = views.DayView("opening", terms.reference, 0, terms.calls)
         self.levels: list[views.Level] = []
+        self.visible_levels: list[views.Level] = []
         self.trades: list[views.Trade] = []
         self.fills: dict[int, list[Fill]] = {}
         self.course: list[Point] = []
@@ -122,12 +126,12 @@ class Instrument:
         self.orders: dict[str, list[views.MemberOrder]] = {}
         self._book = Book()
         self.bound = Bounds().of(terms.open, terms.calls, terms.grid.tick_size)
-        self.reserve = 0
+        self.reserve, self.is_seen, self.has_run, self.is_late = 0, False, False, False
         self.codes: Callable[[], Collection[str]] = lambda: (shares.CLASS,)
         self._codes: Collection[str] = ()
         self._codes_end = 0.0
         self._calls: collections.Counter[int] = collections.Counter()
-        self._is_book_known = False
+        self._is_book_known = self._has_icebergs = self.is_ladder_seen = False
         self._full: set[str] = set()
         self._entries = 0
         self._waiting: dict[str, dict[Message, str]] = {}
@@ -135,24 +139,45 @@ class Instrument:
         self._gone: set[str] = set()
         self._leaving: set[str] = set()
         self._tasks: list[asyncio.Task[None]] = []
+        self.restores: list[Line] = []
         self.wanted: Callable[[], Iterable[str]] = lambda: ()
         self.wants_ladder: Callable[[], bool] = lambda: False
         self.on_shown: Callable[[frozenset[str], bool], None] = lambda members, traded: None
         self.on_entry: Callable[[Message, Entry | None], None] = lambda message, entry: None
         self.has_venue_halted: Callable[[], bool] = lambda: False
+        self.on_late: Callable[[], None] = lambda: None
         self._stale: set[str] = set()
         self._wakes, self._looking = asyncio.Event(), asyncio.Lock()
         self._random = random.SystemRandom()
         self._uncrosses, self._is_uncrossing = 0, False
         engine.on_entry = self._entered
 
+    def key_at(self, place: int) -> str:
+        """Its key in the ids of an entry: with the mark of the last restore that had none of this
+        place, as an entry that was lost then had the same.
+        """
+        key = self.identity.key
+        marks = [it["mark"] for it in self.restores if it["entries"].get(key, 0) < place]
+        return ".".join([key, *marks[-1:]])
+
+    def key_at_end(self) -> str:
+        """Its key in the ids of what its round's end does: with the mark of the last restore before
+        that, as an end that was lost then had the same.
+        """
+        marks = [it["mark"] for it in self.restores if it["round"] <= self.identity.round]
+        return ".".join([self.identity.key, *marks[-1:]])
+
     # ---- begin and end
 
     async def begin(self) -> None:
         """Looks at the program, before `run`. Raises ProcessError."""
         now = clock.now()
+        is_late = self.state.is_due(now)
         self._give_time(now)
         self.keep_time(now)
+        if is_late:
+            self.is_late = True
+            self.on_late()
         try:
             await self.look()
         except ProcessError as fault:
@@ -162,19 +187,25 @@ class Instrument:
 
     def run(self) -> None:
         """Goes by the clock from now on, and looks at the program again and again."""
+        self.has_run = True
         nobody = contextvars.Context()  # what follows isn't asked for by who began it
         for work in (self.run_clock(), self.run_looks()):
             self._tasks.append(asyncio.create_task(work, context=nobody.copy()))
 
     async def end(self) -> None:
-        """Ends the program, which answers before what it has read."""
+        """Ends the program, which answers before what it has read, and is looked at a last time."""
         for task in self._tasks:
             task.cancel()
+        looking = asyncio.create_task(self.look())
+        await asyncio.wait({looking}, timeout=LAST_SECONDS)
         await self.engine.close()
+        looking.cancel()
+        with contextlib.suppress(ProcessError, asyncio.CancelledError):
+            await looking
 
     def _note(self, kind: str, **line: Any) -> None:
         """Writes a line about it to the log."""
-        self._log.note(kind=kind, instrument=self.board.key, **line)
+        self._log.note(kind=kind, instrument=self.identity.key, **line)
 
     # ---- members and their messages
 
@@ -220,10 +251,24 @@ class Instrument:
         if not self.engine.is_open:
             raise MessageError("halted", self.engine.halted or "")
 
+    def check_seen(self) -> None:
+        """Raises MessageError until its program has shown what the day has: none of that is known,
+        and no list of it is empty.
+        """
+        if not self.is_seen:
+            why = "begins" if self.engine.halted is None else "has halted"
+            raise MessageError("halted", NOT_KNOWN.format(self.identity.key, why))
+
+    def knows_orders_of(self, member: str) -> bool:
+        """Whether the open orders of a member were seen as they are now, or it has never had one.
+        """
+        is_current = member in self.orders and member not in self._stale
+        return self.is_seen and (is_current or member not in self.numbers)
+
     def check_open(self) -> None:
         """Raises MessageError where no member's order is taken now."""
         if self.engine.halted is not None:
-            raise MessageError("halted")
+            raise self.engine.refusal
         if self.state.frozen is not None:
             raise MessageError("frozen")
         if self.state.phase is Phase.OVER:
@@ -254,8 +299,7 @@ class Instrument:
         the operator, and for each open order one that deletes it, also where its member is removed;
         and those that are for other codes, or for members who have fewer.
         """
-        left = self.terms.calls - self.engine.count - self.engine.waiting
-        left -= self.reserve + self._book.count + self._entering
+        left = self.left_to_members
         is_entered = record.startswith("enter")
         if left < 1 + is_entered:
             raise MessageError("no_calls")
@@ -265,6 +309,12 @@ class Instrument:
         left, used = left - is_entered, self._used_by_code()
         most = shares.most(member, used, left, last, bound.last_calls)
         allowance.check_last(self._used(member), most)
+
+    @property
+    def left_to_members(self) -> int:
+        """How many commands members have left, below 0 where some are kept that the day hasn't."""
+        left = self.terms.calls - self.engine.count - self.engine.waiting
+        return left - self.reserve - self._book.count - self._entering
 
     def _used(self, member: str) -> int:
         """How many commands a member has used, those that aren't answered yet too."""
@@ -289,6 +339,7 @@ class Instrument:
     def _send(self, member: str, order: Order, is_first: bool = False) -> "asyncio.Future[Entry]":
         """Sends a member's order. Raises MessageError."""
         record = f"{self.number_of(member)},{order.record}"
+        self._has_icebergs |= has_peak(record)  # before a look can see the order
         message = Message(member, order.number, record, SOURCE.get(), order.note)
         answer = self.engine.submit(message, is_first)
         self._waiting.setdefault(member, {})[message] = order.record
@@ -359,13 +410,14 @@ class Instrument:
         """Says once that there is nearly as much as the day's file allows by this key."""
         if count >= FULL_SHARE * most and key not in self._full:
             self._full.add(key)
-            NOTICES.warning(FULL, self.board.key, count, most, what, key)
+            NOTICES.warning(FULL, self.identity.key, count, most, what, key)
 
     def learn(self, entry: Entry) -> None:
         """Whose an order is."""
         if (order := entry.order) is not None:
             self.owners[order] = entry.member
         self._book.take(entry.record, entry.reply)
+        self._has_icebergs |= has_peak(entry.record)
         self._calls[entry.member] += 1
         self._entries += 1
 
@@ -397,6 +449,7 @@ class Instrument:
         """The phase after an uncross."""
         self.state = self.state.replied(entry.reply)
         if not entry.reply.startswith("refused"):
+            self.is_late = False
             self.results.append(entry.reply)
             self._is_book_known = self._is_book_known and entry.reply.startswith("interrupted")
 
@@ -473,7 +526,7 @@ class Instrument:
     async def uncross(self) -> str:
         """Ends the call and uncrosses: the program's reply. Raises PhaseError and MessageError."""
         if self.engine.halted is not None:
-            raise MessageError("halted")
+            raise self.engine.refusal
         self._check_free()
         if not self.state.may_uncross():
             raise PhaseError(f"nothing can be uncrossed in the phase {self.state.phase}")
@@ -498,7 +551,7 @@ class Instrument:
     def _enter(self, state: State) -> None:
         """Another phase, or another end of it. Raises MessageError."""
         self.check_known()
-        self.state = state
+        self.state, self.is_late = state, False
         self._note("phase", began=self.began, **state.kept())
         self.touch()
 
@@ -511,13 +564,19 @@ class Instrument:
             self._enter(self.state.ended())
 
     def _give_time(self, now: float) -> None:
-        """A call whose end passed while nobody could change an order goes on for a while, where it
-        would be uncrossed by itself.
+        """A call that would be uncrossed by itself before those who were away could change an order
+        goes on for a while.
         """
-        if self.plan.is_automatic and self.state.is_due(now):
-            is_extended = self.state.phase is Phase.EXTENDED
-            length = self.plan.extension if is_extended else self.plan.call
-            self._enter(self.state.goes_on(now, min(GRACE_SECONDS, length or GRACE_SECONDS)))
+        least = self.grace
+        if self.plan.is_automatic and self.state.is_due(now + least):
+            self._enter(self.state.goes_on(now, least))
+
+    @property
+    def grace(self) -> int:
+        """How many seconds a call goes on at least, once nobody could change an order."""
+        is_extended = self.state.phase is Phase.EXTENDED
+        length = self.plan.extension if is_extended else self.plan.call
+        return min(GRACE_SECONDS, length or GRACE_SECONDS)
 
     @property
     def _stands_still(self) -> bool:
@@ -568,32 +627,38 @@ class Instrument:
         """Waits until all that was sent is answered, and sees it. Raises MessageError."""
         while self.engine.waiting:
             if self.engine.halted is not None:
-                raise MessageError("halted")
+                raise self.engine.refusal
             await asyncio.sleep(TICK)
         await self.refresh()
 
-    async def refresh(self) -> None:
-        """Sees all that the program has done. Raises MessageError where it doesn't run."""
+    async def refresh(self, has_ladder: bool = False) -> None:
+        """Sees all that the program has done, also the book where that is asked for. Raises
+        MessageError where it doesn't run.
+        """
         try:
-            await self.look()
+            await self.look(has_ladder)
         except ProcessError:
             raise MessageError("halted", "the program doesn't answer now") from None
 
-    async def look(self) -> None:
-        """Looks at the program once. Raises ProcessError."""
+    async def look(self, has_ladder: bool = False) -> None:
+        """Looks at the program once, and at the book where somebody wants it. Raises ProcessError.
+        """
         async with self._looking:  # a second look would see the same trades as new
-            await self._look()
+            await self._look(has_ladder or self.wants_ladder())
 
-    async def _look(self) -> None:
+    async def _look(self, has_ladder: bool) -> None:
         """Looks at the program, while nobody else does. Raises ProcessError."""
         wanted = [it for it in self.wanted() if it in self._stale]
         asked = [it for it in wanted if it in self.numbers]
         self._stale.difference_update(wanted)
+        for member in asked:
+            self.orders.pop(member, None)  # which nobody is shown meanwhile
         records = ["show", "show,day", f"show,trades,{len(self.trades) + 1}"]
         records += [f"show,orders,{self.numbers[it]}" for it in asked]
-        if has_ladder := self.wants_ladder():
+        if has_ladder:
             records.append("show,ladder")
-        if sees_book := not self._is_book_known:
+        sees_book, sees_hidden = not self._is_book_known, has_ladder and self._has_icebergs
+        if sees_book or sees_hidden:
             records.append("show,orders")
         entries = self._entries
         try:
@@ -606,12 +671,18 @@ class Instrument:
         trades = views.trades_of(found[2])
         self.add_trades(trades)
         self.orders.update(zip(asked, map(views.orders_of, found[3:])))
+        self.is_ladder_seen = has_ladder
         if has_ladder:
-            self.levels = views.levels_of(found[3 + len(asked)])
+            self.levels = self.visible_levels = views.levels_of(found[3 + len(asked)])
+        if sees_hidden:
+            orders = views.orders_of(found[-1])
+            self.visible_levels = views.visible_levels(orders, self.day.auction)
         if sees_book and entries == self._entries:
             self._book.seen(views.orders_of(found[-1]))
             self._is_book_known = True
-        self.on_shown(frozenset(asked), bool(trades))
+        is_first, self.is_seen = not self.is_seen, True
+        told = [it for it in self.wanted() if self.knows_orders_of(it)] if is_first else asked
+        self.on_shown(frozenset(told), is_first or bool(trades))
 
     def _indicated(self, found: views.Indication) -> None:
         """What is indicated now: a point of the course, where that ends with something else."""
@@ -664,13 +735,19 @@ class Instrument:
         return self.names.get(self.owners.get(order, 0), "")
 
 
+def has_peak(record: str) -> bool:
+    """Whether a command asks for an iceberg order."""
+    fields = record.split(",")
+    return fields[1] == "enter" and len(fields) > 5 and fields[5] != ""
+
+
 def plan_of(plan: config.Plan, treatment: Treatment) -> config.Plan:
     """The lengths of a round's phases."""
     return plan if treatment.call is None else dataclasses.replace(plan, call=treatment.call)
 
 
 def opened(
-    board: Board,
+    identity: BoardIdentity,
     terms: config.InstrumentTerms,
     treatment: Treatment,
     day: config.DayTerms,
@@ -681,13 +758,13 @@ def opened(
     """An instrument of a day in a round, whose journal is in this folder; its program isn't started
     yet.
     """
-    terms = dataclasses.replace(terms.in_round(treatment), name=board.name)
+    terms = dataclasses.replace(terms.in_round(treatment), name=identity.name)
     plan = plan_of(day.plan, treatment)
-    journal = folder / f"{board.key}.journal.csv"
+    journal = folder / f"{identity.key}.journal.csv"
     words = [program, "--live", "--journal", str(journal), "--reserve", str(day.reserve)]
     words += [] if day.is_synced else ["--sync", "none"]
-    engine = Engine(board.key, [*words, *terms.words()], journal, log)
-    found = Instrument(board, terms, plan, terms.limits(treatment), engine, log)
+    engine = Engine(identity.key, [*words, *terms.words()], journal, log)
+    found = Instrument(identity, terms, plan, terms.limits(treatment), engine, log)
     found.bound = day.bounds.of(terms.open, terms.calls, terms.grid.tick_size)
     found.reserve = day.reserve
     return found

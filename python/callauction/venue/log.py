@@ -16,7 +16,7 @@ import pathlib
 from collections.abc import Callable, Iterator, Mapping
 from typing import Any
 
-from callauction.venue import clock, owned
+from callauction.venue import clock, leftovers, owned
 
 Line = dict[str, Any]
 Then = Callable[[], None]
@@ -35,7 +35,9 @@ FIELDS: dict[str, dict[str, type]] = {
     "day": {"instruments": dict, "parts": dict},
     "round": {"round": int, "groups": int, "treatment": dict},
     "group": {"round": int, "group": int},
+    "restored": {"mark": str, "entries": dict, "round": int},
     "clock": {"instrument": str, "behind": float},
+    "boot": {"id": str, "began": float},
 }
 """What lines of some kinds have at least."""
 MOST_SHOWN = 80
@@ -137,7 +139,8 @@ class Log:
             fcntl.flock(self._file, fcntl.LOCK_EX | fcntl.LOCK_NB)
         except BlockingIOError:
             os.close(self._file)
-            raise LogInUse(f"{path} is in use by another venue") from None
+            who = "".join(f", process {it}" for it in leftovers.holders_of(path))
+            raise LogInUse(f"{path} is in use by another venue{who}") from None
         if is_synced:
             owned.sync_folder(path.parent)
         self._length = 0
@@ -163,6 +166,11 @@ class Log:
         os.ftruncate(self._file, len(whole))
         self._length = len(whole)
         return read_lines(whole, str(self.path))
+
+    @property
+    def length(self) -> int:
+        """How many bytes are written."""
+        return self._length
 
     @property
     def waiting(self) -> int:

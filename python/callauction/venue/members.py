@@ -116,6 +116,11 @@ class Members:
         """The member whose token this is."""
         return self._by_token.get(tokens.digest(token))
 
+    def is_given(self, token: str) -> bool:
+        """Whether a token is a member's, or was."""
+        own = tokens.digest(token)
+        return own in self._former or any(it.token == own for it in self.everybody)
+
     def was_token(self, token: str) -> bool:
         """Whether a token was a member's who has another one since."""
         return tokens.digest(token) in self._former

@@ -18,6 +18,8 @@ from callauction.venue.venue import Venue
 
 PREFIX = "callboard"
 OF_INSTRUMENTS = ("instrument",)
+OF_PROGRAMS = ("halted", "waiting", "restarts")
+"""The measures of an instrument that are known before it was seen what its day has."""
 KEPT_SECONDS = 1.0
 """How long the text of /metrics is given again, however many ask for it: with many instruments it
 takes as long as some orders.
@@ -73,6 +75,7 @@ class Measures:
             "halted": "1 while the instrument, or the whole venue, has halted",
             "waiting": "messages that wait for their answer",
             "calls_left": "commands that the day has left",
+            "calls_left_to_members": "commands that members have left, without those that are kept",
             "orders_open": "orders that are open in the book",
             "orders_left": "orders that the book has room for",
         }
@@ -83,24 +86,30 @@ class Measures:
         }
         for name, what in gauges.items():
             gauge = GaugeMetricFamily(f"{PREFIX}_{name}", what, labels=OF_INSTRUMENTS)
-            for of, instrument in self._venue.instruments.items():
+            for of, instrument in self._known(name):
                 is_halted = name == "halted" and self._venue.halted is not None
                 gauge.add_metric([of], max(is_halted, value_of(instrument, name)))
-            for of in early_halts(self._venue) if name == "halted" else ():
-                gauge.add_metric([of], 1)
+            for early, _ in self._venue.early_halts if name == "halted" else ():
+                gauge.add_metric([early_name(early)], 1)
             yield gauge
         for name, what in counters.items():
             counter = CounterMetricFamily(f"{PREFIX}_{name}", what, labels=OF_INSTRUMENTS)
-            for of, instrument in self._venue.instruments.items():
+            for of, instrument in self._known(name):
                 counter.add_metric([of], value_of(instrument, name))
             yield counter
+
+    def _known(self, name: str) -> Iterator[tuple[str, Instrument]]:
+        """The instruments of which a measure is known, by their names."""
+        for of, instrument in self._venue.instruments.items():
+            if instrument.is_seen or name in OF_PROGRAMS:
+                yield of, instrument
 
     def _phases(self) -> Metric:
         """In which phase each instrument is: 1 for that, 0 for the others."""
         found = GaugeMetricFamily(
             f"{PREFIX}_phase", "1 for the phase", labels=(*OF_INSTRUMENTS, "phase")
         )
-        for name, instrument in self._venue.instruments.items():
+        for name, instrument in self._known("phase"):
             for phase in Phase:
                 found.add_metric([name, str(phase)], int(instrument.state.phase is phase))
         return found
@@ -137,6 +146,7 @@ def value_of(instrument: Instrument, name: str) -> float:
         "halted": int(engine.halted is not None),
         "waiting": engine.waiting,
         "calls_left": instrument.day.left,
+        "calls_left_to_members": max(0, instrument.left_to_members),
         "orders_open": instrument.open_count,
         "orders_left": instrument.terms.open - instrument.open_count,
         "orders": engine.count,
@@ -169,16 +179,10 @@ def halts_of(venue: Venue) -> dict[str, str]:
     """Why the venue, and each of its instruments, has halted, where it has."""
     halted = {name: it.engine.halted for name, it in venue.instruments.items()}
     found = {name: why for name, why in halted.items() if why is not None}
-    return found | early_halts(venue) | ({"venue": venue.halted} if venue.halted else {})
+    early = {early_name(it): why for it, why in venue.early_halts}
+    return found | early | ({"venue": venue.halted} if venue.halted else {})
 
 
-def early_halts(venue: Venue) -> dict[str, str]:
-    """Why instruments of earlier rounds have halted of which it isn't known what their journals
-    have.
-    """
-    return {
-        f"{it.board.name} of round {round_.number}": it.engine.halted
-        for round_ in venue.rounds[:-1]
-        for it in round_.boards.values()
-        if it.engine.halted is not None and not it.engine.is_open
-    }
+def early_name(board: Instrument) -> str:
+    """What operations read of a board of an earlier round."""
+    return f"{board.identity.name} of round {board.identity.round}"

@@ -16,6 +16,7 @@ from collections.abc import Iterable, Mapping, Sequence
 
 
 BLOCK = 1 << 18
+OTHER_FIRST = "the journal is another one: its first line isn't the day's"
 
 
 class RecoveryError(Exception):
@@ -62,15 +63,21 @@ class Message:
 
 @dataclasses.dataclass(frozen=True, slots=True)
 class Mark:
-    """How many entries a journal had, and their SHA-256; no digest where none was written down."""
+    """How many entries a journal had, and their SHA-256, and that of its first line; no digest
+    where none was written down.
+    """
 
     entries: int = 0
     sha256: str = ""
+    first: str = dataclasses.field(default="", compare=False)
 
-    def check(self, entries: Sequence[Entry], is_there: bool = True) -> None:
+    def check(self, entries: Sequence[Entry], is_there: bool = True, first: str = "") -> None:
         """Raises RolledBackError where the entries of a journal don't begin with those, or where
-        they aren't there.
+        they aren't there, or behind another `first` line, whose SHA-256 it is; one without entries
+        is the program's to refuse.
         """
+        if self.entries and self.first and first and first != self.first:
+            raise RolledBackError(OTHER_FIRST)
         if self.entries and not is_there:
             text = f"the journal is missing, and the log knows of {self.entries} entries"
             raise RolledBackError(text)
@@ -127,8 +134,19 @@ def known_entries(path: pathlib.Path, mark: Mark) -> list[Entry]:
     don't, and OSError.
     """
     found = entries_of(path)
-    mark.check(found)
+    mark.check(found, first=first_of(path))
     return found
+
+
+def first_of(path: pathlib.Path) -> str:
+    """The SHA-256 of a journal's first line, empty where there is none that is whole. Raises
+    OSError.
+    """
+    if not path.exists():
+        return ""
+    with open(path, "rb") as file:
+        first = file.readline(BLOCK)
+    return hashlib.sha256(first).hexdigest() if first.endswith(b"\n") else ""
 
 
 def entries_in(text: str) -> list[Entry]:

@@ -3,6 +3,7 @@ import errno
 
 from callauction.statuses import BAD_DAY, BAD_FILE, FAILED, UNLAWFUL
 from callauction.venue.begun import OtherDayError
+from callauction.venue.engine import InUseError
 from callauction.venue.fields import ConfigError
 from callauction.venue.log import LogError, LogInUse, OtherVersion
 from callauction.venue.owned import OwnerError
@@ -35,6 +36,7 @@ OF_FILES = {
 }
 """What to do by the number of a fault of the system."""
 OF_PROGRAM = {
+    "journal in use by": f"or {NEW}",
     "journal in use": f"end the program that has it, or {NEW}",
     "journal of another day": f"take the day as it was, or {NEW}",
     "journal open failed": f"put the venue's own file back, or {NEW}",
@@ -80,6 +82,7 @@ def said_of_program(fault: ProcessError) -> tuple[str, int]:
     """What is said where the program ends as it starts, and the status."""
     ended = f"ended with status {fault.status}" if fault.status else "isn't callboard"
     text = fault.text or f"the program {ended}"
+    text += fault.by if isinstance(fault, InUseError) else ""
     found = (do for begin, do in OF_PROGRAM.items() if text.startswith(begin))
     status = fault.status if BAD_FILE <= fault.status <= UNLAWFUL else FAILED
     return f"{board_of(fault)}{text}: {next(found, 'docs/FORMATS.md has it')}", status

@@ -15,8 +15,9 @@ def main() -> int:
     parser = argparse.ArgumentParser(
         prog="python3 -P -m callauction.venue.restore",
         description="Puts a copy of a venue's folder to a new folder, once all of it is checked.",
-        epilog="statuses: 0 restored; 1 the copy isn't whole, or has an unlawful reply; 2 others "
-        "own it or may write to it; 3 no program, or a read or a write failed",
+        epilog="statuses: 0 restored; 1 the copy isn't whole, or has an unlawful reply, or the new "
+        "folder is there already; 2 others own it or may write to it; 3 no program, or a read or a "
+        "write failed",
     )
     parser.add_argument("copy", type=pathlib.Path, metavar="COPY", help="what backup has made")
     parser.add_argument("folder", type=pathlib.Path, metavar="FOLDER", help="a new folder")

@@ -55,7 +55,7 @@ class Robots:
         while True:
             await asyncio.sleep(PAUSE)
             for member, board in self._turns():
-                turn = member.name, board.board.key, board.state.auction
+                turn = member.name, board.identity.key, board.state.auction
                 if turn not in self._due:
                     self._due[turn] = clock.now() + CHANCE.random() * window(board)
                 if self._due[turn] <= clock.now():
@@ -68,7 +68,7 @@ class Robots:
         for board in self._venue.instruments.values():
             halted = board.engine.halted or self._venue.halted
             if board.state.takes_orders() and not halted:
-                here = (it for it in robots if it.group == board.board.group)
+                here = (it for it in robots if it.group == board.identity.group)
                 yield from ((it, board) for it in here if not waits(it, board))
 
     def _play(self, member: Member, board: Instrument) -> None:

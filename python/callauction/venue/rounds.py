@@ -27,7 +27,7 @@ class Round:
     @property
     def groups(self) -> int:
         """How many groups there are."""
-        return max(it.board.group for it in self.boards.values())
+        return max(it.identity.group for it in self.boards.values())
 
     @property
     def has_begun(self) -> bool:
@@ -46,11 +46,11 @@ class Round:
 
     def of_group(self, group: int) -> dict[str, Instrument]:
         """The boards of a group."""
-        return {name: it for name, it in self.boards.items() if it.board.group == group}
+        return {name: it for name, it in self.boards.items() if it.identity.group == group}
 
     def of_market(self, market: str) -> list[Instrument]:
         """The boards of a market."""
-        return [it for it in self.boards.values() if it.board.market == market]
+        return [it for it in self.boards.values() if it.identity.market == market]
 
     def values(self, market: str) -> dict[str, Value]:
         """The values that members have in a market."""
@@ -62,9 +62,9 @@ class Round:
     def move(self, groups: Mapping[str, int]) -> None:
         """Members who are in other groups from now on take their values with them."""
         for board in self.boards.values():
-            others = {it.board.group: it for it in self.of_market(board.board.market)}
+            others = {it.identity.group: it for it in self.of_market(board.identity.market)}
             for name in [*board.accounts.values]:
-                if (group := groups.get(name, board.board.group)) != board.board.group:
+                if (group := groups.get(name, board.identity.group)) != board.identity.group:
                     value = board.accounts.values.pop(name)
                     others[group].accounts.values[name] = value
 

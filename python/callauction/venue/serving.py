@@ -1,6 +1,5 @@
 """A venue that listens: the address, TLS, the line that says where it is, and its end."""
 import asyncio
-import contextlib
 import dataclasses
 import functools
 import gc
@@ -13,7 +12,7 @@ import ssl
 import sys
 import threading
 import time
-from collections.abc import AsyncIterator, Callable, Iterator, Mapping, Sequence
+from collections.abc import Callable, Coroutine, Iterator, Mapping, Sequence
 from typing import Any, Protocol
 
 from aiohttp import web
@@ -206,20 +205,60 @@ def decoded(cert: str) -> dict[str, Any]:
     return found
 
 
-class Front(Protocol):
-    """Another way to a venue than by pages and WebSocket, which has at most `files` files open."""
+class Door(Protocol):
+    """A way to a venue that listens."""
+
+    def shut(self) -> None:
+        """Takes no connection more."""
+
+    async def end(self) -> None:
+        """Ends all connections, soon, once it is shut."""
+
+
+class Front(Door, Protocol):
+    """Another way than by pages and WebSocket, which has at most `files` files open."""
 
     files: int
 
-    def served(
-        self, tls: gates.Tls | None
-    ) -> contextlib.AbstractAsyncContextManager[str]:
+    async def begin(self, tls: gates.Tls | None) -> str:
         """Listens, with this TLS: the line that says where. Raises AddressError."""
 
     def measures(self) -> Mapping[str, tuple[str, float]]:
         """What operations see of it, by names of which those of what only grows end with `_total`:
         what it is, and how much.
         """
+
+
+class Pages:
+    """Pages that are served at an address."""
+
+    def __init__(self, application: web.Application, found: gates.Gates) -> None:
+        self._runner, self._gates = web.AppRunner(application), found
+        self._listener: gates.Listener | None = None
+
+    async def begin(self, host: str, port: int, tls: gates.Tls | None = None) -> int:
+        """Listens: the port. Raises AddressError."""
+        await self._runner.setup()
+        assert self._runner.server is not None
+        try:
+            sockets = gates.listening(host, port)
+        except OSError as fault:
+            raise AddressError(gates.why_not(host, port, fault)) from None
+        handler = functools.partial(Handler, self._runner.server)
+        self._listener = gates.Listener(self._gates, sockets, handler, tls)
+        return int(sockets[0].getsockname()[1])
+
+    def shut(self) -> None:
+        """Takes no connection more."""
+        if self._listener is not None:
+            self._listener.close()
+
+    async def end(self) -> None:
+        """Ends all connections, once their requests are answered or GRACE has passed."""
+        await self._runner.shutdown()
+        if self._runner.server is not None:
+            await self._runner.server.shutdown(GRACE)
+        await self._runner.cleanup()
 
 
 def lines_of_begin(venue: Venue, entries: int) -> list[str]:
@@ -277,89 +316,71 @@ def end_in_time() -> None:
     timer.start()
 
 
-async def opened(venue: Venue, stopped: asyncio.Event) -> int | None:
-    """How many entries the journals of an opened venue have; None where it is stopped before.
-    Raises what Venue.open raises.
+async def unless(stopped: asyncio.Event, work: Coroutine[Any, Any, None]) -> bool:
+    """Whether some work is done before it is to be stopped, and cancelled. Raises what it raises.
     """
-    opening = asyncio.create_task(venue.open())
-    stopping = asyncio.create_task(stopped.wait())
-    await asyncio.wait({opening, stopping}, return_when=asyncio.FIRST_COMPLETED)
+    working, stopping = asyncio.create_task(work), asyncio.create_task(stopped.wait())
+    await asyncio.wait({working, stopping}, return_when=asyncio.FIRST_COMPLETED)
     stopping.cancel()
-    if opening.done():
-        return opening.result()
-    opening.cancel()
-    await asyncio.wait({opening})
-    return None
+    if not working.done():
+        working.cancel()
+        await asyncio.wait({working})
+        return False
+    working.result()
+    return True
 
 
-@contextlib.asynccontextmanager
-async def served(
-    application: web.Application,
-    found: gates.Gates,
-    host: str,
-    port: int,
-    tls: gates.Tls | None = None,
-) -> AsyncIterator[int]:
-    """Serves pages at an address: the port. Raises AddressError."""
-    runner = web.AppRunner(application)
-    await runner.setup()
-    try:
-        try:
-            sockets = gates.listening(host, port)
-        except OSError as fault:
-            raise AddressError(gates.why_not(host, port, fault)) from None
-        assert runner.server is not None
-        handler = functools.partial(Handler, runner.server)
-        listener = gates.Listener(found, sockets, handler, tls)
-        try:
-            yield int(sockets[0].getsockname()[1])
-        finally:
-            listener.close()
-            await runner.shutdown()
-            await runner.server.shutdown(GRACE)
-    finally:
-        await runner.cleanup()
-
-
-async def listen(
+async def begin(
     venue: Venue,
     program: str,
     address: Address,
-    entries: int,
     tls: gates.Tls | None,
-    stopped: asyncio.Event,
-    fronts: Sequence[Front] = (),
+    fronts: Sequence[Front],
+    doors: list[Door],
 ) -> None:
-    """Serves an opened venue until it is stopped. Raises AddressError."""
+    """Opens a venue and its doors. Raises AddressError, and what Venue.open raises."""
+    entries = await venue.open()
     kept = sum(it.files for it in fronts) + MOST_OF_METRICS * (address.metrics is not None)
     own = gates.Gates(gates.most_connections(kept))
-    begin, others = lines_of_begin(venue, entries), []
-    site = Site(venue, program, address.hosts(), own)
-    async with contextlib.AsyncExitStack() as stack:
-        if address.metrics is not None:
-            pages = measures(venue, own, fronts)
-            few = gates.Gates(MOST_OF_METRICS, MOST_OF_METRICS)
-            looked = await stack.enter_async_context(served(pages, few, *address.metrics))
-            others.append(f"metrics  {url_of_metrics(address, looked)}")
-        where = address.host, address.port, tls
-        port = await stack.enter_async_context(served(site.application(), own, *where))
-        venue.urls = functools.partial(address.urls, port)
-        others += [await stack.enter_async_context(it.served(tls)) for it in fronts]
-        collect_rarely()
-        print("\n".join([*begin, *lines_of_address(venue, address, others)]), flush=True)
-        NOTICES.info("serving at port %s, %s entries so far", port, entries)
-        for line in others:
-            NOTICES.info("%s", line)
-        if venue.round.is_over:
-            NOTICES.warning(OVER)
-        supervising.notify("READY=1")
-        if seconds := supervising.watchdog_seconds():
-            living = asyncio.create_task(supervising.live(seconds))
-            stack.callback(living.cancel)
-        await stopped.wait()
-        supervising.notify("STOPPING=1")
-        NOTICES.info("ending")
-        venue.dismiss()
+    first, others = lines_of_begin(venue, entries), []
+    if address.metrics is not None:
+        few = gates.Gates(MOST_OF_METRICS, MOST_OF_METRICS)
+        looked = Pages(measures(venue, own, fronts), few)
+        doors.append(looked)
+        others.append(f"metrics  {url_of_metrics(address, await looked.begin(*address.metrics))}")
+    pages = Pages(Site(venue, program, address.hosts(), own).application(), own)
+    doors.append(pages)
+    port = await pages.begin(address.host, address.port, tls)
+    venue.urls = functools.partial(address.urls, port)
+    for front in fronts:
+        others.append(await front.begin(tls))
+        doors.append(front)
+    collect_rarely()
+    print("\n".join([*first, *lines_of_address(venue, address, others)]), flush=True)
+    NOTICES.info("serving at port %s, %s entries so far", port, entries)
+    for line in others:
+        NOTICES.info("%s", line)
+    if venue.round.is_over:
+        NOTICES.warning(OVER)
+
+
+async def live(stopped: asyncio.Event) -> None:
+    """Tells the service manager that the venue serves and lives, until it is stopped."""
+    supervising.notify("READY=1")
+    seconds = supervising.watchdog_seconds()
+    living = asyncio.create_task(supervising.live(seconds)) if seconds else None
+    await stopped.wait()
+    if living is not None:
+        living.cancel()
+
+
+async def end(venue: Venue, doors: Sequence[Door]) -> None:
+    """Ends a venue and its doors at the same time, once nobody new can come. Raises OSError."""
+    gc.disable()
+    for door in doors:
+        door.shut()
+    venue.dismiss()
+    await venue.close(*(door.end() for door in doors))
 
 
 def collect_rarely() -> None:
@@ -410,15 +431,8 @@ def on_signal(number: signal.Signals, act: Callable[[], None]) -> None:
     signal.signal(number, lambda *_: loop.call_soon_threadsafe(act))
 
 
-async def serve(
-    venue: Venue, program: str, address: Address, fronts: Sequence[Front] = ()
-) -> None:
-    """Listens until SIGINT or SIGTERM; SIGHUP takes the certificate anew, or where there is none
-    and a terminal has ended, ends too. Raises AddressError, and what Venue.open and close raise.
-    """
-    context = address.context()
-    tls = gates.Tls(context) if context else None
-    take(venue, address)
+def stopped_by_signals() -> asyncio.Event:
+    """What is set by the first signal from now on that ends the venue, within END_SECONDS."""
     stopped = asyncio.Event()
 
     def stop() -> None:
@@ -426,21 +440,38 @@ async def serve(
             stopped.set()
             end_in_time()
 
-    acts = dict.fromkeys(ENDING, stop)
+    for number in ENDING:
+        on_signal(number, stop)
+    return stopped
+
+
+async def serve(
+    venue: Venue,
+    program: str,
+    address: Address,
+    fronts: Sequence[Front],
+    stopped: asyncio.Event,
+) -> None:
+    """Listens until it is stopped; SIGHUP takes the certificate anew, unless there is none and a
+    terminal has ended. Raises AddressError, and what Venue.open and close raise.
+    """
+    context = address.context()
+    tls = gates.Tls(context) if context else None
+    take(venue, address)
     if tls is not None or sys.stdin is None or not sys.stdin.isatty():
-        acts[signal.SIGHUP] = functools.partial(reload, venue, address, tls)
-    for number, act in acts.items():
-        on_signal(number, act)
+        on_signal(signal.SIGHUP, functools.partial(reload, venue, address, tls))
     counting = asyncio.create_task(notices.write_counts())
+    doors: list[Door] = []
     try:
-        entries = await opened(venue, stopped)
-        if entries is None:
-            return
-        await listen(venue, program, address, entries, tls, stopped, fronts)
+        if await unless(stopped, begin(venue, program, address, tls, fronts, doors)):
+            await live(stopped)
+            supervising.notify("STOPPING=1")
+            NOTICES.info("ending")
     finally:
         try:
-            await venue.close()
+            await end(venue, doors)
         finally:
             counting.cancel()
+            gc.freeze()  # to look at all that a long day has left would take many seconds
             for number in ENDING:  # nothing is left for one more to end
                 signal.signal(number, signal.SIG_IGN)

@@ -12,6 +12,11 @@ from callauction.venue.views import Indication, Trade
 
 Json = dict[str, Any]
 TRADES = re.compile(r" trades (\d+)$")
+UNKNOWN: Json = dict.fromkeys(("phase", "auction"), "unknown") | dict.fromkeys(
+    ("ends", "latest", "reference", "indication", "results", "trades", "left")
+    + ("calls_left_to_members",)
+)
+"""What a state has until the program has shown what the day has."""
 MOST_GAINS = 10
 """How many members are shown who gained most."""
 MOST_SHOWN = 500
@@ -43,9 +48,11 @@ def results_of(instrument: Instrument) -> list[Json]:
 
 
 def state_of(instrument: Instrument, now: float) -> Json:
-    """What everybody may see: the phase, its clock, the indication, what uncrosses came to."""
+    """What everybody may see: the phase, its clock, the indication, what uncrosses came to; without
+    what isn't known yet.
+    """
     state = instrument.state
-    return {
+    found: Json = {
         "type": "state",
         "instrument": instrument.terms.name,
         "phase": str(state.phase),
@@ -60,18 +67,20 @@ def state_of(instrument: Instrument, now: float) -> Json:
         "results": results_of(instrument),
         "trades": len(instrument.trades),
         "left": instrument.day.left,
-        "round": instrument.board.round,
+        "calls_left_to_members": max(0, instrument.left_to_members),
+        "round": instrument.identity.round,
     }
+    return found if instrument.is_seen else found | UNKNOWN
 
 
 def terms_of(instrument: Instrument, has_groups: bool = False) -> Json:
     """What an instrument is; its title has the number of its group where there are more."""
-    terms, board = instrument.terms, instrument.board
+    terms, identity = instrument.terms, instrument.identity
     limits = {name: terms.price(getattr(terms, name)) for name in ("low", "high")}
-    title = terms.title or board.market
+    title = terms.title or identity.market
     return limits | {
         "name": terms.name,
-        "title": f"{title} · {board.group}" if has_groups else title,
+        "title": f"{title} · {identity.group}" if has_groups else title,
         "currency": terms.currency,
         "tick_size": format(terms.grid.tick_size, "f"),
         "range": price_of(instrument, terms.range),
@@ -156,11 +165,12 @@ def trades_of(
     return {"type": "trades", "instrument": instrument.terms.name, "trades": found}
 
 
-def ladder_of(instrument: Instrument) -> Json:
-    """The shares at each limit; no price for those of market orders."""
+def ladder_of(instrument: Instrument, is_whole: bool = False) -> Json:
+    """The visible shares at each limit, or the whole ones; no price for those of market orders."""
+    those = instrument.levels if is_whole else instrument.visible_levels
     levels = [
         {"price": price_of(instrument, it.limit), "bid": it.bid, "ask": it.ask}
-        for it in instrument.levels
+        for it in those
     ]
     return {"type": "ladder", "instrument": instrument.terms.name, "levels": levels}
 

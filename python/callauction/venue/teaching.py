@@ -14,16 +14,16 @@
   (member or members): answers which orders were deleted, before anything else was taken, and which
   instruments have halted, where that is done as they go on.
 - robots (count, kind: zero, truthful or shading): that many more; all are removed where count is 0.
-- resume: tries again what had halted; an error says what halts again. reset (session): a session
-  by FIX begins anew.
+- resume: tries again what had halted, and answers what had (resumed); an error says what halts
+  again. reset (session): a session by FIX begins anew.
 """
 import dataclasses
 import logging
 from collections.abc import Awaitable, Callable, Container
 from typing import Any
 
+from callauction.limits import MOST_QUANTITY
 from callauction.venue import shown, views
-from callauction.venue.config import MOST_QUANTITY
 from callauction.venue.fields import SENTENCE, ConfigError, Fields, flaw_of
 from callauction.venue.handing import HOWS, SIDES, HandError, ListedValue, Rule, named, rows_of
 from callauction.venue.instrument import Instrument
@@ -196,9 +196,8 @@ async def show_payoffs(venue: Venue, message: dict[str, Any]) -> shown.Json:
 
 
 async def resume(venue: Venue, message: dict[str, Any]) -> shown.Json:
-    """Tries again what had halted. Raises MessageError where it halts again."""
-    await venue.resume()
-    return {}
+    """Tries again what had halted, and says what had. Raises MessageError where it halts again."""
+    return {"resumed": await venue.resume()}
 
 
 # ---- members
@@ -288,7 +287,7 @@ async def give(venue: Venue, message: dict[str, Any]) -> shown.Json:
     kept until somebody has them. Who would lose a value needs `replace`. Raises MessageError.
     """
     rule = rule_of(message)
-    market = venue.market_of(message.get("instrument"))[0].board.market
+    market = venue.market_of(message.get("instrument"))[0].identity.market
     rows, absent = named(rule.rows, {it.title: it.name for it in venue.members.all})
     rule = dataclasses.replace(rule, rows=rows)
     held = venue.round.values(market)

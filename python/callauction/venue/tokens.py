@@ -58,9 +58,14 @@ def secret_of(folder: pathlib.Path, role: str) -> str:
     try:
         kept = owned.read(path, TOKEN_BYTES * 2)
     except FileNotFoundError:
-        found = new_token()
-        owned.write(path, f"{found}\n".encode("ascii"))
-        return found
+        return new_secret_of(folder, role)
     if not is_token(kept):
         raise TokenError(f"{path} holds no token: remove it, and the next start makes one")
     return kept.decode("ascii").removesuffix("\n")
+
+
+def new_secret_of(folder: pathlib.Path, role: str) -> str:
+    """A new token of a role, in the place of the one that the folder may keep. Raises OSError."""
+    found = new_token()
+    owned.write(folder / f"{role}.token", f"{found}\n".encode("ascii"))
+    return found

@@ -6,10 +6,10 @@ import functools
 from collections.abc import Callable
 from typing import Any, Self
 
+from callauction.limits import MOST_QUANTITY
 from callauction.venue.fields import SENTENCE, TABLE, Fields
 from callauction.venue.handing import HOWS, HandError, ListedValue, Rule, rows_of
 
-MOST_SHARES = 1_000_000_000
 MOST_SECONDS = 86_400
 BOOKS = ("closed", "open")
 Read = Callable[[str], str]
@@ -82,7 +82,7 @@ def treatment_of(fields: Fields, read: Read | None) -> Treatment:
         call=fields.whole_or_none("call", 0, MOST_SECONDS),
         is_covered=fields.flag("covered", default.is_covered),
         has_own_trades=fields.flag("own_trades", default.has_own_trades),
-        shares=fields.whole_or_none("shares", 0, MOST_SHARES),
+        shares=fields.whole_or_none("shares", 0, MOST_QUANTITY),
         money=fields.price("money"),
     )
     fields.ended()
@@ -101,7 +101,7 @@ def rule_of(fields: Fields, read: Read | None) -> Rule:
         how=fields.choice("values", HOWS, default.how),
         low=fields.price("low"),
         high=fields.price("high"),
-        quantity=fields.whole("quantity", default.quantity, 1, MOST_SHARES),
+        quantity=fields.whole("quantity", default.quantity, 1, MOST_QUANTITY),
         demand=fields.prices("demand"),
         supply=fields.prices("supply"),
         rows=rows,

@@ -6,24 +6,27 @@ import contextlib
 import dataclasses
 import functools
 import logging
+import math
 import pathlib
 import time
 from collections.abc import Awaitable, Callable, Coroutine, Iterable, Iterator, Mapping
 from typing import Any
 
-from callauction.venue import audience, begun, clock, config, downloads, owned, shares, tokens
+from callauction.venue import audience, begun, clock, config, downloads, owned, room, shares
+from callauction.venue import tokens
 from callauction.venue.audience import PAYOFFS, SHOWN, Audience
 from callauction.venue.engine import Settled
 from callauction.venue.gains import Value
 from callauction.venue.handing import ListedValue, Rule, named
-from callauction.venue.instrument import TICK, Board, Instrument, Point, opened, plan_of
+from callauction.venue.instrument import TICK, BoardIdentity, Instrument, Point, opened, plan_of
+from callauction.venue.leftovers import Program
 from callauction.venue.log import Line, Log, OtherVersion, taking
 from callauction.venue.members import Done, Member, Members, NameTakenError
 from callauction.venue.messages import MessageError, Order
 from callauction.venue.names import folded
 from callauction.venue.owned import OwnerError
 from callauction.venue.phases import PhaseError, State
-from callauction.venue.process import STOP_SECONDS, ProcessError
+from callauction.venue.process import IN_USE, ProcessError
 from callauction.venue.recovery import Entry, Mark, Message, RecoveryError, RolledBackError, Run
 from callauction.venue.robots import Robots
 from callauction.venue.rounds import Round, by_side, dealt
@@ -36,15 +39,30 @@ RESUME_SECONDS = 20.0
 LEAST_BEHIND = 1.0
 """From how many seconds on a clock was set back since the log's last line."""
 BEHIND = "the clock is %s s behind the log's last line: calls go on with what was left of them then"
-SET = "the machine's clock is %s s ahead of the venue's and its log's, which is that of the start"
-JOURNAL_FAILED = "journal failed"
-"""What the program says where its journal can't be written."""
+SET_BEFORE = "the machine's clock was set %s since the last start: calls go on with what is left"
+SET = "the machine's clock is %s the venue's and its log's, which is that of the start"
+AHEAD = (
+    "the machine's clock is {} s ahead of the log's last line, and the call of {} has ended by it"
+)
+AWAY = "the log's last line is {} s old, and the call of {} has ended since"
+STOOD = "the call of {} has ended while it had halted"
+"""What is said of a call whose end has passed before those who were away could do anything: at a
+start, where the machine was off in between and its clock may be wrong, and where it has run on; and
+at a board that goes on later.
+"""
+DOES = "`extend` lets it go on", "it goes on for {} s, then it is uncrossed"
+"""What comes of such a call: of one that the operator uncrosses, and of one that is uncrossed by
+itself.
+"""
 MAKE_ROOM = "make room, or mend the disk, then `resume`"
+DO = {"journal failed": MAKE_ROOM, IN_USE: "end the process that has it, then `resume`"}
+"""What to do by what the program says where its journal can't be written, or is another's."""
 PUT_BACK = "put the right file back, then `resume`"
 LOOK_SECONDS = 5.0
 """How often the venue looks whether others have changed a journal that its program writes."""
-CLOSE_SECONDS = 0.5
-"""How long the end of the venue waits for the log's last lines."""
+CLOSE_SECONDS, LOG_SECONDS = 3.25, 0.5
+"""How long the end of the venue waits for its programs and fronts, then for the log's last lines.
+"""
 FAULTS = (ProcessError, RecoveryError, OwnerError, OSError)
 """Why a board can't be opened."""
 MOST_CONNECTIONS = audience.MOST_CONNECTIONS
@@ -93,6 +111,7 @@ class Venue(Audience):
         self.log = Log(folder / LOG, day.is_synced)
         self.log.on_fault, self.log.on_written = self._log_failed, self._log_goes_on
         self.members = Members(day.members, self.log)
+        self._restores: list[Line] = []
         self.rounds = [self._round(1, day.treatment(1))]
         self.halted: str | None = None
         self.changes: list[str] = []
@@ -101,7 +120,8 @@ class Venue(Audience):
         self.on_entry: Heard = lambda board, message, entry: None
         self.reset_session: Reset = no_sessions
         self.secrets = {role: tokens.secret_of(folder, role) for role in ("operator", "beamer")}
-        self._ahead = 0.0
+        self._ahead = self._last = 0.0
+        self._is_low = self._is_same_boot = self._has_opened = False
         self._waiting: dict[str, list[Line]] = {}
         self._noticed: dict[str, str | None] = {}
         self._tasks: set[asyncio.Task[None]] = set()
@@ -123,17 +143,19 @@ class Venue(Audience):
         """The boards of one group more."""
         added = []
         for terms in self.day.instruments:
-            board = Board(terms.name, group, round_.number)
+            identity = BoardIdentity(terms.name, group, round_.number)
             instrument = opened(
-                board, terms, round_.treatment, self.day, self.folder, self._program, self.log
+                identity, terms, round_.treatment, self.day, self.folder, self._program, self.log
             )
             instrument.engine.on_change = functools.partial(self._changed, instrument)
             instrument.wanted, instrument.wants_ladder = self.wanted, self.has_viewers
             instrument.on_shown = functools.partial(self.show_news, instrument)
             instrument.on_entry = functools.partial(self._heard, instrument)
+            instrument.restores = self._restores
             instrument.codes = functools.partial(self._codes_of, instrument)
+            instrument.on_late = functools.partial(self._say_late, instrument)
             instrument.has_venue_halted = lambda: self.halted is not None
-            round_.boards[board.name] = instrument
+            round_.boards[identity.name] = instrument
             added.append(instrument)
         return added
 
@@ -143,7 +165,7 @@ class Venue(Audience):
         """
         members = {name: self.members.named(name) for name in self.day.own_codes}
         there = [it for it in members.values() if it and not it.is_removed]
-        here = [it.name for it in there if it.group == board.board.group]
+        here = [it.name for it in there if it.group == board.identity.group]
         later = [name for name, it in members.items() if it is None]
         names = [*here, *later][: config.MOST_TRADERS]
         has_class = self.day.members.is_open or "" in self.members.codes
@@ -152,6 +174,11 @@ class Venue(Audience):
     def _heard(self, board: Instrument, message: Message, entry: Entry | None) -> None:
         """A message of a board has its entry, or never had one."""
         self.on_entry(board, message, entry)
+
+    @property
+    def mark(self) -> str:
+        """The mark of the last restore of its day, empty for none."""
+        return str(self._restores[-1]["mark"]) if self._restores else ""
 
     @property
     def is_known(self) -> bool:
@@ -166,7 +193,7 @@ class Venue(Audience):
     @property
     def _boards(self) -> dict[str, Instrument]:
         """The boards of all rounds, by their keys."""
-        return {it.board.key: it for round_ in self.rounds for it in round_.boards.values()}
+        return {it.identity.key: it for round_ in self.rounds for it in round_.boards.values()}
 
     # ---- begin and end
 
@@ -175,6 +202,7 @@ class Venue(Audience):
         OtherDayError, ProcessError, RecoveryError, OSError.
         """
         lines = self.log.lines()
+        self._restores += (line for line in lines if line["kind"] == "restored")
         self._log_task = asyncio.create_task(self.log.run())
         if not lines:
             self.log.note(kind="venue", version=VERSION)
@@ -183,13 +211,15 @@ class Venue(Audience):
         if not any(line["kind"] == "round" for line in lines):
             self._note_round(self.round)
         self._learn_rounds(lines)
-        self._learn_time(lines)
+        boot = self._learn_time(lines)
         settled: dict[str, Settled] = {}
         for key, board in self._boards.items():
             with starting(key):
                 found = await self._opened(board, lines)
             if found is not None:
                 settled[key] = found
+        if "behind" not in boot:  # a start that is refused leaves the log as it was
+            self.log.note(**boot)
         self._replay(lines, settled)
         self.members.open_codes()
         await self.log.check_written()
@@ -197,6 +227,7 @@ class Venue(Audience):
         for key in settled:
             with starting(key):
                 await self._begin(self._boards[key])
+        self._has_opened = True
         self._begin_round()
         self._robots_task = asyncio.create_task(self._robots.run())
         self._begun(self._look())
@@ -214,10 +245,11 @@ class Venue(Audience):
         """What became of a board's messages; None where its journal isn't the one of which the log
         knows: it halts then, until that is put back. Raises what Engine.open raises.
         """
-        key = board.board.key
-        own = [line for line in lines if line.get("instrument") == key]
+        key = board.identity.key
+        own = [line for line in lines if line.get("instrument") == key or is_shift(line)]
         try:
-            _, found = await board.engine.open(runs_of(own).get(key, []), mark_of(own))
+            runs = runs_of(own).get(key, [])
+            _, found = await board.engine.open(runs, mark_of(own), program_of(own))
         except RolledBackError as fault:
             self._waiting[key] = own
             board.engine.halt(str(fault))
@@ -230,8 +262,12 @@ class Venue(Audience):
         the log are as they were written.
         """
         while True:
+            length = self.log.length
             await asyncio.sleep(LOOK_SECONDS)
             self._look_at_clock()
+            self._look_at_disk()
+            if self.log.length == length:
+                self._note_time()
             for board in [*self.instruments.values()]:
                 await board.engine.look()
             await self.log.look()
@@ -241,13 +277,28 @@ class Venue(Audience):
         ahead = round(clock.set_by(), 1)
         if abs(ahead - self._ahead) >= LEAST_BEHIND:
             self._ahead = ahead
-            NOTICES.warning(SET, ahead)
+            NOTICES.warning(SET, direction_of(ahead, " of"))
             self.log.note(kind="clock_set", ahead=ahead)
+
+    def _look_at_disk(self) -> None:
+        """Says once that the disk gets full, until there is room again."""
+        with contextlib.suppress(OSError):
+            left = room.free(self.folder)
+            if left < room.LOW and not self._is_low:
+                NOTICES.warning(room.NEARLY_FULL.format(self.folder, left // room.MIB))
+            self._is_low = left < (2 * room.LOW if self._is_low else room.LOW)
+
+    def _note_time(self) -> None:
+        """Writes the time while a call has an end: what is left of it is known from then, where the
+        machine's clock is set back before the next start.
+        """
+        if not self.log.waiting and any(it.state.ends for it in self.instruments.values()):
+            self.log.note(kind="time")
 
     async def _open_again(self, board: Instrument) -> None:
         """Opens a board whose journal was put back, or whose program may begin now, or halts again.
         """
-        key = board.board.key
+        key = board.identity.key
         async with self._reopening:
             if (lines := self._waiting.get(key)) is None:
                 return
@@ -261,7 +312,7 @@ class Venue(Audience):
                     self._begin_round()
                     self._changed(board)
             except FAULTS as fault:
-                board.engine.halt(str(fault))
+                board.engine.halt_by(fault)
             board.release_after([])
 
     async def _begin(self, board: Instrument) -> None:
@@ -271,7 +322,7 @@ class Venue(Audience):
         if board in self.instruments.values():
             await board.begin()
             for member in self.members.everybody:
-                if member.is_removed and member.group == board.board.group:
+                if member.is_removed and member.group == board.identity.group:
                     self._withdraw(member, board)
             board.run()
             return
@@ -284,22 +335,31 @@ class Venue(Audience):
             self._deal_round()
             self._spread()
 
-    async def close(self) -> None:
-        """Ends all programs and the log, and leaves tables of names and results. Raises OSError
-        where these can't be written.
+    async def close(self, *fronts: Coroutine[Any, Any, None]) -> None:
+        """Ends all programs, at the same time what goes on beside them and these fronts; leaves
+        tables of names and results as soon as the programs have ended, and ends the log last. What
+        hangs is left behind. Raises OSError where the tables can't be written.
         """
-        for task in (self._robots_task, *self._tasks):
-            if task is not None:
-                task.cancel()
-        if self._tasks:
-            await asyncio.wait(self._tasks, timeout=STOP_SECONDS / 2)
-        await asyncio.gather(*(board.end() for board in self._boards.values()))
+        loop = asyncio.get_running_loop()
+        last = loop.time() + CLOSE_SECONDS
+        own = {task for task in (self._robots_task, *self._tasks) if task is not None}
+        for task in own:
+            task.cancel()
+        ending = [asyncio.create_task(work) for work in fronts]
+        programs = [asyncio.create_task(board.end()) for board in self._boards.values()]
+        await asyncio.wait(programs, timeout=CLOSE_SECONDS)
         try:
             self._leave_tables()
         finally:
+            if beside := {*own, *ending}:
+                await asyncio.wait(beside, timeout=last - loop.time())
+            self._note_time()
             self.log.close()
             if self._log_task is not None:
-                await asyncio.wait([self._log_task], timeout=CLOSE_SECONDS)
+                await asyncio.wait([self._log_task], timeout=LOG_SECONDS)
+        for task in (*programs, *ending):
+            if task.done():
+                task.result()
 
     def _tables(self) -> Iterator[tuple[str, bytes]]:
         """The names of each board's members, and the results of all rounds that were seen, by the
@@ -310,7 +370,7 @@ class Venue(Audience):
             if board.engine.is_open:
                 names = downloads.members_of(board, self.members.title_of)
                 yield f"{key}{downloads.NAMES_FILE}", names
-        if all(board.engine.is_open for _, board in boards) and self.lesson("").rounds:
+        if self.are_gains_known and self.lesson("").rounds:
             yield downloads.RESULTS_FILE, downloads.results_table(self.lesson(""))
 
     def _leave_tables(self) -> None:
@@ -345,22 +405,43 @@ class Venue(Audience):
         OtherDayError, and LogError.
         """
         changes = begun.changes(self.day, lines, self.folder)
-        if changes is None or changes:
+        if changes is None or changes or not begun.has_sessions(lines):
             self.log.note(kind="day", **begun.kept(self.day))
         self.changes = changes or []
         self.began = next((line["time"] for line in lines if "time" in line), self.began)
 
-    def _learn_time(self, lines: list[Line]) -> None:
+    def _learn_time(self, lines: list[Line]) -> Line:
         """Where the clock is behind the log's last line it was set back: each call has left what
-        it had then, which the log says, and `lines` from now on. Raises LogError.
+        it had then. Where it was set otherwise since the last start, which is known while the
+        machine runs, each has left what it would have. The log says so, and `lines` from now on.
+        The log's line of this start, which is to be written where the clock wasn't set. Raises
+        LogError.
         """
-        if not (behind := behind_of(lines)):
-            return
-        NOTICES.warning(BEHIND, behind)
-        for key in self._boards:
-            line: Line = {"kind": "clock", "instrument": key, "behind": behind}
-            self.log.note(**line)
+        behind, ahead = behind_of(lines), set_since(lines)
+        self._last = last_time_of(lines) - (behind or -ahead)
+        self._is_same_boot = same_boot(lines) is not None
+        line: Line = {"kind": "boot", "id": clock.boot(), "began": clock.BEGAN}
+        if behind or ahead:
+            line["behind"] = behind or -ahead
             lines.append(line)
+            self.log.note(**line)  # both at once: a shift is neither lost nor done twice
+        for text in warnings_of_clock(behind, ahead):
+            NOTICES.warning(text)
+        return line
+
+    def _say_late(self, board: Instrument) -> None:
+        """Says of a call of this round that its end has passed before those who were away could do
+        anything, and what comes of it.
+        """
+        name, ahead = board.identity.name, round(clock.now() - self._last, 1)
+        why = (AWAY if self._is_same_boot else AHEAD).format(ahead, name)
+        if self._has_opened:
+            why = STOOD.format(name)
+        does = DOES[board.plan.is_automatic].format(board.grace)
+        self.late[name] = why, does
+        NOTICES.warning(f"{why}: {does}")
+        self.log.note(kind="late", instrument=board.identity.key, ahead=ahead)
+        self.show_round_to_operator()
 
     def _note_round(self, round_: Round) -> None:
         """Writes a round to the log."""
@@ -390,14 +471,21 @@ class Venue(Audience):
             with taking(line):
                 if self.members.replay(line):
                     continue
-                if board is None:
+                if is_shift(line):
+                    self._set_back(settled, line["behind"])
+                elif board is None:
                     self._replay_venue(line)
-                elif board.board.key not in settled:
+                elif board.identity.key not in settled:
                     continue
                 elif line["kind"] == "sent":
-                    self._replay_message(board, *next(became[board.board.key]))
+                    self._replay_message(board, *next(became[board.identity.key]))
                 else:
                     replay_instrument(board, line)
+
+    def _set_back(self, keys: Iterable[str], seconds: float) -> None:
+        """The clock of the boards of these keys was set back before a start."""
+        for key in keys:
+            self._boards[key].set_back(seconds)
 
     def _replay_venue(self, line: Line) -> None:
         """Takes a line of the log about the venue."""
@@ -437,7 +525,7 @@ class Venue(Audience):
             answer = asyncio.get_running_loop().create_future()
             answer.set_result(entry)
             rest = message.record.partition(",")[2]
-            member.keep(message.number, Done(instrument.board.market, rest, answer))
+            member.keep(message.number, Done(instrument.identity.market, rest, answer))
 
     # ---- who speaks
 
@@ -457,16 +545,17 @@ class Venue(Audience):
         """
         boards = self.instruments
         found = boards.get(name) if isinstance(name, str) else None
-        if found is not None and (member is None or found.board.group == member.group):
+        if found is not None and (member is None or found.identity.group == member.group):
             return found
-        own = [it for it in boards.values() if member is None or it.board.group == member.group]
+        own = [it for it in boards.values() if member is None or it.identity.group == member.group]
         if name is None and len(own) == 1:
             return own[0]
         for it in own:
-            if member and name == it.board.market:
+            if member and name == it.identity.market:
                 return it
         if name is None and own:
-            text = f'name one of {len(own)} instruments, as "instrument": "{own[0].board.market}"'
+            first = own[0].identity.market
+            text = f'name one of {len(own)} instruments, as "instrument": "{first}"'
             raise MessageError("unknown_instrument", text)
         raise MessageError("unknown_instrument")
 
@@ -474,10 +563,10 @@ class Venue(Audience):
         """The boards of all groups in the market of this name, or in the only one. Raises
         MessageError.
         """
-        markets = {it.board.market: it for it in self.instruments.values()}
+        markets = {it.identity.market: it for it in self.instruments.values()}
         if name is None and len(markets) == 1:
             return self.round.of_market(next(iter(markets)))
-        return self.round.of_market(self.instrument_of(name).board.market)
+        return self.round.of_market(self.instrument_of(name).identity.market)
 
     async def join(self, code: str, name: str) -> tuple[Member, str]:
         """A member and its token. Raises MessageError."""
@@ -540,7 +629,7 @@ class Venue(Audience):
                 if board.engine.halted or self.halted:
                     break
             if not (task.done() and board.engine.is_open):
-                found.halted.append(board.board.name)
+                found.halted.append(board.identity.name)
         return found
 
     def _take_out(
@@ -549,12 +638,12 @@ class Venue(Audience):
         """Deletes the open orders of those members of a board who were removed, once it is known
         which these are: the board takes nothing else before.
         """
-        gone = [it for it in members if it.group == board.board.group]
+        gone = [it for it in members if it.group == board.identity.group]
         names = {it.name for it in gone}
         board.hold_for(names)
 
         async def taken_out() -> None:
-            sent = [it for member in gone for it in member.waiting(board.board.market)]
+            sent = [it for member in gone for it in member.waiting(board.identity.market)]
             if sent:
                 await asyncio.wait([it.answer for it in sent])
             deletions = [it for member in gone for it in self._withdraw(member, board)]
@@ -567,12 +656,12 @@ class Venue(Audience):
 
     def _withdraw(self, member: Member, board: Instrument) -> list[Deletion]:
         """Deletes the open orders of a member who was removed, each once, where that can be."""
-        asked = {it.record: it.answer for it in member.waiting(board.board.market)}
+        asked = {it.record: it.answer for it in member.waiting(board.identity.market)}
         found = []
         for order in board.open_orders(member.name) if board.engine.is_open else ():
             sent = Order(member.last + 1, board.terms.name, f"delete,{order}")
             answer = asked.get(sent.record) or self.withdraw(member, board, sent)
-            found.append(Deletion(member, board.board.name, order, answer))
+            found.append(Deletion(member, board.identity.name, order, answer))
         return found
 
     def withdraw(
@@ -580,7 +669,7 @@ class Venue(Audience):
     ) -> "asyncio.Future[Entry]":
         """Sends the deletion of an order of a member in any phase. Raises MessageError."""
         answer = board.withdraw(member.name, order)
-        member.keep(order.number, Done(board.board.market, order.record, answer))
+        member.keep(order.number, Done(board.identity.market, order.record, answer))
         return answer
 
     async def add_robots(self, kind: str, count: int) -> list[str]:
@@ -615,7 +704,7 @@ class Venue(Audience):
         if member.is_removed:
             raise MessageError("bad_token")
         instrument = self.instrument_of(order.instrument, member)
-        market = instrument.board.market
+        market = instrument.identity.market
         if done := member.done.get(order.number):
             if (done.instrument, done.record) != (market, order.record):
                 raise MessageError("number_used")
@@ -691,8 +780,8 @@ class Venue(Audience):
             board.run()
         except FAULTS as fault:
             if not board.engine.is_open:
-                self._waiting[board.board.key] = []
-            board.engine.halt(str(fault))
+                self._waiting[board.identity.key] = []
+            board.engine.halt_by(fault)
 
     def _deal_all(self) -> None:
         """Deals all members to the groups, with as many buyers in each."""
@@ -727,7 +816,7 @@ class Venue(Audience):
         with contextlib.suppress(OSError):  # which halts the venue
             await self.log.check_written()
         self.check_running()
-        async with self._changing:
+        async with self._changing, self._reopening:
             if number != self.round.number + 1:
                 raise PhaseError(f"the round is {self.round.number}")
             before = [*self.instruments.values()]
@@ -768,7 +857,7 @@ class Venue(Audience):
         """Hands out the values of a round before its first call, once."""
         rule = self.round.treatment.rule
         for board in self.instruments.values():
-            held = before.get(board.board.market, {})
+            held = before.get(board.identity.market, {})
             board.hand(self._dealt(board, rule, self.members.all, held), True)
         self.round.has_dealt = True
         self.log.note(kind="dealt", round=self.round.number)
@@ -830,13 +919,15 @@ class Venue(Audience):
                 NOTICES.warning("%s goes on", what)
             else:
                 is_file = halted.startswith("the journal ") or halted.endswith(" by others")
-                do = PUT_BACK if is_file else MAKE_ROOM if halted == JOURNAL_FAILED else do
+                do = PUT_BACK if is_file else DO.get(halted, do)
                 NOTICES.error("%s halted: %s%s", what, halted, do and f": {do}")
 
-    async def resume(self) -> None:
-        """Tries again what had halted, and waits for what comes of it. Raises MessageError with
-        the reason of what has halted again.
+    async def resume(self) -> list[str]:
+        """Tries again what had halted, and waits for what comes of it: what that was. Raises
+        MessageError with the reason of what has halted again.
         """
+        halted = [it for it in self._boards.values() if self._has_halted(it)]
+        resumed = ["the venue"] * (self.halted is not None) + [it.identity.key for it in halted]
         self.log.retry()
         try:
             await self.log.check_written()
@@ -844,19 +935,42 @@ class Venue(Audience):
             raise MessageError("halted", self.halted or str(fault)) from None
         self._log_goes_on()
         tried = []
-        for key, board in self._boards.items():
-            if key in self._waiting:
+        for board in halted:
+            if board.identity.key in self._waiting:
                 tried.append((board, self._begun(self._open_again(board))))
-            elif board in self.instruments.values() and board.engine.halted is not None:
+            else:
                 board.engine.resume()
-                tried.append((board, self._begun(board.engine.resumed())))
+                tried.append((board, self._begun(self._resumed(board))))
         if tried:
             await asyncio.wait({task for _, task in tried}, timeout=RESUME_SECONDS)
         late = f"the program hasn't answered for {RESUME_SECONDS:g} s"
-        whys = {it.board.key: it.engine.halted if task.done() else late for it, task in tried}
+        whys = {it.identity.key: it.engine.halted if task.done() else late for it, task in tried}
         texts = "; ".join(f"{key}: {why}" for key, why in whys.items() if why)
         if text := self.halted or texts:
             raise MessageError("halted", text)
+        return resumed
+
+    async def _resumed(self, board: Instrument) -> None:
+        """Waits for what comes of a board that is tried again, and begins with one that had halted
+        before that was done. Raises OSError where the log can't be written.
+        """
+        await board.engine.resumed()
+        async with self._reopening:
+            is_of_now = board in self.instruments.values()
+            has_begun = board.has_run if is_of_now else board.is_seen
+            if board.engine.halted is None and not has_begun:
+                try:
+                    await self._begin(board)
+                except ProcessError as fault:
+                    board.engine.halt(str(fault))
+
+    def _has_halted(self, board: Instrument) -> bool:
+        """Whether a board of this round, or one that wasn't seen yet, has halted, or it isn't known
+        what its journal has.
+        """
+        counts = board in self.instruments.values() or not board.is_seen
+        has_halted = counts and board.engine.halted is not None
+        return has_halted or board.identity.key in self._waiting
 
     def _begun(self, work: Coroutine[Any, Any, None]) -> asyncio.Task[None]:
         """A task of the venue, which ends with it, or where the log can't be written."""
@@ -873,14 +987,17 @@ class Venue(Audience):
 
     def _changed(self, instrument: Instrument) -> None:
         """A program halted or runs again, or the venue."""
-        self._notice(instrument.board.key, instrument.engine.halted)
+        self._notice(instrument.identity.key, instrument.engine.halted)
         self._show_changed(instrument)
 
     def _show_changed(self, instrument: Instrument) -> None:
-        """Shows whether an instrument of this round goes on."""
+        """Shows whether an instrument of this round goes on; of an earlier one the operator alone.
+        """
         if instrument in self.instruments.values():
             self.show_state(instrument)
             instrument.touch()
+        elif instrument.identity.round < self.round.number:
+            self.show_round_to_operator()
 
     # ---- what the operator gives
 
@@ -933,7 +1050,7 @@ class Venue(Audience):
         self, board: Instrument, rule: Rule, members: list[Member], before: dict[str, Value]
     ) -> dict[str, Value]:
         """The values by a rule of those members who are on a board. Raises HandError."""
-        names = [it.name for it in members if it.group == board.board.group]
+        names = [it.name for it in members if it.group == board.identity.group]
         return rule.dealt(names, before, board.terms.value_tick, self.round.number)
 
     def check_listed(self, market: str, rows: tuple[ListedValue, ...]) -> None:
@@ -971,7 +1088,7 @@ class Venue(Audience):
         """Hands out to members who have no value the one that waits for them in a list."""
         titles = {it.title: it.name for it in newcomers}
         for board in self.instruments.values():
-            rows, _ = named(self._listed(self.round, board.board.market), titles)
+            rows, _ = named(self._listed(self.round, board.identity.market), titles)
             members = [it for it in newcomers if it.name not in board.accounts.values]
             if rows and (values := self._dealt(board, Rule("list", rows=rows), members, {})):
                 board.hand(values, False)
@@ -1016,10 +1133,50 @@ def behind_of(lines: list[Line]) -> float:
     """How many seconds the clock is behind the last of a log's lines, 0 where it is behind by no
     more than clocks are. Raises LogError.
     """
+    behind = round(last_time_of(lines) - clock.now(), 3)
+    return behind if behind >= LEAST_BEHIND else 0.0
+
+
+def last_time_of(lines: list[Line]) -> float:
+    """The time of the last of a log's lines that has one, else 0. Raises LogError."""
     last = next((line for line in reversed(lines) if "time" in line), {"time": 0.0})
     with taking(last):
-        behind = round(float(last["time"]) - clock.now(), 3)
-    return behind if behind >= LEAST_BEHIND else 0.0
+        found = float(last["time"])
+    return found
+
+
+def is_shift(line: Line) -> bool:
+    """Whether a line of the log says that the clock was set before a start."""
+    return line["kind"] == "boot" and "behind" in line
+
+
+def same_boot(lines: list[Line]) -> Line | None:
+    """The line of the last start that a log's lines know of, where that was in this run of the
+    machine.
+    """
+    last = next((line for line in reversed(lines) if line["kind"] == "boot"), None)
+    return last if last is not None and last["id"] == clock.boot() != "" else None
+
+
+def set_since(lines: list[Line]) -> float:
+    """By how many seconds the clock was set since the last start that a log's lines know of; 0
+    where it wasn't, or where that can't be known, as in another run of the machine.
+    """
+    last = same_boot(lines)
+    ahead = 0.0 if last is None else round(clock.BEGAN - float(last["began"]), 3)
+    return ahead if LEAST_BEHIND <= abs(ahead) < math.inf else 0.0
+
+
+def warnings_of_clock(behind: float, ahead: float) -> list[str]:
+    """What is said at a start of a clock that is behind the log's last line, or that was set."""
+    if behind:
+        return [BEHIND % behind]
+    return [SET_BEFORE % direction_of(ahead)] if ahead else []
+
+
+def direction_of(ahead: float, of: str = "") -> str:
+    """By how much a clock is ahead of another one, or behind it."""
+    return f"{-ahead} s behind" if ahead < 0 else f"{ahead} s ahead{of}"
 
 
 def runs_of(lines: Iterable[Line]) -> dict[str, list[Run]]:
@@ -1041,7 +1198,18 @@ def mark_of(lines: Iterable[Line]) -> Mark:
     found = Mark()
     for line in lines:
         if line["kind"] in ("start", "mark"):
-            found = Mark(line["entries"], line.get("sha256", ""))
+            first = line.get("first", found.first)
+            found = Mark(line["entries"], line.get("sha256", ""), first)
+    return found
+
+
+def program_of(lines: Iterable[Line]) -> Program | None:
+    """The program of the last run that its lines of the log have. Raises LogError."""
+    found = None
+    for line in lines:
+        if line["kind"] == "start":
+            with taking(line):
+                found = Program.kept_in(line)
     return found
 
 

@@ -1,4 +1,5 @@
 """What the program shows of a day (`show`), read as numbers: ticks and shares."""
+import collections
 import dataclasses
 import re
 from collections.abc import Sequence
@@ -96,6 +97,19 @@ def levels_of(lines: Sequence[str]) -> list[Level]:
     """The rows of `show,ladder`. Raises ValueError."""
     rows = (line.split(",") for line in lines[1:])
     return [Level(limit_of(limit), int(bid), int(ask)) for limit, bid, ask in rows]
+
+
+def visible_levels(orders: Sequence[MemberOrder], auction: str) -> list[Level]:
+    """What all may see of a book: the visible shares at each limit of the orders that count in this
+    auction, as `show,ladder` has the whole ones.
+    """
+    shares: collections.Counter[tuple[int | None, str]] = collections.Counter()
+    for it in orders:
+        if it.only in ("", auction):
+            shares[it.limit, it.side] += it.visible
+    limits = {limit for limit, _ in shares}
+    falling = sorted(limits, key=lambda it: (it is not None, -(it or 0)))
+    return [Level(it, shares[it, "bid"], shares[it, "ask"]) for it in falling]
 
 
 def trades_of(lines: Sequence[str]) -> list[Trade]:

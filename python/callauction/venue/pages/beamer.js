@@ -9,7 +9,7 @@ import { lastBook, Replay } from "./replay.js";
 import { roundText } from "./rounds.js";
 import { fill } from "./rows.js";
 import {
-  Clock, indicationFigures, isCall, nextText, phaseText, resultOf, showInterruption, tradesOf,
+  Clock, forgetUnknown, indicationFigures, isCall, nextText, phaseText, resultOf, showInterruption, tradesOf,
 } from "./states.js";
 import { reasonsOf } from "./why.js";
 
@@ -25,7 +25,7 @@ const replay = new Replay(find("crossing"), draw);
 
 function sceneOf(state) {
   if (resultOf(state)) return "result";
-  return state.phase === "waiting" ? "join" : "call";
+  return ["waiting", "unknown"].includes(state.phase) ? "join" : "call";
 }
 
 function draw() {
@@ -215,6 +215,7 @@ function take(message) {
   else if (type === "round") round = message;
   else if (type === "ranking") ranking = message.rows;
   else if (type in said) said[type][message.instrument] = message;
+  if (type === "state") forgetUnknown(message, [said.ladder, said.trades, said.efficiency, said.course]);
   draw();
 }
 

@@ -10,8 +10,8 @@ import { bookPicture } from "./pictures.js";
 import { roundText, treatmentTexts } from "./rounds.js";
 import { fill } from "./rows.js";
 import {
-  Clock, indicationFigures, interruptionOf, nextText, phaseText, resultOf, resultText, showInterruption,
-  takesOrders, tradesOf,
+  Clock, forgetUnknown, indicationFigures, interruptionOf, isKnown, nextText, phaseText, resultOf, resultText,
+  showInterruption, takesOrders, tradesOf,
 } from "./states.js";
 
 const KEPT = "venue.token", WHY = "venue.why";
@@ -85,7 +85,7 @@ function drawRound() {
   const parts = [isPlain ? "" : `${roundText(round)}.`, ...treatmentTexts(round, term()), group];
   put(find("round"), parts.filter(Boolean).join(" "));
   put(find("message"), round.message);
-  if (round.book === "open") {
+  if (round.book === "open" && isKnown(shown("states"))) {
     bookPicture(find("book"), shown("ladder")?.levels ?? [], shown("states").indication, term());
   }
   drawPayoff();
@@ -112,10 +112,17 @@ function ownResult({ results }) {
   return found.join(" ") || text("nothing_traded");
 }
 
+// Says that a list is empty, or in a halt that it isn't known; nothing while it is still to come.
+function drawNone(kind, rows, none, unknown) {
+  const node = find(`no-${kind}`), isThere = Boolean(shown(kind));
+  hide(node, rows.length > 0 || !(isThere || shown("states").halted));
+  put(node, text(isThere ? none : unknown));
+}
+
 function drawOrders() {
   const orders = shown("orders")?.orders ?? [];
   hide(find("orders"), !orders.length);
-  hide(find("no-orders"), Boolean(orders.length));
+  drawNone("orders", orders, "no_orders", "unknown_orders");
   const waiting = new Set([...connection.open.values()].map((it) => it.instrument === chosen && it.order));
   fill(find("orders"), orders, (it) => it.order, (it) => {
     const off = waiting.has(it.order);
@@ -135,12 +142,12 @@ function drawOrders() {
 function drawTrades() {
   const mine = shown("fills"), fills = mine?.fills ?? [], all = shown("trades")?.trades ?? [];
   hide(find("fills").parentElement, !fills.length);
-  hide(find("no-fills"), Boolean(fills.length));
+  drawNone("fills", fills, "no_fills", "unknown_fills");
   fill(find("fills"), [...fills].reverse(), (it) => `${it.trade} ${it.side}`, (it) => [
     { text: text(it.side), classes: it.side }, { number: shares(it.quantity) }, { number: price(it.price) },
     { number: String(it.order) }]);
   hide(find("trades").parentElement, !all.length);
-  hide(find("no-trades"), Boolean(all.length));
+  drawNone("trades", all, "no_trades", "unknown_trades");
   fill(find("trades"), [...all].reverse(), (it) => it.trade, (it) => [{ number: String(it.trade) },
     { number: shares(it.quantity) }, { number: price(it.price) }]);
   put(find("value"), valueText(mine));
@@ -195,6 +202,7 @@ function welcome(message) {
 function takeState(message) {
   const before = said.states[message.instrument];
   said.states[message.instrument] = message;
+  forgetUnknown(message, [said.orders, said.fills, said.trades, said.ladder]);
   if (!before || message.instrument !== chosen || before.phase === message.phase) return;
   say("");
   form.mark(null);

@@ -17,6 +17,13 @@ const GERMAN = {
   "an uncross is going on": "ein Preis wird gerade ermittelt",
   "the last uncross isn't seen yet": "die letzte Preisermittlung ist noch nicht zu sehen",
   "the program doesn't answer now": "das Programm antwortet gerade nicht",
+  "the machine's clock is {} s ahead of the log's last line, and the call of {} has ended by it":
+    "die Uhr ist der letzten Zeile des Protokolls {} s voraus, der Aufruf von {} danach zu Ende",
+  "the log's last line is {} s old, and the call of {} has ended since":
+    "die letzte Zeile des Protokolls ist {} s alt, der Aufruf von {} seitdem zu Ende",
+  "the call of {} has ended while it had halted": "der Aufruf von {} ging zu Ende, während es ausgesetzt war",
+  "`extend` lets it go on": "„Verlängern“ hilft",
+  "it goes on for {} s, then it is uncrossed": "er geht noch {} s weiter, dann wird der Preis ermittelt",
   "values by chance have a low and a high price": "Werte durch Zufall haben ein Tief und ein Hoch",
   "low {} is above high {}": "Tief {} liegt über Hoch {}",
   "a schedule has prices of demand and of supply": "eine Liste hat Preise der Nachfrage und des Angebots",

@@ -12,7 +12,8 @@ import { RoundForm } from "./roundform.js";
 import { roundText } from "./rounds.js";
 import { fill } from "./rows.js";
 import {
-  Clock, haltText, indicationFigures, isCall, nextText, phaseText, resultOf, resultText, showInterruption,
+  Clock, forgetUnknown, haltText, indicationFigures, isCall, isKnown, isOfVenue, nextText, phaseText, resultOf,
+  resultText, showInterruption,
 } from "./states.js";
 import { offerTabs } from "./tabs.js";
 
@@ -37,9 +38,9 @@ function draw() {
   const state = said.state[chosen];
   hide(find("choosing"), terms.length < 2);
   if (!state) return;
-  put(find("phase"), state.halted ? `${phaseText(state)}: ${reasonText(state.halted)}` : phaseText(state));
+  put(find("phase"), phaseText(state));
   clock.set(state);
-  drawSteps(state);
+  drawSteps(state, drawHalts());
   drawOutcome(state);
   drawBook(state);
   drawRound(state);
@@ -47,28 +48,50 @@ function draw() {
   handing.fields.draw();
 }
 
+// Says what has halted of all that there is, of earlier rounds too: whether anything has.
+function drawHalts() {
+  const states = terms.map((it) => said.state[it.name]).filter((it) => it?.halted);
+  const whole = states.find((it) => isOfVenue(it.halted));
+  const title = (state) => terms.find((it) => it.name === state.instrument).title;
+  const texts = whole ? [haltText(text("the_venue"), whole.halted)]
+    : [...states.map((it) => haltText(title(it), it.halted)), ...(round?.halts ?? []).map(earlyText)];
+  hide(find("halts"), !texts.length);
+  put(find("halts"), texts.join("\n"));
+  return texts.length > 0;
+}
+
+const earlyText = (it) => haltText(`${it.instrument}, ${text("round", it.round)}`, it.why);
+
+// Says of calls that their end had passed as the venue began, and what comes of them.
+function drawLate() {
+  const late = round?.late ?? [];
+  hide(find("late"), !late.length);
+  put(find("late"), late.map((it) => `${reasonText(it.why)}: ${reasonText(it.does)}`).join("\n"));
+}
+
 function drawRound(state) {
   if (!round) return;
+  drawLate();
   put(find("round"), roundText(round));
   hide(find("message"), !round.message);
   put(find("message"), round.message);
   hide(find("shows-open"), round.book !== "open");
-  roundForm.draw(["waiting", "over"].includes(state.phase));
+  roundForm.draw(["waiting", "over"].includes(state.phase) && !isOfVenue(state.halted));
 }
 
-function drawSteps(state) {
-  const goes = isCall(state);
+function drawSteps(state, hasHalted) {
+  const { phase, frozen, halted } = state, isHeld = isOfVenue(halted), goes = isCall(state) && !isHeld;
   const may = {
-    start: state.phase === "waiting", end: goes && !state.frozen, freeze: goes && !state.frozen, thaw: state.frozen,
-    uncross: (goes || state.phase === "ended") && !state.frozen, resume: Boolean(state.halted),
+    start: phase === "waiting" && !halted, end: goes && !frozen, freeze: goes && !frozen, thaw: frozen && !isHeld,
+    uncross: (goes || phase === "ended") && !frozen && !halted, resume: hasHalted,
   };
-  if (state.halted) document.querySelector("[data-do=resume]").closest("details").open = true;
+  if (hasHalted) document.querySelector("[data-do=resume]").closest("details").open = true;
   for (const button of document.querySelectorAll("[data-do]")) disable(button, !may[button.dataset.do]);
-  disable(find("extend"), !goes && state.phase !== "ended");
+  disable(find("extend"), !goes && (phase !== "ended" || isHeld));
 }
 
 function nextOf(state) {
-  if (state.halted) return haltText(state.halted);
+  if (state.halted) return "";
   return state.phase === "over" ? text("over_next") : nextText(state);
 }
 
@@ -78,9 +101,11 @@ function drawOutcome(state) {
   hide(find("outcome"), !result);
   if (result) put(find("result"), resultText(result), result.price === null ? "large none" : "large");
   put(find("efficiency"), efficiencyText(found));
-  figures(find("figures"), [...indicationFigures(state), [text("left"), shares(state.left)]]);
+  figures(find("figures"), [...indicationFigures(state), [text("left"), leftText(state)]]);
   put(find("next"), nextOf(state));
 }
+
+const leftText = (state) => (isKnown(state) ? shares(state.calls_left_to_members) : text("not_known"));
 
 function efficiencyText(found) {
   if (found?.percent == null || !said.trades[chosen]?.trades.length) return "";
@@ -89,7 +114,7 @@ function efficiencyText(found) {
 }
 
 function drawBook(state) {
-  if (!find("auction").hidden) {
+  if (!find("auction").hidden && isKnown(state)) {
     bookPicture(find("book"), said.ladder[chosen]?.levels ?? [], state.indication, term());
   }
   hide(find("ladder"), !said.ladder[chosen]?.levels.length);
@@ -99,7 +124,7 @@ function drawBook(state) {
     { number: it.ask ? shares(it.ask) : "", classes: "ask" }]);
   const trades = said.trades[chosen]?.trades ?? [];
   hide(find("trades").parentElement, !trades.length);
-  hide(find("no-trades"), Boolean(trades.length));
+  hide(find("no-trades"), Boolean(trades.length) || !isKnown(state));
   fill(find("trades"), [...trades].reverse(), (it) => it.trade, (it) => [{ number: String(it.trade) },
     { text: it.buyer, classes: "name" }, { text: it.seller, classes: "name" }, { number: shares(it.quantity) },
     { number: price(it.price) }]);
@@ -117,6 +142,7 @@ function take(message) {
   else if (type === "beamer") takeShown(message);
   else if (type === "round") takeRound(message);
   else if (type in said) said[type][message.instrument] = message;
+  if (type === "state") forgetUnknown(message, [said.ladder, said.trades, said.efficiency, said.course]);
   draw();
 }
 

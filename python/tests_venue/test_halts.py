@@ -1,0 +1,75 @@
+"""What the teacher's page shows in a halt, and what comes of a resume."""
+import pathlib
+import time
+
+import pytest
+import served
+from browsing import SCREEN, Page, opened
+from callauction.venue import Client, VenueError
+
+DAY = """
+sync = false
+[phases]
+call = 600
+[[instrument]]
+name = "APPLES"
+title = "Apples"
+[[instrument]]
+name = "PEARS"
+title = "Pears"
+"""
+WHY = "the journal is missing, and the log knows of 1 entries"
+HALT = (
+    f"Apples has halted: {WHY}. A file isn't as the venue wrote it, and nothing is executed on it. "
+    "Put the right one back; then press “Try again”."
+)
+STEPS = ("start", "end", "freeze", "thaw", "uncross", "resume")
+
+
+def offs(page: Page) -> set[str]:
+    """The steps that the page says can't be taken."""
+    return {it for it in STEPS if page.is_off(f"[data-do={it}]")}
+
+
+def clocks(page: Page) -> set[str]:
+    """What the clock shows within some seconds."""
+    last, found = time.monotonic() + 2.5, set()
+    while time.monotonic() < last:
+        found.add(page.text("clock"))
+        time.sleep(0.1)
+    return found
+
+
+def test_a_halt_of_one_of_two_instruments(tmp_path: pathlib.Path) -> None:
+    """The page names it, why, and what to do; offers what can be done; its countdown stands."""
+    with served.served(tmp_path, DAY) as venue:
+        token = venue.join("Anna")
+        venue.do("start", instrument="APPLES")
+        with Client(venue.url, token) as me:
+            assert me.enter("bid", 1, "2.00", instrument="APPLES").entry == 1
+        journal, other = tmp_path / "venue/APPLES.journal.csv", tmp_path / "moved"
+        with opened(tmp_path / "browser", f"{venue.url}teacher#{venue.operator}", SCREEN) as page:
+            page.waits(lambda it: it.text("clock") != "")
+            assert len(clocks(page)) > 1 and not page.shows("halts")
+            journal.rename(other)
+            page.waits(lambda it: it.shows("halts"))
+            assert page.text("halts") == HALT and "venue has halted" not in page.text("open")
+            assert offs(page) == {"start", "thaw", "uncross"}
+            page.picture("halt")
+            assert len(clocks(page)) == 1
+            with Client(venue.url, token) as me, pytest.raises(VenueError) as found:
+                me.enter("bid", 1, "2.00", instrument="APPLES")
+            assert str(found.value).endswith("APPLES has halted; nothing was done")
+            page.runs("const [it] = arguments; it.value = 'PEARS'; "
+                      "it.dispatchEvent(new Event('change'))", page.find("#instrument"))
+            assert page.text("halts") == HALT
+            assert offs(page) == {"end", "freeze", "thaw", "uncross"}
+            other.rename(journal)
+            page.clicks("[data-do=resume]")
+            page.waits(lambda it: not it.shows("halts"))
+            assert page.is_off("[data-do=resume]") and not page.errors()
+
+
+def test_a_resume_where_nothing_has_halted(tmp_path: pathlib.Path) -> None:
+    with served.served(tmp_path, DAY) as venue:
+        assert venue.do("resume") == {"done": "resume", "resumed": []}
