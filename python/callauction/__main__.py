@@ -21,8 +21,7 @@ from callauction.program import OPTIONS, Day, ProgramError
 from callauction.statuses import BAD_DAY, BAD_FILE, DONE, FAILED
 from callauction.tables import book_at, books_of, journal_of
 from callauction.verdict import command, shapes
-from callauction.verdict.columns import ColumnError
-from callauction.verdict.reading import ExtractError
+from callauction.verdict.columns import ColumnError, ExtractError
 
 if TYPE_CHECKING:
     from callauction.course import Watch
@@ -166,7 +165,8 @@ def _add_verdicts(parser: argparse.ArgumentParser) -> None:
         help="write all findings, or that there are none, as CSV, or as .json",
     )  # fmt: skip
     parser.add_argument("--json", action="store_true", help="print a line of JSON each")
-    parser.add_argument("--explain", action="store_true", help="explain each finding")
+    text = "explain each finding, of doubts the first of a reason"
+    parser.add_argument("--explain", action="store_true", help=text)
 
 
 def _file(forms: Collection[str], path: str) -> str:
@@ -226,7 +226,6 @@ def _day(asked: argparse.Namespace, content: bytes) -> Day:
 
 def _report(asked: argparse.Namespace) -> int:
     from callauction import report
-    from callauction.verdict import evidence
 
     title = "A day of call auctions" if asked.file == "-" else pathlib.Path(asked.file).name
     content, watch = _content(asked.file), _watch("auctions")
@@ -234,19 +233,19 @@ def _report(asked: argparse.Namespace) -> int:
         _report_extract(content, title, asked)
         return DONE
     values, size = _values(asked.worth), asked.tick_size
-    facts, day = evidence.facts_of([content], asked), _day(asked, content)
+    facts, day = command.facts_of([content], asked), _day(asked, content)
     text = report.html_of(day, title, watch, values, size, facts)
     pathlib.Path(asked.output).write_text(text, encoding="utf-8")
     return DONE
 
 
 def _report_extract(content: bytes, title: str, asked: argparse.Namespace) -> None:
-    from callauction.verdict import evidence, market_page, page
+    from callauction.verdict import page
 
-    facts, path = evidence.facts_of([content], asked), pathlib.Path(asked.output)
+    facts, path = command.facts_of([content], asked), pathlib.Path(asked.output)
     if asked.by is not None:
         market = command.market(content, asked)
-        market_page.write(market, path, title, facts, _watch("instruments"))
+        page.write_market(market, path, title, facts, _watch("instruments"))
         return
     verdict = command.verdict_of(content, asked, _watch("auctions"))
     text = page.html_of(verdict, title, _watch("pages"), facts)
@@ -297,9 +296,9 @@ def _journal(asked: argparse.Namespace) -> "Journal":
     """The journal of a CSV file of order events. Raises ValueError."""
     from callauction import journal
 
-    frame = command.plain_table(_content(asked.file), asked)
-    options = {name: getattr(asked, name) for name in CONVERTED}
-    return journal.from_frame(frame, asked.tick_size, watch=_watch("rows"), **options)
+    frame, said = command.plain_table(_content(asked.file), asked), command.reading_of(asked).said
+    options: dict[str, Any] = {name: said(getattr(asked, name)) for name in CONVERTED}
+    return journal.from_frame(frame, said(asked.tick_size), watch=_watch("rows"), **options)
 
 
 def _convert(asked: argparse.Namespace) -> int:

@@ -105,6 +105,9 @@ where it entered an order, else 0.
 """
 
 
+_NAMES = {COMMAND: "COMMAND", REPLY: "REPLY", TRADE: "TRADE", ORDER: "ORDER", OUTCOME: "OUTCOME"}
+_NAMES |= {RECEIPT: "RECEIPT", ENTRY: "ENTRY"}
+
 _FLAGGED = {CommandTag.ENTER: ("limit", "peak"), CommandTag.CHANGE: ("limit",)}
 """The numbers of commands that have a flag."""
 
@@ -136,7 +139,9 @@ def whole(name: str, array: object, kind: "numpy.dtype[numpy.void]", is_written:
     if not isinstance(array, numpy.ndarray):
         raise TypeError(f"{name} must be a numpy array, not {type(array).__name__}")
     if array.dtype is not kind and array.dtype != kind:
-        raise TypeError(f"{name} must be an array of another dtype than {array.dtype}")
+        other = "a struct of other fields" if array.dtype.names else array.dtype
+        found = _NAMES.get(array.dtype, other)
+        raise TypeError(f"{name} must be an array of {_NAMES[kind]}, not of {found}")
     if array.ndim != 1:
         raise ValueError(f"{name} must have one dimension, not {array.ndim}")
     flags = array.flags

@@ -19,7 +19,7 @@ from callauction.arrays import (
     whole,
 )
 from callauction.carried import CarriedOver, carried_over
-from callauction.errors import AuctionError, ClosedError, NotAppliedError
+from callauction.errors import AuctionError, ClosedError, NotAppliedError, close_after
 from callauction.library import ffi, lib
 from callauction.limits import MOST_NUMBER
 from callauction.reading import (
@@ -178,7 +178,7 @@ class Auction:
         raised: BaseException | None,
         traceback: TracebackType | None,
     ) -> None:
-        self.close()
+        close_after(raised, "auction", self.close)
 
     # ---- commands
 
@@ -469,9 +469,11 @@ class Auction:
 
     def copy_into(self, other: "Auction") -> None:
         """Makes another auction of the same bounds, `max_open` and `max_calls` a copy of this one,
-        whatever it was, and takes no memory. Raises ValueError where it has others, TypeError where
-        it is no Auction, and ClosedError where it was closed.
+        whatever it was, and takes no memory. Of itself it is one. Raises ValueError where it has
+        others, TypeError where it is no Auction, and ClosedError where it was closed.
         """
+        if other is self and not self.is_closed:
+            return
         copy_over(other, lambda to: int(lib.python_clone(self._own, to)))
 
     def __copy__(self) -> Self:

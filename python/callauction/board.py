@@ -1,6 +1,7 @@
 """A board in this process: one auction that members call from threads of their own. See Board."""
 import builtins
 import dataclasses
+import operator
 import os
 import weakref
 from types import TracebackType
@@ -20,7 +21,7 @@ from callauction.arrays import (
     whole,
 )
 from callauction.auction import ALL_MEMBERS, Auction, config_of, config_struct, copy_over
-from callauction.errors import AuctionError, NotAppliedError
+from callauction.errors import AuctionError, NotAppliedError, close_after
 from callauction.library import ffi, lib
 from callauction.limits import MOST_CLIENT, MOST_MEMBERS, MOST_NUMBER
 from callauction.reading import (
@@ -359,7 +360,9 @@ class Board:
     `members` says how many; the other numbers are those of Auction, but that the last 16 calls are
     the operator's where `reserve` isn't given. `board[3]` is the member with the number 3, and
     `board.members` has all: each goes to a thread of its own. Member 0 is the operator. The end of
-    a `with` block closes the board; `day` then has its day. copy.copy gives the board itself.
+    a `with` block closes the board, after an exception too; `day` then has its day. While a thread
+    calls then, the board stays open: that raises BusyError, or is a note of the block's exception.
+    copy.copy gives the board itself.
 
     After a fork each process has its own board. One that another thread was calling just then
     raises BusyError for good in the child.
@@ -416,14 +419,19 @@ class Board:
         raised: BaseException | None,
         traceback: TracebackType | None,
     ) -> None:
-        if kind is None:
-            self.close()
+        close_after(raised, "board", self.close)
 
     def __len__(self) -> int:
         return len(self._members)
 
     def __getitem__(self, number: int) -> Member:
-        return self._members[number]
+        """The member with this number. Raises TypeError where it is no integer, and IndexError
+        where the board has no such member.
+        """
+        place, most = operator.index(number), len(self) - 1
+        if not 0 <= place <= most:
+            raise IndexError(f"a board of {most + 1} members has numbers 0 to {most}, not {place}")
+        return self._members[place]
 
     @property
     def members(self) -> tuple[Member, ...]:

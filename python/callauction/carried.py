@@ -12,10 +12,11 @@ from callauction.words import CommandTag, Restriction
 class CarriedOver:
     """The open orders that are for every auction, as what enters them into the next day's auction.
 
-    `commands` is an array of COMMAND in time order: entering them in it, each order keeps its place
-    behind those with its limit that were before it. `ids` an array of uint32 of the same length
-    with the orders' ids of this day: those of the next one are 1, 2 and so on. `reference` is the
-    next day's reference price, a tick.
+    `commands` is an array of COMMAND, in time order within each limit of a side and among its
+    market orders, which is all that price-time priority asks: entered in it, each order keeps its
+    place behind those with its limit that were before it. `ids` is an array of uint32 of the same
+    length with the orders' ids of this day: those of the next one are 1, 2 and so on. `reference`
+    is the next day's reference price, a tick.
     """
 
     commands: Structs

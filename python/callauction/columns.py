@@ -1,4 +1,5 @@
 """Columns of numbers as an array of commands, of which nothing is cut: see commands."""
+import math
 import operator
 from collections.abc import Mapping, Sequence
 from typing import TYPE_CHECKING, Any, TypeAlias
@@ -7,7 +8,15 @@ import numpy
 from numpy.typing import NDArray
 
 from callauction.arrays import COMMAND, Structs
-from callauction.words import CommandTag, Restriction, Side
+from callauction.words import (
+    MARKET,
+    RESTRICTION_WORDS,
+    SIDE_WORDS,
+    TAG_WORDS,
+    CommandTag,
+    Restriction,
+    Side,
+)
 
 if TYPE_CHECKING:
     import pandas
@@ -40,8 +49,13 @@ RANGES = {
     for name in NAMES
 }
 """The numbers that a column may have."""
-SIDES = {"bid": Side.BID, "ask": Side.ASK}
-"""The sides by their words in frames."""
+WORDS: dict[str, Mapping[str, int | None]] = {
+    "tag": TAG_WORDS,
+    "side": SIDE_WORDS,
+    "restriction": RESTRICTION_WORDS,
+    "limit": {MARKET: None},
+}
+"""By their columns, the words of files and frames that stand for a number, or for none."""
 FLAGGED = ("limit", "peak")
 """The columns that have a flag in COMMAND."""
 EXACT = 1 << 53
@@ -65,9 +79,11 @@ def commands(
     """An array of COMMAND for `apply_many`, of columns or of a frame with these columns: orders of
     member 1, where neither a `tag` (CommandTag) nor a `member` is given.
 
-    A column is one number for all commands, or a list, an array or a Series of a number for each;
-    sides may be the words `bid` and `ask`. Columns of several numbers have one length. An order
-    without a limit (None, or `<NA>`) is a market order, one without a peak no iceberg order.
+    A column is one number for all commands, or a list, an array or a Series of a number for each.
+    The words of files and frames are taken too: `enter`, `change`, `delete`, `status`, `ask`,
+    `trade`, `uncross`; `bid`, `ask`; `opening`, `closing` and an empty word, as in a column `only`;
+    `market` as a limit. Columns of several numbers have one length. An order without a limit (None,
+    or `<NA>`) is a market order, one without a peak no iceberg order.
     READ_TRADE has its number as `id`. An order's `client` is any number of your own, 0 to 2^64 - 1.
 
     Nothing is cut or rounded: raises TypeError for what is no number or is a bool, and ValueError
@@ -198,23 +214,36 @@ def _number(name: str, place: int, value: object) -> int | None:
         if name in ALWAYS:
             raise ValueError(f"{name}: element {place} is missing")
         return None
-    if name == "side" and isinstance(value, str) and value in SIDES:
-        return SIDES[value]
+    words = WORDS.get(name, {})
+    if isinstance(value, str) and value in words:
+        return words[value]
     if isinstance(value, bool | numpy.bool_):
         raise TypeError(f"{name}: element {place} must be an integer, not bool")
     if isinstance(value, float | numpy.floating):
-        if not float(value).is_integer() or abs(float(value)) > EXACT:
-            raise ValueError(f"{name}: element {place}, {value}, is no exact whole number")
-        value = int(value)
+        value = _whole(name, place, float(value))
     try:
         number = operator.index(value)  # type: ignore[arg-type]
     except TypeError:
         kind = type(value).__name__
+        if words and isinstance(value, str):
+            kind += f" (words: {', '.join(map(repr, words))})"
         raise TypeError(f"{name}: element {place} must be an integer, not {kind}") from None
     allowed = RANGES[name]
     if number not in allowed:
-        words = f"must be from {allowed[0]} to {allowed[-1]}, not {number}"
+        text = f"must be from {allowed[0]} to {allowed[-1]}, not {number}"
         if name in ALLOWED:
-            words = f"must be one of {ALLOWED[name][0].__name__}, not {number}"
-        raise ValueError(f"{name}: element {place} {words}")
+            text = f"must be one of {ALLOWED[name][0].__name__}, not {number}"
+        raise ValueError(f"{name}: element {place} {text}")
     return number
+
+
+def _whole(name: str, place: int, value: float) -> int:
+    """The whole number that an element of a column is. Raises ValueError where it is none, or so
+    great that a float may not have it exactly.
+    """
+    if value.is_integer() and abs(value) <= EXACT:
+        return int(value)
+    text = f"{name}: element {place}, {value}, is no exact whole number"
+    if math.isnan(value) and name not in ALWAYS:
+        text += ': where it is missing, give None, or a Series.astype("Int64")'
+    raise ValueError(text)

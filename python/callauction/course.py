@@ -12,7 +12,18 @@ from callauction.arrays import COMMAND, REPLY, Structs
 from callauction.limits import MOST_CALLS
 from callauction.program import Day
 from callauction.tables import journal_of
-from callauction.words import AuctionKind, CommandTag, NoPrice, Price, ReplyTag, Restriction, Side
+from callauction.words import (
+    RESTRICTION_WORDS,
+    SIDE_WORDS,
+    TAG_WORDS,
+    AuctionKind,
+    CommandTag,
+    NoPrice,
+    Price,
+    ReplyTag,
+    Restriction,
+    Side,
+)
 
 if TYPE_CHECKING:
     from callauction.auction import Auction
@@ -44,18 +55,6 @@ UNCROSSES = {
 executed as the price lay too far from the reference.
 """
 INTERRUPTED = "interrupted"
-_TAGS = {
-    "enter": CommandTag.ENTER,
-    "change": CommandTag.CHANGE,
-    "delete": CommandTag.DELETE,
-    "status": CommandTag.ORDER_STATUS,
-    "ask": CommandTag.INDICATE,
-    "trade": CommandTag.READ_TRADE,
-    "uncross": CommandTag.UNCROSS,
-}
-"""The tags of the commands by their words in a file."""
-_SIDES = {"bid": Side.BID, "ask": Side.ASK}
-_RESTRICTIONS = {"opening": Restriction.OPENING_ONLY, "closing": Restriction.CLOSING_ONLY}
 Step = TypeVar("Step")
 
 
@@ -138,10 +137,10 @@ def commands_of(journal: pandas.DataFrame) -> Structs:
     """The commands of a journal's frame: an array of COMMAND of its length."""
     commands = numpy.zeros(len(journal), COMMAND)
     commands["member"] = journal["member"]
-    commands["tag"] = journal["command"].map(_TAGS)
+    commands["tag"] = journal["command"].map(TAG_WORDS)
     commands["id"] = journal["id"].fillna(journal["number"]).fillna(0)
-    commands["side"] = journal["side"].map(_SIDES).fillna(Side.NONE)
-    commands["restriction"] = journal["only"].map(_RESTRICTIONS).fillna(Restriction.NONE)
+    commands["side"] = journal["side"].map(SIDE_WORDS).fillna(Side.NONE)
+    commands["restriction"] = journal["only"].map(RESTRICTION_WORDS).fillna(Restriction.NONE)
     for name in ("quantity", "limit", "peak"):
         commands[name] = journal[name].fillna(0)
     commands["has_limit"] = journal["limit"].notna()

@@ -1,4 +1,6 @@
 """What calls of an auction raise beside TypeError, ValueError and MemoryError."""
+from collections.abc import Callable
+
 from callauction.arrays import Structs
 from callauction.words import Refusal
 
@@ -50,3 +52,15 @@ class FullError(NotAppliedError):
 
 class NoCommandError(NotAppliedError, ValueError):
     """A struct of an array is no command."""
+
+
+def close_after(raised: BaseException | None, name: str, close: Callable[[], object]) -> None:
+    """Closes what a `with` block had that raised this, or nothing. Where closing fails, what the
+    block raised goes on with a note of it; else raises the fault.
+    """
+    try:
+        close()
+    except Exception as fault:
+        if raised is None:
+            raise
+        raised.add_note(f"the {name} isn't closed: {fault}")

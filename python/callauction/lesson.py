@@ -14,6 +14,7 @@ import pandas
 
 from callauction import plot
 from callauction.library import ffi, lib
+from callauction.limits import MOST_QUANTITY
 from callauction.outcomes import queue_of
 from callauction.plot.parts import thousands, whole_steps
 from callauction.reasons import Explanation
@@ -32,8 +33,6 @@ MOVED = ("limit", "price", "volume", "surplus")
 """The columns of what an order's limit does."""
 LOW, HIGH = 1, 1000
 """The lowest and the highest tick of a lesson's auctions."""
-MOST_SHARES = 1_000_000_000
-"""The most shares that an order may have."""
 
 
 def auction_of(
@@ -208,8 +207,8 @@ def _order_fault(order: Sequence[object]) -> str:
     side, quantity, limit = order
     if side is not BID and side is not ASK:
         return f"its side is BID or ASK, not {_shown(side)}"
-    if not _is_whole(quantity) or not 1 <= cast(int, quantity) <= MOST_SHARES:
-        return f"its shares are a whole number from 1 to {MOST_SHARES:,}, not {_shown(quantity)}"
+    if not _is_whole(quantity) or not 1 <= cast(int, quantity) <= MOST_QUANTITY:
+        return f"its shares are a whole number from 1 to {MOST_QUANTITY:,}, not {_shown(quantity)}"
     if limit is not None and not _is_tick(limit):
         return f"its limit is a tick from {LOW} to {HIGH}, or None at market, not {_shown(limit)}"
     return ""

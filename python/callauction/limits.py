@@ -7,6 +7,8 @@ MOST_TICKS = 65_536
 """How many ticks a day may have from its lowest to its highest."""
 MOST_OPEN = 65_536
 MOST_CALLS = 1_048_576
+MOST_QUANTITY = 1_000_000_000
+"""The shares of an order."""
 MOST_MEMBERS = 64
 """The members of a journal and of a board, numbered from 0."""
 MOST_NUMBER = 4_294_967_295

@@ -257,4 +257,4 @@ def member_of(name: str, value: object, enumeration: type) -> None:
     """Raises TypeError where the value of this argument isn't of this enumeration."""
     if not isinstance(value, enumeration):
         wanted = enumeration.__name__
-        raise TypeError(f"{name} must be a {wanted}, not {type(value).__name__}")
+        raise TypeError(f"{name} must be one of {wanted}, not {type(value).__name__}")

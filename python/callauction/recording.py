@@ -14,7 +14,7 @@ from callauction import words
 from callauction.arrays import COMMAND, Shares, Structs, whole
 from callauction.auction import Auction
 from callauction.day_frames import DayTables, written_day
-from callauction.errors import BusyError, NotAppliedError, RefusedError
+from callauction.errors import BusyError, NotAppliedError, RefusedError, close_after
 from callauction.limits import MOST_MEMBERS, MOST_NUMBER
 from callauction.program import Day
 from callauction.reading import number, reply_of
@@ -65,7 +65,7 @@ class RecordedAuction(DayTables):
         raised: BaseException | None,
         traceback: TracebackType | None,
     ) -> None:
-        self.close()
+        close_after(raised, "auction", self.close)
 
     # ---- commands
 

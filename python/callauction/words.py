@@ -62,6 +62,24 @@ class CommandTag(enum.IntEnum):
     UNCROSS = 7
 
 
+TAG_WORDS = {
+    "enter": CommandTag.ENTER,
+    "change": CommandTag.CHANGE,
+    "delete": CommandTag.DELETE,
+    "status": CommandTag.ORDER_STATUS,
+    "ask": CommandTag.INDICATE,
+    "trade": CommandTag.READ_TRADE,
+    "uncross": CommandTag.UNCROSS,
+}
+SIDE_WORDS = {"bid": Side.BID, "ask": Side.ASK}
+RESTRICTION_WORDS = {
+    "": Restriction.NONE,
+    "opening": Restriction.OPENING_ONLY,
+    "closing": Restriction.CLOSING_ONLY,
+}
+"""The commands, sides and restrictions by their words in a file or a frame."""
+
+
 class ReplyTag(enum.IntEnum):
     """The tags of a reply in an array."""
 

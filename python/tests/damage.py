@@ -8,6 +8,8 @@ from typing import Any
 from extracts import AUCTIONS, Extract, Recorder, Rows, price_of
 
 ORDERS = ("new", "replace", "cancel")
+UNREADABLE = "###"
+"""A cell as a spreadsheet writes it where its column is too narrow."""
 Damage = Callable[[random.Random, Rows], int | None]
 """Damages rows; answers the place of the first that is touched, None where there is none to touch.
 """
@@ -92,7 +94,7 @@ def unread_trade(chance: random.Random, rows: Rows) -> int | None:
     """A row of a trade can't be read."""
     place = some(chance, places(rows, "trade"))
     if place is not None:
-        rows[place][chance.choice(["quantity", "price", "auction"])] = "n/a"
+        rows[place][chance.choice(["quantity", "price", "auction"])] = UNREADABLE
     return place
 
 
@@ -100,7 +102,7 @@ def unread_result(chance: random.Random, rows: Rows) -> int | None:
     """A cell of a row uncross can't be read."""
     place = some(chance, places(rows, "uncross"))
     if place is not None:
-        rows[place][chance.choice(["price", "quantity", "surplus", "side", "trades"])] = "n/a"
+        rows[place][chance.choice(["price", "quantity", "surplus", "side", "trades"])] = UNREADABLE
     return place
 
 
@@ -290,7 +292,7 @@ def unread_bust(chance: random.Random, rows: Rows) -> int | None:
     place = some(chance, places(rows, "trade"))
     if place is not None:
         wrong = {**rows[place], "bid": rows[place]["ask"], "ask": rows[place]["bid"]}
-        bust = {**wrong, "event": "bust", "quantity": chance.choice(["n/a", "987654"])}
+        bust = {**wrong, "event": "bust", "quantity": chance.choice([UNREADABLE, "987654"])}
         rows.insert(chance.randint(place + 1, len(rows)), bust)
         rows.insert(place + 1, wrong)
     return place

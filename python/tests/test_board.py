@@ -192,8 +192,42 @@ def test_a_with_block_keeps_the_day() -> None:
     assert len(board.day.history) == 1 and board.close().counts == (0, 1)
     with pytest.raises(RuntimeError):
         with Board(2, **DAY) as other:
+            other[1].enter(Side.BID, 5, 500)
             raise RuntimeError
-    assert not other.is_closed and other[1].indicate().number == 1
+    assert other.is_closed and other.day.counts == (0, 1)
+    with pytest.raises(ClosedError):
+        other[1].indicate()
+
+
+def test_a_with_block_ends_while_a_thread_calls() -> None:
+    """Its own exception is what is raised, else that the board couldn't be closed."""
+    board = Board(2, **DAY)
+    board._own.is_busy_[1] = True  # as while a thread calls it
+    with pytest.raises(BusyError, match="^another call of this member is running"):
+        with board:
+            pass
+    with pytest.raises(RuntimeError, match="^the block's$") as raised:
+        with board:
+            raise RuntimeError("the block's")
+    assert raised.value.__notes__ == [
+        "the board isn't closed: another call of this member is running, or was at a fork"
+    ]
+    assert not board.is_closed
+    board._own.is_busy_[1] = False
+    assert board.close().counts == (0, 0)
+
+
+def test_a_board_has_no_other_members() -> None:
+    board = Board(8)
+    assert [member.number for member in board.members] == [*range(8)]
+    for number in (8, -1):
+        text = f"^a board of 8 members has numbers 0 to 7, not {number}$"
+        with pytest.raises(IndexError, match=text):
+            board[number]
+    with pytest.raises(TypeError):
+        board["1"]  # type: ignore[index]
+    with pytest.raises(TypeError, match="^kind must be one of AuctionKind, not str$"):
+        board[0].uncrossed_orders("opening")  # type: ignore[arg-type]
 
 
 def test_a_copy_is_the_board_itself() -> None:

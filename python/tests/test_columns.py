@@ -1,4 +1,5 @@
 """Arrays of commands of columns: nothing of them is cut, and the auction takes what they say."""
+import re
 from typing import Any
 
 import hypothesis
@@ -18,6 +19,7 @@ from callauction import (
     NoCommandError,
     OrderStatus,
     ReadTrade,
+    RecordedAuction,
     Restriction,
     Side,
     Uncross,
@@ -72,6 +74,48 @@ def test_a_frame() -> None:
         commands(frame, side=BID)
 
 
+def test_words_of_files_and_frames() -> None:
+    made = commands(
+        tag=["enter", "enter", "change", "delete", "status", "ask", "trade", "uncross"],
+        side=["bid", "ask", *[None] * 6], quantity=[5, 6, 7, *[None] * 5],
+        limit=["market", 199, "market", *[None] * 5], id=[None, None, 1, 2, 3, None, 4, None],
+        restriction=["closing", "opening", *[""] * 6], member=3,
+    )  # fmt: skip
+    opening, closing = Restriction.OPENING_ONLY, Restriction.CLOSING_ONLY
+    wanted: list[Command] = [
+        Enter(BID, 5, restriction=closing), Enter(ASK, 6, 199, restriction=opening),
+        Change(1, 7), Delete(2), OrderStatus(3), Indicate(), ReadTrade(4), Uncross(),
+    ]  # fmt: skip
+    assert made.tobytes() == array_of([(3, command) for command in wanted]).tobytes()
+
+
+def test_the_frame_of_open_orders_enters_them_again() -> None:
+    names = ("side", "quantity", "limit")
+    with RecordedAuction() as auction, Auction() as other:
+        auction.enter(1, BID, 5, restriction=Restriction.CLOSING_ONLY)
+        auction.enter(1, ASK, 6, 210)
+        frame = auction.orders()
+        made = commands(frame[[*names]], restriction=frame["only"])
+        other.apply_many(made)
+        listed = other.orders()
+    assert listed[[*names, "restriction", "has_limit"]].tolist() == [
+        (BID, 5, 0, Restriction.CLOSING_ONLY, 0), (ASK, 6, 210, Restriction.NONE, 1)
+    ]  # fmt: skip
+
+
+def test_a_limit_that_pandas_made_nan() -> None:
+    """The text says what to do, and that does it."""
+    frame = pandas.DataFrame({"side": ["bid", "bid"], "quantity": 5, "limit": [50.0, None]})
+    text = "limit: element 1, nan, is no exact whole number: where it is missing, give None, or "
+    with pytest.raises(ValueError, match=re.escape(f'{text}a Series.astype("Int64")') + "$"):
+        commands(frame)
+    for limit in (frame["limit"].astype("Int64"), [50, None]):
+        made = commands(frame.drop(columns="limit"), limit=limit)
+        assert made["has_limit"].tolist() == [1, 0] and made["limit"].tolist() == [50, 0]
+    with pytest.raises(ValueError, match="^member: element 0, nan, is no exact whole number$"):
+        commands(side=BID, quantity=5, member=float("nan"))
+
+
 HIDDEN = numpy.ma.array([1, 2], mask=[0, 1])  # type: ignore[no-untyped-call]
 BAD: list[tuple[type[Exception], str, dict[str, Any]]] = [
     (ValueError, "limit: element 1, 199.95, is no exact whole number", {"limit": [200, 199.95]}),
@@ -104,6 +148,13 @@ BAD: list[tuple[type[Exception], str, dict[str, Any]]] = [
     (TypeError, "limit: element 0 must be an integer, not set", {"limit": {1, 2}}),
     (TypeError, "side: element 1 must be an integer, not str", {"side": ["bid", "buy"]}),
     (TypeError, "limit: element 0 must .* not complex", {"limit": numpy.array([1j, 2])}),
+    (TypeError, r"side: element 0 must .* not str \(words: 'bid', 'ask'\)$", {"side": ["Bid", 1]}),
+    (TypeError, r"tag: element 0 must .* \(words: 'enter', 'change', 'delete', .*'uncross'\)$",
+     {"tag": "new"}),
+    (TypeError, r"restriction: .* \(words: '', 'opening', 'closing'\)$", {"restriction": "x"}),
+    (TypeError, r"limit: element 0 must .* str \(words: 'market'\)$", {"limit": ["Market", 1]}),
+    (TypeError, "quantity: element 0 must be an integer, not str$", {"quantity": "market"}),
+    (TypeError, "side: element 0 must be an integer, not list$", {"side": [[1], 2]}),
 ]
 
 
@@ -144,6 +195,8 @@ def test_what_is_made_is_commands(given: dict[str, Any]) -> None:
         return
     for name, column in given.items():
         listed = column if isinstance(column, list) else [column] * len(made)
+        if name == "restriction":
+            listed = [Restriction.NONE if value == "" else value for value in listed]
         for row, value in zip(made, listed):
             assert value is None or row[name] == value
             if name in ("limit", "peak"):

@@ -1,12 +1,16 @@
-"""The engine of audits answers alike by the library and by the program."""
+"""The engine of audits answers alike by the library and by the program, and shows a line of the
+program that is no reply.
+"""
 import random
+import re
 from typing import Any
 
 import numpy
 import pytest
 from callauction.arrays import COMMAND
+from callauction.program import Day
 from callauction.verdict import audit_events, engine
-from callauction.words import CommandTag
+from callauction.words import CommandTag, ReplyTag, Side
 from damage import timed_day
 from test_verdict import frame_of
 
@@ -54,6 +58,53 @@ def _with(name: str) -> list[int]:
     fields = {"id": [1, 7], "ask": [7], "quantity": [7], "auction": [8], "kept": [2]}
     fields |= {"refusal": [10], "trades": [8]}
     return fields.get(name, [*range(1, 11)])
+
+
+def answered_by(monkeypatch: pytest.MonkeyPatch, count: int, *lines: str) -> Any:
+    """The replies to so many commands, for which the program prints these lines."""
+    text = "".join(f"{line}\n" for line in lines)
+    monkeypatch.setattr(engine, "_library", lambda: None)
+    monkeypatch.setattr(Day, "printed", lambda day: text)
+    commands = numpy.zeros(count, COMMAND)
+    commands["tag"], commands["member"] = CommandTag.INDICATE, engine.MEMBER
+    return engine.answers(9, 4, 8, commands)
+
+
+def test_a_line_for_each_command_is_read(monkeypatch: pytest.MonkeyPatch) -> None:
+    lines = (
+        "1: price 4 volume 5 surplus 6 ask",
+        "2: price 4 volume 5 surplus 0 none",
+        "3: closing price 7 volume 8 surplus 9 bid trades 2",
+    )
+    found = answered_by(monkeypatch, 3, *lines)
+    assert found["tag"].tolist() == [ReplyTag.PRICED, ReplyTag.PRICED, ReplyTag.UNCROSSED]
+    assert found["side"].tolist() == [Side.ASK, Side.NONE, Side.BID]
+    assert found["surplus"].tolist() == [6, 0, 9]
+
+
+@pytest.mark.parametrize("line", [
+    "1: price 4 volume 5 surplus 6 kept",
+    "1: price 4 volume 5 surplus 6 opening",
+    "1: price 4 volume 5 surplus 6 7",
+    "1: closing price 4 volume 5 surplus 6 moved trades 1",
+    "1: halted",
+    "1: ",
+    "one: deleted",
+    "deleted",
+])
+def test_a_line_that_is_no_reply_is_shown(line: str, monkeypatch: pytest.MonkeyPatch) -> None:
+    with pytest.raises(AssertionError, match=f"^{re.escape(line)}$"):
+        answered_by(monkeypatch, 1, line)
+
+
+@pytest.mark.parametrize("count, lines", [
+    (2, ("1: deleted",)), (1, ("1: deleted", "2: deleted")), (1, ()),
+])
+def test_lines_are_as_many_as_commands(
+    count: int, lines: tuple[str, ...], monkeypatch: pytest.MonkeyPatch
+) -> None:
+    with pytest.raises(ValueError, match="shorter|longer"):
+        answered_by(monkeypatch, count, *lines)
 
 
 def test_an_audit_is_the_same_by_the_program(monkeypatch: pytest.MonkeyPatch) -> None:

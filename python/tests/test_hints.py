@@ -3,6 +3,7 @@ say of a day without findings.
 """
 import csv
 import json
+import re
 from pathlib import Path
 
 import pytest
@@ -100,12 +101,16 @@ trade,,,10.00,510,,,,C,S
 trade,,,10.00,500,,,,E,S
 """
     words = ["--reference", "10", "--auctions", "opening"]
-    audited(text, words, tmp_path)
-    lines = [it for it in capsys.readouterr().out.splitlines() if "trade: recorded" in it]
-    moved = [max(int(part.split(" at ")[0].replace(",", "")) for part in line.split(": ")
-                 if " at 10" in part and part[0].isdigit()) for line in lines]  # fmt: skip
-    doubts = [it for line, it in zip(lines, moved) if line.startswith("doubtful")]
-    assert len(doubts) > 1 and doubts == sorted(doubts, reverse=True), lines
+    path = tmp_path / "found.csv"
+    audited(text, [*words, "--findings", str(path)], tmp_path)
+    with path.open() as file:
+        records = [it for it in csv.DictReader(file) if (it["kind"], it["item"]) == (
+            "doubtful", "trade")]  # fmt: skip
+    moved = [max(int(it.replace(",", "")) for it in re.findall(
+        r": ([\d,]+) at 10", f"{row['recorded']} {row['lawful']}")) for row in records]  # fmt: skip
+    assert len(moved) > 1 and moved == sorted(moved, reverse=True), records
+    [line] = [it for it in capsys.readouterr().out.splitlines() if "trade: recorded" in it]
+    assert line.startswith("doubtful") and f"recorded {records[0]['recorded']}, " in line
 
 
 # ---- files of findings

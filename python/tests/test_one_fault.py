@@ -1,4 +1,5 @@
 """One fault is one finding, in words that are true: of each day the fault is planted by hand."""
+import csv
 import datetime
 from pathlib import Path
 
@@ -460,11 +461,13 @@ def test_fills_of_one_order_correct_one_another_by_ids_of_trades_alone(
     path = tmp_path / "day.csv"
     path.write_text(NAMED.format(name=name, ids=ids.replace("-", "").split(" ")))
     words = ["audit", str(path), "--reference", "10", "--tick-size", "0.01", "--ignore", name]
-    assert main([*words, "--auctions", "opening"]) == 4
+    found = tmp_path / "found.csv"
+    assert main([*words, "--auctions", "opening", "--findings", str(found)]) == 4
     lines = capsys.readouterr().out.splitlines()
-    why = f": rows 10 and 12 have one {name}: is the later right?"
-    fills = [line for line in lines if ": fill: " in line]
-    assert [it.split("recorded ")[1][:2] for it in fills if why in it] == doubtful
+    why = f"rows 10 and 12 have one {name}: is the later right?"
+    with found.open() as file:
+        fills = [it for it in csv.DictReader(file) if (it["item"], it["why"]) == ("fill", why)]
+    assert [it["recorded"][:2] for it in fills] == doubtful
     certain = [line for line in lines if line.startswith("row ")]
     assert [line.split("recorded ")[1][:5] for line in certain] == ["A2 21", "B2 61"][
         : 2 - len(doubtful)]

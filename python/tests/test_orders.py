@@ -4,7 +4,16 @@ from collections.abc import Iterator
 
 import pandas
 import pytest
-from callauction import Auction, Board, ClosedError, Enter, RecordedAuction, Restriction, Side
+from callauction import (
+    Auction,
+    Board,
+    BusyError,
+    ClosedError,
+    Enter,
+    RecordedAuction,
+    Restriction,
+    Side,
+)
 from callauction.arrays import Structs
 from callauction.tables import ORDERS
 from days import EXAMPLES, options_of
@@ -206,6 +215,35 @@ def test_a_copy_over_an_auction_of_other_limits_is_refused() -> None:
             auction.copy_into("other")  # type: ignore[arg-type]
     with Auction() as auction, pytest.raises(ClosedError):
         auction.copy_into(other)
+
+
+def test_an_auction_is_a_copy_of_itself() -> None:
+    with Auction() as auction:
+        auction.enter(1, Side.BID, 5)
+        auction.copy_into(auction)
+        assert auction.calls == 1
+    with pytest.raises(ClosedError):
+        auction.copy_into(auction)
+
+
+def test_a_with_block_ends_while_a_thread_calls() -> None:
+    """Its own exception is what is raised, else that the auction couldn't be closed."""
+    both: tuple[Auction | RecordedAuction, ...] = (Auction(), RecordedAuction())
+    for auction in both:
+        inner = auction if isinstance(auction, Auction) else auction._auction
+        own = inner._own
+        own.is_busy_ = True  # as while a thread calls it
+        with pytest.raises(BusyError):
+            with auction:
+                pass
+        with pytest.raises(RuntimeError) as raised:
+            with auction:
+                raise RuntimeError
+        assert raised.value.__notes__ == [
+            "the auction isn't closed: another call of this auction is running"
+        ]
+        own.is_busy_ = False
+        assert auction.calls == 0
 
 
 def test_a_board_lists_what_an_auction_does() -> None:

@@ -3,7 +3,18 @@ import callauction
 import numpy
 import pytest
 from arrayed import array_of
-from callauction import COMMAND, REPLY, Auction, Change, Command, Enter, Indicate, Side, Uncross
+from callauction import (
+    COMMAND,
+    RECEIPT,
+    REPLY,
+    Auction,
+    Change,
+    Command,
+    Enter,
+    Indicate,
+    Side,
+    Uncross,
+)
 from callauction.refused import REFUSALS
 
 GIVEN: list[tuple[int, Command]] = [
@@ -36,8 +47,13 @@ def test_a_day_without_refusals_has_an_empty_table() -> None:
 
 
 def test_other_arrays_are_no_replies() -> None:
-    with pytest.raises(TypeError, match="replies must be an array of another dtype"):
-        callauction.refusals(numpy.zeros(1, COMMAND))
+    text = "^replies must be an array of REPLY, not of "
+    others = {"COMMAND": COMMAND, "RECEIPT": RECEIPT, "float64": numpy.dtype("f8")}
+    for name, dtype in others.items():
+        with pytest.raises(TypeError, match=f"{text}{name}$"):
+            callauction.refusals(numpy.zeros(1, dtype))
+    with pytest.raises(TypeError, match=f"{text}a struct of other fields$"):
+        callauction.refusals(numpy.zeros(1, [("tag", "u1"), ("id", "u4")]))
     with pytest.raises(TypeError, match="commands must be a numpy array, not list"):
         callauction.refusals(numpy.zeros(1, REPLY), [])  # type: ignore[arg-type]
     with pytest.raises(ValueError, match="commands must be 1 or more, not 0"):

@@ -194,7 +194,7 @@ def test_cancels_of_filled_orders_and_after_the_last_auction_are_accepted_and_co
     verdict = verdict_of(rows)
     assert verdict.word == "lawful"
     assert verdict.notes == {
-        "cancels of orders that were executed or cancelled before": 1,
+        "cancels and expiries of orders that were executed before": 1,
         "cancels after the last auction": 2,
     }
 
