@@ -133,7 +133,7 @@ class Instrument:
         self._calls: collections.Counter[int] = collections.Counter()
         self._is_book_known = self._has_icebergs = self.is_ladder_seen = False
         self._full: set[str] = set()
-        self._entries = 0
+        self._entries, self._listed = 0, -1  # how many entries the book had that was listed last
         self._waiting: dict[str, dict[Message, str]] = {}
         self._entering = 0
         self._gone: set[str] = set()
@@ -657,10 +657,11 @@ class Instrument:
         records += [f"show,orders,{self.numbers[it]}" for it in asked]
         if has_ladder:
             records.append("show,ladder")
-        sees_book, sees_hidden = not self._is_book_known, has_ladder and self._has_icebergs
+        sees_book, is_hidden = not self._is_book_known, has_ladder and self._has_icebergs
+        entries, count = self._entries, self.engine.count
+        sees_hidden = is_hidden and self._listed != count
         if sees_book or sees_hidden:
             records.append("show,orders")
-        entries = self._entries
         try:
             found = await self.engine.show(records)
         except ProcessError:
@@ -668,15 +669,16 @@ class Instrument:
             raise
         self._indicated(views.Indication.of(found[0][0]))
         self.day = views.DayView.of(found[1][0])
-        trades = views.trades_of(found[2])
-        self.add_trades(trades)
+        self.add_trades(trades := views.trades_of(found[2]))
         self.orders.update(zip(asked, map(views.orders_of, found[3:])))
         self.is_ladder_seen = has_ladder
         if has_ladder:
-            self.levels = self.visible_levels = views.levels_of(found[3 + len(asked)])
+            self.levels = views.levels_of(found[3 + len(asked)])
         if sees_hidden:
-            orders = views.orders_of(found[-1])
+            orders, self._listed = views.orders_of(found[-1]), count
             self.visible_levels = views.visible_levels(orders, self.day.auction)
+        elif has_ladder and not is_hidden:
+            self.visible_levels = self.levels
         if sees_book and entries == self._entries:
             self._book.seen(views.orders_of(found[-1]))
             self._is_book_known = True
