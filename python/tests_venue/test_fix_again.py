@@ -9,8 +9,8 @@ import fixing
 import psutil
 import pytest
 import served
-from callauction.fix.front import MOST_AGE
 from callauction.fix.refusals import OTHER_DAY
+from callauction.fix.reports import MOST_AGE
 from fixing import Message, Pairs, Peer
 from test_fix_requests import Killable, killable, until_logged
 from test_fix_tags import order, picked

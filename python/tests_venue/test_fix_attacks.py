@@ -14,7 +14,7 @@ import fixing
 import psutil
 import pytest
 import served
-from callauction.fix.front import REMOVED
+from callauction.fix.connections import REMOVED
 from callauction.fix.wires import ANSWER_SECONDS
 from callauction.venue.gates import IN_VAIN_SECONDS, SLICE, STUCK_SECONDS
 from fixing import SOH, Closed, Pairs, Peer

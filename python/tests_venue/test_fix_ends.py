@@ -11,7 +11,8 @@ import fixing
 import psutil
 import pytest
 import served
-from callauction.fix.front import ENDS, LEAVE_SECONDS, LOGOUT_SECONDS, REMOVED, RESET
+from callauction.fix.connections import LOGOUT_SECONDS, REMOVED
+from callauction.fix.resets import ENDS, LEAVE_SECONDS, RESET
 from fixing import Closed, Message, Pairs, Peer
 from patience import TIMED
 from test_fix_operator import day_with_copy, reset

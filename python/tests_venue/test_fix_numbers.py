@@ -16,9 +16,8 @@ import served
 from callauction.fix._quickfix import Engine
 from callauction.fix.front import Front
 from callauction.fix.orders import NUMBER, Report
-from callauction.fix.seats import Seat
 from callauction.fix.settings import settings_of
-from callauction.fix.tags import Tag, Type, event_of, now, number_of
+from callauction.fix.tags import Tag, Type, event_in, now, number_of, pairs_of
 from callauction.venue.config import DayTerms, Plan
 from callauction.venue.fix_terms import Terms
 from callauction.venue.recovery import Entry, Message
@@ -66,9 +65,9 @@ class Run:
         venue = Venue(DayTerms(is_synced=False, plan=Plan(call=0)), folder, served.program())
         self.venue = venue
         self.front = Front(venue, Terms({"ALICE": "Alice"}), served.program())
-        self.seat: Seat = next(iter(self.front._seats.values()))
+        self.seat, self.outbound = self.front._seats[0], self.front._outbound
         text = settings_of(folder, {"ALICE": self.seat.begin})
-        self.front.engine = Engine(text, lambda session, password: False)
+        self.outbound.engine = Engine(text, lambda session, password: False)
         self.waiting = {it: collections.deque[Said]() for it in BOARDS}
 
     async def begin(self, chance: random.Random) -> None:
@@ -81,8 +80,8 @@ class Run:
         left = {board: self.events(board) for board in BOARDS}
         while those := [board for board in BOARDS if left[board]]:
             board = chance.choice(those)
-            self.front._tell(report_of(left[board].pop(0)), board)
-        assert not self.seat.owed
+            self.front._reports.tell(report_of(left[board].pop(0)), board)
+        assert not self.seat.epoch.owed
 
     def events(self, board: str) -> list[str]:
         """The events of a board so far, in their order."""
@@ -99,9 +98,8 @@ class Run:
     def submit(self, board: str) -> None:
         """The session says a command, which is in the log."""
         number = len(self.log) + 1
-        promised = self.seat._promised(self.front.engine.next(self.seat.session))
-        self.seat._greatest = promised or self.seat._greatest
-        self.seat._awaited[number] = None
+        promised = self.seat.epoch.promise(self.outbound.engine.next(self.seat.session))
+        self.seat.epoch.submitted(number, promised)
         said = Said(board, number, promised)
         self.log.append(said)
         self.waiting[board].append(said)
@@ -112,22 +110,22 @@ class Run:
             said = self.waiting[board].popleft()
             said.place = self.last(board) + 1
             self.seat.entered(board_of(board), message_of(said), Entry(said.place, "", ""))
-            self.front._tell(report_of(f"{board}.{said.place}"), board)
+            self.front._reports.tell(report_of(f"{board}.{said.place}"), board)
 
     def uncross(self, board: str) -> None:
         """An uncross of a board has a report for the session."""
         place = self.last(board) + 1
         self.uncrosses.add((board, place))
-        self.front._tell(report_of(f"{board}.{place}"), board)
+        self.front._reports.tell(report_of(f"{board}.{place}"), board)
 
     def refuse(self, board: str) -> None:
         """Something is answered at once."""
-        self.front._tell(report_of(f"R.ALICE.{1000 + len(self.seat.told)}"))
+        self.front._reports.tell(report_of(f"R.ALICE.{1000 + len(self.seat.epoch.told)}"))
 
     def write(self, board: str) -> None:
         """What was sent so far is written."""
-        self.front._write()
-        log = self.front._sent.log
+        self.outbound.write()
+        log = self.outbound.sent.log
         taken, log._waiting = log._waiting, []
         log._write("".join(f"{text}\n" for text, _ in taken if text).encode())
         for _, then in taken:
@@ -143,8 +141,8 @@ class Run:
     def end(self) -> None:
         """Ends as by a kill."""
         self.front._end()
-        del self.front.engine  # of whose sessions there is one in a process
-        for log in (self.front._sent.log, self.venue.log):
+        del self.outbound.engine  # of whose sessions there is one in a process
+        for log in (self.outbound.sent.log, self.venue.log):
             log._thread.shutdown()
             os.close(log._file)
 
@@ -152,13 +150,13 @@ class Run:
 
     def sent(self) -> Told:
         """What the session was sent, or may have been."""
-        safe = self.front._sent._safe[self.seat.session]
+        safe = self.outbound.sent._safe[self.seat.session]
         return {event: number for event, number in self.stored().items() if number <= safe}
 
     def stored(self) -> Told:
         """What its store has."""
-        texts = self.front.engine.sent(self.seat.session)
-        found = [(event_of(it, "ALICE", ""), number_of(it)) for it in texts]
+        texts = self.outbound.engine.sent(self.seat.session)
+        found = [(event_in(dict(pairs_of(it)), "ALICE", ""), number_of(it)) for it in texts]
         found = [it for it in found if it[0]]
         assert len(found) == len(dict(found)), "an event is told twice"
         return dict(found)

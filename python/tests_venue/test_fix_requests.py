@@ -11,7 +11,8 @@ import fixing
 import psutil
 import pytest
 import served
-from callauction.fix.seats import GONE, NOT_DONE
+from callauction.fix.commands import GONE
+from callauction.fix.seats import NOT_DONE
 from fixing import Message, Pairs, Peer
 from test_fix_venue import on, reports
 

@@ -7,7 +7,8 @@ import signal
 import fixing
 import pytest
 import served
-from callauction.fix.front import MOST_AT_ONCE, Front
+from callauction.fix.front import Front
+from callauction.fix.sent import MOST_AT_ONCE
 from callauction.venue.config import DayTerms, Plan
 from callauction.venue.fix_terms import Terms
 from callauction.venue.venue import Venue
@@ -44,15 +45,15 @@ async def test_programs_have_their_turn_while_a_session_is_restored(
 
     async def look() -> None:
         while True:
-            if hasattr(front, "engine"):
-                seen.add(front.engine.next(SESSION))
+            if hasattr(front._outbound, "engine"):
+                seen.add(front._outbound.engine.next(SESSION))
             await asyncio.sleep(0)
 
     await venue.open()
     try:
         looking = asyncio.create_task(look())
         await front.begin(None)
-        while not front._is_ready:
+        while not front._connections.is_ready:
             await asyncio.sleep(0)
         front.shut()
         await front.end()

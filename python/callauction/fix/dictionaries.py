@@ -20,10 +20,7 @@ VERSIONS = {
 }
 CATEGORIES = {TRANSPORT: "admin", APPLICATION: "app"}
 """What the messages of each are, by `msgcat`."""
-MORE = {
-    "Logon": {"DefaultApplVerID": "Y"},
-    "OrderMassCancelReport": {"MassActionReportID": "Y"},
-}
+MORE = {"Logon": {"DefaultApplVerID": "Y"}, "OrderMassCancelReport": {"MassActionReportID": "Y"}}
 """What messages of FIX 5.0SP2 have more, and whether they must."""
 FIELDS = {
     "ApplVerID": ("1128", "STRING"),

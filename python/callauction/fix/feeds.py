@@ -7,18 +7,9 @@ import time
 from collections.abc import Callable, Sequence
 from typing import TYPE_CHECKING
 
-from callauction.fix import snapshots
 from callauction.fix.refusals import (
-    DEPTH,
-    DUPLICATE,
-    ENTRY_TYPE,
-    OTHER,
-    TOO_MUCH,
-    UNSUPPORTED,
-    UPDATE_TYPE,
-    SeatError,
+    DEPTH, DUPLICATE, ENTRY_TYPE, OTHER, TOO_MUCH, UNSUPPORTED, UPDATE_TYPE, SeatError,
 )
-from callauction.fix.snapshots import Rows
 from callauction.fix.tags import Given, Groups, Pairs, Tag, Type
 from callauction.venue.instrument import Instrument
 from callauction.venue.phases import Phase
@@ -55,6 +46,14 @@ OF_AUCTION = dict(zip(AUCTIONS, ("2", "6", "4")))
 """TradingSessionSubID of an auction."""
 AFTER = "5"
 """The one of a day that is over."""
+TYPES = PRICE, VOLUME, IMBALANCE, BID, ASK = "Q", "B", "A", "0", "1"
+"""MDEntryType of what is indicated; Q is of FIX 5.0."""
+CONDITIONS = {"bid": "P", "ask": "Q"}
+"""TradeCondition: more is bid, or more is asked."""
+EMPTY: Pairs = [(Tag.MD_ENTRY_TYPE, "J")]
+"""The one row of a snapshot that has no other: an empty book; of FIX 5.0, as Q."""
+Rows = dict[str, Pairs]
+"""Rows of market data by their MDEntryType, which each begins with."""
 Send = Callable[[Type, Pairs, Groups], object]
 
 
@@ -106,7 +105,7 @@ def snapshot(request: str, market: str, rows: Rows) -> tuple[Pairs, Groups]:
     standard a count is positive.
     """
     head: Pairs = [(Tag.MD_REQ_ID, request), (Tag.SYMBOL, market)]
-    entries = [*rows.values()] or [snapshots.EMPTY]
+    entries = [*rows.values()] or [EMPTY]
     return head, [(Tag.NO_MD_ENTRIES, Tag.MD_ENTRY_TYPE, entries)]
 
 
@@ -120,6 +119,30 @@ def changes_of(market: str, before: Rows, after: Rows) -> list[Pairs]:
             action = (Tag.MD_UPDATE_ACTION, CHANGE if kind in before else NEW)
             found.append([action, row[0], symbol, *row[1:]])
     return found
+
+
+def rows_of(board: Instrument, levels: Sequence[Level]) -> Rows:
+    """All that a board indicates: price, volume and surplus, or the best limits without a price,
+    with their visible shares where the levels of its book are given; nothing on a day that is over.
+    """
+    if board.state.phase is Phase.OVER:
+        return {}
+    price, it = board.terms.price, board.indication
+    rows: list[Pairs] = []
+    if it.price is not None:
+        volume = (Tag.MD_ENTRY_SIZE, str(it.volume))
+        rows.append([(Tag.MD_ENTRY_TYPE, PRICE), (Tag.MD_ENTRY_PX, price(it.price)), volume])
+        rows.append([(Tag.MD_ENTRY_TYPE, VOLUME), volume])
+        surplus: Pairs = [(Tag.MD_ENTRY_TYPE, IMBALANCE), (Tag.MD_ENTRY_SIZE, str(it.surplus))]
+        side = CONDITIONS.get(it.side)
+        rows.append(surplus + ([(Tag.TRADE_CONDITION, side)] if side else []))
+    for kind, best in ((BID, it.bid), (ASK, it.ask)):
+        if best is not None:
+            at = [it for it in levels if it.limit == best]
+            sizes = [str(it.bid if kind == BID else it.ask) for it in at]
+            row: Pairs = [(Tag.MD_ENTRY_TYPE, kind), (Tag.MD_ENTRY_PX, price(best))]
+            rows.append(row + [(Tag.MD_ENTRY_SIZE, size) for size in sizes])
+    return {row[0][1]: row for row in rows}
 
 
 def phase_of(venue: Venue, board: Instrument) -> Pairs:
@@ -158,26 +181,21 @@ class Feeds:
 
     def __init__(self, venue: Venue) -> None:
         self._venue = venue
-        self._data: dict[str, Data] = {}
-        self._phases: dict[str, Phases] = {}
+        self.data: dict[str, Data] = {}
+        self.phases: dict[str, Phases] = {}
         self.new: set[str] = set()
-
-    @property
-    def is_on(self) -> bool:
-        """Whether something is asked for."""
-        return bool(self._data or self._phases)
 
     def clear(self) -> None:
         """Nothing is asked for any more."""
-        self._data.clear()
-        self._phases.clear()
+        self.data.clear()
+        self.phases.clear()
         self.new.clear()
 
     def check_room(self, request: str, those: "dict[str, Data] | dict[str, Phases]") -> None:
         """Raises SeatError where no more may be asked for, or this was."""
         if request in those:
             raise SeatError(DUPLICATE, "there is a subscription of this id")
-        if len(self._data) + len(self._phases) >= MOST_FEEDS:
+        if len(self.data) + len(self.phases) >= MOST_FEEDS:
             raise SeatError(TOO_MUCH, f"a session has at most {MOST_FEEDS} subscriptions")
 
     def send(self, send: Send) -> None:
@@ -185,77 +203,68 @@ class Feeds:
         new, self.new = self.new, set()
         boards = self._venue.instruments
         for board in (boards[name] for name in new if name in boards):
-            rows = snapshots.rows_of(board, self._levels(board))
-            for data in self._data.values():
+            rows = rows_of(board, self.levels(board))
+            for data in self.data.values():
                 data.changed(board, rows, send)
-            for phases in self._phases.values():
+            for phases in self.phases.values():
                 phases.changed(board, phase_of(self._venue, board), send)
 
-    def _levels(self, board: Instrument) -> Sequence[Level]:
+    def levels(self, board: Instrument) -> Sequence[Level]:
         """What is visible of a board's book at each limit, where that is open."""
         return board.visible_levels if self._venue.is_open_book else []
 
-    # ---- requests
 
-    @staticmethod
-    async def ask_data(seat: "Seat", rows: Pairs, given: Given, number: int) -> None:
-        """MarketDataRequest. Raises MessageError."""
-        await seat.feeds._ask_data(seat, rows, given)
+async def ask_data(seat: "Seat", asked: Pairs, given: Given, number: int) -> None:
+    """MarketDataRequest. Raises MessageError."""
+    feeds, request, how = seat.feeds, given[Tag.MD_REQ_ID], given[Tag.SUBSCRIPTION_REQUEST_TYPE]
+    if how == OFF:
+        if feeds.data.pop(request, None) is None:
+            raise SeatError(OTHER, NO_FEED)
+        return
+    types = frozenset(value for tag, value in asked if tag == Tag.MD_ENTRY_TYPE)
+    update = given.get(Tag.MD_UPDATE_TYPE, WHOLE)
+    if how not in (ONCE, ON):
+        raise SeatError(UNSUPPORTED, "SubscriptionRequestType is 0, 1 or 2")
+    if given[Tag.MARKET_DEPTH] not in DEPTHS:
+        raise SeatError(DEPTH, "MarketDepth is 0 or 1: the best limits are shown alone")
+    if update not in (WHOLE, CHANGES):
+        raise SeatError(UPDATE_TYPE, "MDUpdateType is 0 or 1")
+    if not types <= {*TYPES}:
+        raise SeatError(ENTRY_TYPE, f"MDEntryType is one of {', '.join(TYPES)}")
+    named = (seat.named_board(value) for tag, value in asked if tag == Tag.SYMBOL)
+    boards = [*dict.fromkeys(named)]
+    data = Data(request, types, frozenset(it.identity.market for it in boards), update == WHOLE)
+    if how == ON:
+        feeds.check_room(request, feeds.data)
+        seat.connections.watch(seat)
+    await asyncio.gather(*map(seen, boards))
+    for board in boards:
+        rows = rows_of(board, feeds.levels(board))
+        data.last[board.identity.market] = {it: row for it, row in rows.items() if it in types}
+    for market, rows in data.last.items():
+        seat.outbound.send(seat, Type.SNAPSHOT, *snapshot(request, market, rows))
+    if how == ON:
+        feeds.data[request] = data
 
-    @staticmethod
-    async def ask_phases(seat: "Seat", rows: Pairs, given: Given, number: int) -> None:
-        """TradingSessionStatusRequest. Raises MessageError."""
-        await seat.feeds._ask_phases(seat, given)
 
-    async def _ask_data(self, seat: "Seat", asked: Pairs, given: Given) -> None:
-        """Answers what is asked of the market. Raises MessageError."""
-        request, how = given[Tag.MD_REQ_ID], given[Tag.SUBSCRIPTION_REQUEST_TYPE]
-        if how == OFF:
-            if self._data.pop(request, None) is None:
-                raise SeatError(OTHER, NO_FEED)
-            return
-        types = frozenset(value for tag, value in asked if tag == Tag.MD_ENTRY_TYPE)
-        update = given.get(Tag.MD_UPDATE_TYPE, WHOLE)
-        if how not in (ONCE, ON):
-            raise SeatError(UNSUPPORTED, "SubscriptionRequestType is 0, 1 or 2")
-        if given[Tag.MARKET_DEPTH] not in DEPTHS:
-            raise SeatError(DEPTH, "MarketDepth is 0 or 1: the best limits are shown alone")
-        if update not in (WHOLE, CHANGES):
-            raise SeatError(UPDATE_TYPE, "MDUpdateType is 0 or 1")
-        if not types <= {*snapshots.TYPES}:
-            raise SeatError(ENTRY_TYPE, f"MDEntryType is one of {', '.join(snapshots.TYPES)}")
-        named = (seat.named_board(value) for tag, value in asked if tag == Tag.SYMBOL)
-        boards = [*dict.fromkeys(named)]
-        data = Data(request, types, frozenset(it.identity.market for it in boards), update == WHOLE)
-        if how == ON:
-            self.check_room(request, self._data)
-            seat.desk.watch(seat)
-        await asyncio.gather(*map(seen, boards))
-        for board in boards:
-            rows = snapshots.rows_of(board, self._levels(board))
-            data.last[board.identity.market] = {it: row for it, row in rows.items() if it in types}
-        for market, rows in data.last.items():
-            seat.desk.send(seat, Type.SNAPSHOT, *snapshot(request, market, rows))
-        if how == ON:
-            self._data[request] = data
-
-    async def _ask_phases(self, seat: "Seat", given: Given) -> None:
-        """Answers what is asked of phases. Raises MessageError."""
-        request, how = given[Tag.TRAD_SES_REQ_ID], given[Tag.SUBSCRIPTION_REQUEST_TYPE]
-        if how == OFF:
-            if self._phases.pop(request, None) is None:
-                raise SeatError(OTHER, NO_FEED)
-            return
-        if how not in (ONCE, ON):
-            raise SeatError(UNSUPPORTED, "SubscriptionRequestType is 0, 1 or 2")
-        name = given.get(Tag.TRADING_SESSION_ID)
-        boards = seat.boards() if name is None else [seat.named_board(name)]
-        phases = Phases(request, frozenset(it.identity.market for it in boards))
-        if how == ON:
-            self.check_room(request, self._phases)
-        for board in boards:
-            phase = phases.last[board.identity.market] = phase_of(self._venue, board)
-            seat.desk.send(seat, Type.PHASE, [(Tag.TRAD_SES_REQ_ID, request), *phase], [])
-        if how == ON:
-            self._phases[request] = phases
-            seat.desk.watch(seat)
+async def ask_phases(seat: "Seat", rows: Pairs, given: Given, number: int) -> None:
+    """TradingSessionStatusRequest. Raises MessageError."""
+    request, how = given[Tag.TRAD_SES_REQ_ID], given[Tag.SUBSCRIPTION_REQUEST_TYPE]
+    feeds, venue = seat.feeds, seat.venue
+    if how == OFF:
+        if feeds.phases.pop(request, None) is None:
+            raise SeatError(OTHER, NO_FEED)
+        return
+    if how not in (ONCE, ON):
+        raise SeatError(UNSUPPORTED, "SubscriptionRequestType is 0, 1 or 2")
+    name = given.get(Tag.TRADING_SESSION_ID)
+    boards = seat.boards() if name is None else [seat.named_board(name)]
+    phases = Phases(request, frozenset(it.identity.market for it in boards))
+    if how == ON:
+        feeds.check_room(request, feeds.phases)
+    for board in boards:
+        phase = phases.last[board.identity.market] = phase_of(venue, board)
+        seat.outbound.send(seat, Type.PHASE, [(Tag.TRAD_SES_REQ_ID, request), *phase], [])
+    if how == ON:
+        feeds.phases[request] = phases
+        seat.connections.watch(seat)

@@ -7,21 +7,8 @@ from collections.abc import Mapping, Sequence
 from decimal import Context, Decimal
 
 from callauction.fix.tags import (
-    CLOSING,
-    CODES,
-    DAY,
-    GOOD_TILL_CANCEL,
-    LIMIT,
-    MARKET,
-    NONE,
-    OPENING,
-    Exec,
-    Groups,
-    Pairs,
-    Status,
-    Tag,
-    Type,
-    now,
+    CLOSING, CODES, DAY, GOOD_TILL_CANCEL, LIMIT, MARKET, NONE, OPENING, Exec, Groups, Pairs,
+    Status, Tag, Type, now,
 )
 from callauction.fix.uncrosses import Seen
 from callauction.venue import views
@@ -49,11 +36,7 @@ SENTENCES = {
     Refusal.PAST_AUCTION: "the auction that TimeInForce (59) names is over",
 }
 """What the program's refusals say, but for that of a limit."""
-ENDS = {
-    Status.FILLED: "is filled",
-    Status.EXPIRED: "has expired",
-    Status.CANCELED: "is cancelled",
-}
+ENDS = {Status.FILLED: "is filled", Status.EXPIRED: "has expired", Status.CANCELED: "is cancelled"}
 """How an order has ended."""
 OTHER = "99"
 ENTER, DELETE = "enter", "delete"
@@ -357,12 +340,7 @@ def reason_of(reasons: Mapping[Refusal, str], reply: str) -> str:
 
 
 def refusal(
-    member: str,
-    event: str,
-    asked: Asked,
-    held: Held | None,
-    reason: str,
-    text: str,
+    member: str, event: str, asked: Asked, held: Held | None, reason: str, text: str,
     status: Status = Status.REJECTED,
 ) -> Report:
     """An OrderCancelReject of an order as it is now, or of this status where none is known."""

@@ -2,18 +2,7 @@
 from typing import TYPE_CHECKING
 
 from callauction.fix.orders import CLIENT, ORIGIN, Asked, Report, refusal
-from callauction.fix.tags import (
-    CODES,
-    DAY,
-    FIXT,
-    NONE,
-    Exec,
-    Given,
-    Pairs,
-    Status,
-    Tag,
-    Type,
-)
+from callauction.fix.tags import CODES, DAY, FIXT, NONE, Exec, Given, Pairs, Status, Tag, Type
 from callauction.venue.instrument import Instrument
 from callauction.venue.messages import MessageError
 from callauction.venue.recovery import Message
@@ -94,13 +83,13 @@ def refuse(seat: "Seat", given: Given, event: str, fault: MessageError) -> None:
     status = fault.status if isinstance(fault, SeatError) else Status.REJECTED
     kind = given[Tag.MSG_TYPE]
     if kind in (Type.ENTER, Type.CANCEL, Type.REPLACE) and fault.text not in UNUSED:
-        seat.keep(given)
+        seat.clients.keep(given, seat.epoch.number_of(int(given[Tag.MSG_SEQ_NUM])))
     if kind in (Type.CANCEL, Type.REPLACE):
         client, origin = given[Tag.CL_ORD_ID], given[Tag.ORIG_CL_ORD_ID]
         asked = Asked(client, origin, kind == Type.CANCEL)
         code = CANCEL_REASONS.get(reason, OTHER)
         held = seat.held(given, origin)
-        seat.desk.tell(refusal(seat.name, event, asked, held, code, fault.text, status))
+        seat.reports.tell(refusal(seat.name, event, asked, held, code, fault.text, status))
     elif kind == Type.MASS_CANCEL:
         code = MASS_REASONS.get(reason, OTHER)
         pairs: Pairs = [(Tag.MASS_CANCEL_RESPONSE, NOT_CANCELLED)]
@@ -108,7 +97,7 @@ def refuse(seat: "Seat", given: Given, event: str, fault: MessageError) -> None:
         tell_mass_cancelled(seat, given, event, pairs)
     elif kind in ANSWERS:
         answer, pairs = ANSWERS[Type(kind)], refused_request(given, event, reason)
-        seat.desk.send(seat, answer, [*pairs, (Tag.TEXT, fault.text)], [])
+        seat.outbound.send(seat, answer, [*pairs, (Tag.TEXT, fault.text)], [])
     else:
         tell_rejected(seat, given, event, reason, fault.text, status)
 
@@ -116,11 +105,11 @@ def refuse(seat: "Seat", given: Given, event: str, fault: MessageError) -> None:
 def tell_mass_cancelled(seat: "Seat", given: Given, event: str, more: Pairs) -> None:
     """Answers a mass cancel, with the number of orders that it took out so far."""
     copied = (Tag.CL_ORD_ID, Tag.MASS_CANCEL_REQUEST_TYPE, Tag.SYMBOL, Tag.SIDE)
-    count = str(seat.deleted[int(given[Tag.MSG_SEQ_NUM])])
+    number = int(given[Tag.MSG_SEQ_NUM])
     pairs: Pairs = [(tag, given[tag]) for tag in copied if tag in given]
-    pairs += [(Tag.TOTAL_AFFECTED_ORDERS, count), *more]
+    pairs += [(Tag.TOTAL_AFFECTED_ORDERS, str(seat.epoch.deleted[number])), *more]
     if dict(more).get(Tag.TEXT) not in UNUSED:
-        seat.keep(given, pairs)
+        seat.clients.keep(given, seat.epoch.number_of(number), pairs)
     tell_mass_answer(seat, event, pairs)
 
 
@@ -128,7 +117,7 @@ def tell_mass_answer(seat: "Seat", event: str, answer: Pairs) -> None:
     """Says what is the answer to a mass cancel, perhaps once more."""
     pairs: Pairs = [(Tag.ORDER_ID, event), *answer]
     pairs += [(Tag.MASS_ACTION_REPORT_ID, event)] if seat.begin == FIXT else []
-    seat.desk.tell(Report(seat.name, Type.MASS_CANCELED, event, pairs))
+    seat.reports.tell(Report(seat.name, Type.MASS_CANCELED, event, pairs))
 
 
 ANSWERS = {
@@ -181,7 +170,7 @@ def tell_rejected(
         (Tag.TEXT, text),
     ]
     pairs += asked_of(given) if is_new else []
-    seat.desk.tell(Report(seat.name, Type.REPORT, event, pairs))
+    seat.reports.tell(Report(seat.name, Type.REPORT, event, pairs))
 
 
 def asked_of(given: Given) -> Pairs:

@@ -2,25 +2,21 @@
 OrderMassStatusRequest, SecurityListRequest.
 """
 import asyncio
+from typing import TYPE_CHECKING
 
-from callauction.fix.beside import CURRENCY
+from callauction.fix.given import CURRENCY, is_sent_again, side_of
 from callauction.fix.orders import Held, Orders
 from callauction.fix.refusals import (
-    ALL,
-    DUPLICATE,
-    OTHER,
-    UNKNOWN,
-    UNSUPPORTED,
-    USED,
-    SeatError,
-    tell_mass_answer,
+    ALL, DUPLICATE, OTHER, UNKNOWN, UNSUPPORTED, USED, SeatError, tell_mass_answer,
     tell_mass_cancelled,
 )
-from callauction.fix.seats import Seat, is_sent_again, side_of
 from callauction.fix.tags import Exec, Given, Groups, Pairs, Tag, Type
 from callauction.venue.instrument import Instrument
 from callauction.venue.messages import MessageError
 from callauction.venue.recovery import Entry
+
+if TYPE_CHECKING:
+    from callauction.fix.seats import Seat
 
 OF_ONE, OF_ALL = "1", "7"
 """MassCancelRequestType and MassStatusReqType: of an instrument, of all."""
@@ -30,7 +26,7 @@ REPORTS_A_MESSAGE = 10
 """How many reports of a mass status count as a message of its member."""
 
 
-def boards_of(seat: Seat, given: Given, tag: int, one: str, every: str) -> list[Instrument]:
+def boards_of(seat: "Seat", given: Given, tag: int, one: str, every: str) -> list[Instrument]:
     """The boards that a request asks for by this tag. Raises MessageError."""
     if given[tag] == one and Tag.SYMBOL in given:
         return [seat.board(given)]
@@ -39,22 +35,22 @@ def boards_of(seat: Seat, given: Given, tag: int, one: str, every: str) -> list[
     return seat.boards()
 
 
-def orders_of(seat: Seat, given: Given, board: Instrument) -> list[Held]:
+def orders_of(seat: "Seat", given: Given, board: Instrument) -> list[Held]:
     """The open orders of a request on a board, perhaps of one side. Raises MessageError."""
     side = side_of(given) if Tag.SIDE in given else ""
     return [it for it in seat.open_orders(board) if side in ("", it.side)]
 
 
-async def cancel_all(seat: Seat, rows: Pairs, given: Given, number: int) -> None:
+async def cancel_all(seat: "Seat", rows: Pairs, given: Given, number: int) -> None:
     """OrderMassCancelRequest: deletes orders, then says how many, and where some stay open, once
     more to one that is sent again. Raises MessageError where no order can be deleted
     now.
     """
-    if seat.is_used(given, number):
-        answer = seat.mass.get(given[Tag.CL_ORD_ID])
+    if seat.clients.is_used(given, seat.epoch.number_of(number)):
+        answer = seat.clients.mass.get(given[Tag.CL_ORD_ID])
         if not is_sent_again(given) or not answer:
             raise SeatError(DUPLICATE, USED)
-        tell_mass_answer(seat, seat.refusal_of(number), answer)
+        tell_mass_answer(seat, seat.epoch.refusal_of(number), answer)
         return
     boards = boards_of(seat, given, Tag.MASS_CANCEL_REQUEST_TYPE, OF_ONE, OF_ALL)
     kind = given[Tag.MASS_CANCEL_REQUEST_TYPE]
@@ -65,48 +61,39 @@ async def cancel_all(seat: Seat, rows: Pairs, given: Given, number: int) -> None
     left = [it for it in faults if it.awaits(seat.name) or orders_of(seat, given, it)]
     texts = (f"{it.identity.market} ({faults[it].text})" for it in left)
     text = f"not cancelled, and still open: {', '.join(texts)}"
-    if not seat.deleted[number] and (left or len(faults) == len(boards)):
+    if not seat.epoch.deleted[number] and (left or len(faults) == len(boards)):
         raise SeatError(OTHER, text) if left else faults[boards[0]]
     more: Pairs = [(Tag.MASS_CANCEL_RESPONSE, kind)]
     more += [(Tag.MASS_CANCEL_REJECT_REASON, OTHER), (Tag.TEXT, text)] if left else []
-    tell_mass_cancelled(seat, given, seat.refusal_of(number), more)
+    tell_mass_cancelled(seat, given, seat.epoch.refusal_of(number), more)
 
 
 async def deleted(
-    seat: Seat, given: Given, board: Instrument, number: int, note: dict[str, str]
+    seat: "Seat", given: Given, board: Instrument, number: int, note: dict[str, str]
 ) -> MessageError | None:
-    """Deletes the orders of a mass cancel on a board: why one may stay open, None where none does.
+    """Deletes the orders of a mass cancel on a board, as parts of a message: why one may stay open,
+    None where none does.
     """
+    sent: list[asyncio.Future[Entry]] = []
     try:
-        await delete(seat, given, board, number, note)
+        await seat.commands.until_known(board)
+        seat.venue.check_running()
+        board.check_open()
+        try:
+            for it in orders_of(seat, given, board):
+                part = seat.commands.deletion(board, it.order, number, note)
+                sent.append(seat.venue.submit(seat.member, part)[0])
+        finally:
+            await seat.commands.until_answered(board, sent)
+            await seat.reports.stream(board).until_now()
+        for answer in sent:
+            answer.result()
     except MessageError as fault:
         return fault
     return None
 
 
-async def delete(
-    seat: Seat, given: Given, board: Instrument, number: int, note: dict[str, str]
-) -> None:
-    """Deletes the orders of a mass cancel on a board, as parts of a message. Raises MessageError
-    where one may stay open.
-    """
-    venue = seat.desk.venue
-    await seat.until_known(board)
-    venue.check_running()
-    board.check_open()
-    sent: list[asyncio.Future[Entry]] = []
-    try:
-        for it in orders_of(seat, given, board):
-            part = seat.deletion(board, it.order, number, note)
-            sent.append(venue.submit(seat.member, part)[0])
-    finally:
-        await seat.until_answered(board, sent)
-        await seat.desk.stream(board).until_now()
-    for answer in sent:
-        answer.result()
-
-
-async def show_all(seat: Seat, rows: Pairs, given: Given, number: int) -> None:
+async def show_all(seat: "Seat", rows: Pairs, given: Given, number: int) -> None:
     """OrderMassStatusRequest: a report of each open order, the last with the instruments that have
     halted before they answered all. Raises MessageError where there is none.
     """
@@ -114,10 +101,10 @@ async def show_all(seat: Seat, rows: Pairs, given: Given, number: int) -> None:
     late: list[str] = []
     for board in boards_of(seat, given, Tag.MASS_STATUS_REQ_TYPE, OF_ONE, OF_ALL):
         try:
-            await seat.until_known(board)
+            await seat.commands.until_known(board)
         except MessageError:
             late.append(board.identity.market)
-        orders = seat.desk.stream(board).orders
+        orders = seat.reports.stream(board).orders
         found += [(orders, it) for it in orders_of(seat, given, board)]
     text = f"halted, and what was sent isn't answered yet: {', '.join(late)}" if late else ""
     if not found:
@@ -125,29 +112,27 @@ async def show_all(seat: Seat, rows: Pairs, given: Given, number: int) -> None:
     request = (Tag.MASS_STATUS_REQ_ID, given[Tag.MASS_STATUS_REQ_ID])
     for place, (orders, held) in enumerate(found, 1):
         is_last = place == len(found)
-        event = seat.refusal_of(number if is_last else f"{number}-{place}")
+        event = seat.epoch.refusal_of(number if is_last else f"{number}-{place}")
         more: Pairs = [request, (Tag.TOT_NUM_REPORTS, str(len(found)))]
         more.append((Tag.LAST_RPT_REQUESTED, "Y" if is_last else "N"))
         more += [(Tag.TEXT, text)] if text and is_last else []
         report = orders.report(held, event, Exec.STATUS, more)
         report.passes = True
-        seat.desk.tell(report)
+        seat.reports.tell(report)
     seat.member.bucket.charge(len(found) // REPORTS_A_MESSAGE)
 
 
-async def show_list(seat: Seat, rows: Pairs, given: Given, number: int) -> None:
+async def show_list(seat: "Seat", rows: Pairs, given: Given, number: int) -> None:
     """SecurityListRequest. Raises MessageError."""
-    boards = boards_of(
-        seat, given, Tag.SECURITY_LIST_REQUEST_TYPE, LIST_OF_ONE, LIST_OF_ALL
-    )
+    boards = boards_of(seat, given, Tag.SECURITY_LIST_REQUEST_TYPE, LIST_OF_ONE, LIST_OF_ALL)
     head: Pairs = [
         (Tag.SECURITY_REQ_ID, given[Tag.SECURITY_REQ_ID]),
-        (Tag.SECURITY_RESPONSE_ID, seat.refusal_of(number)),
+        (Tag.SECURITY_RESPONSE_ID, seat.epoch.refusal_of(number)),
         (Tag.SECURITY_REQUEST_RESULT, "0"),
         (Tag.TOT_NO_RELATED_SYM, str(len(boards))),
     ]
     groups: Groups = [(Tag.NO_RELATED_SYM, Tag.SYMBOL, [row_of(it) for it in boards])]
-    seat.desk.send(seat, Type.LIST, head, groups)
+    seat.outbound.send(seat, Type.LIST, head, groups)
 
 
 def row_of(board: Instrument) -> Pairs:

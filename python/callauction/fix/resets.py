@@ -1,10 +1,70 @@
 """Sessions that begin anew, for a client that has lost its numbers: both numbers are 1 again, and
 all that the journals gave so far is sent anew as PossResend.
 """
+import asyncio
+import functools
+
 from callauction.fix._quickfix import Engine
+from callauction.fix.connections import Connections
+from callauction.fix.epochs import Epoch
+from callauction.fix.reports import Reports
 from callauction.fix.seats import Seat
-from callauction.fix.tags import Tag, body_of, event_of, pairs_of, refusal_of
+from callauction.fix.tags import Tag, body_of, pairs_of
 from callauction.venue.log import Line
+from callauction.venue.messages import MessageError
+
+RESET_SECONDS, RESET_PAUSE = 10.0, 0.02
+"""How long the reset of a session waits for what that has said."""
+LEAVE_SECONDS = 4.0
+"""How long a session that is reset may take to answer its Logout."""
+NO_ANSWER = f"its Logout wasn't answered for {LEAVE_SECONDS:g} s"
+RESET = "the operator resets this session: begin at 1 with an empty store"
+NOT_READY = "sessions by FIX haven't begun: an instrument hasn't answered since the start"
+UNANSWERED = "{} isn't reset: not all that it said is answered: resume what has halted first"
+ENDS = "the venue ends: what was answered stays"
+"""Why a session ends, in its Logout."""
+
+
+async def reset(connections: Connections, reports: Reports, comp_id: str) -> None:
+    """Ends a session, and begins it anew with what its journals gave so far. Raises MessageError.
+    """
+    outbound = connections.outbound
+    seat = next((it for it in connections.seats.values() if it.comp_id == comp_id), None)
+    if seat is None:
+        raise MessageError("bad_message", f"there is no session {comp_id}")
+    try:
+        await asyncio.wait_for(connections.has_begun.wait(), RESET_SECONDS)
+    except TimeoutError:
+        raise MessageError("halted", NOT_READY) from None
+    if not connections.is_ready:
+        raise MessageError("halted", ENDS)
+    if seat in connections.resetting:
+        raise MessageError("bad_phase", f"{comp_id} is being reset")
+    connections.resetting.add(seat)
+    try:
+        if (wire := connections.on.get(seat)) is not None:
+            outbound.engine.log_out(wire.number, RESET)
+            connections.drain()
+            asyncio.get_running_loop().call_later(LEAVE_SECONDS, wire.cut, NO_ANSWER)
+        await asyncio.wait_for(ended(connections, reports, seat), RESET_SECONDS)
+        outbound.beginning.add(seat)
+        anew = functools.partial(begin_anew, outbound.engine, seat, connections.venue.mark)
+        await outbound.sent.begin_anew(outbound.engine, seat.session, anew)
+    except TimeoutError:
+        raise MessageError("halted", UNANSWERED.format(comp_id)) from None
+    finally:
+        connections.resetting.discard(seat)
+        outbound.beginning.discard(seat)
+
+
+async def ended(connections: Connections, reports: Reports, seat: Seat) -> None:
+    """Waits until a session is off, all that it said is answered, and all entries so far were sent,
+    which a start does again.
+    """
+    while seat in connections.on or seat.epoch.owed:
+        await asyncio.sleep(RESET_PAUSE)
+    await seat.idle()
+    await reports.until_now()
 
 
 def begin_anew(engine: Engine, seat: Seat, mark: str) -> Line:
@@ -12,16 +72,15 @@ def begin_anew(engine: Engine, seat: Seat, mark: str) -> Line:
     down of it. No message of its member has been of the epoch that begins, also none by another
     CompID. Raises RuntimeError where it isn't off.
     """
-    texts, before = engine.sent(seat.session), seat.epoch_name
+    texts, before = engine.sent(seat.session), seat.epoch
     engine.begin_anew(seat.session)
-    seat.begin_anew(max(seat.epoch, seat.latest) + 1, mark)
-    own = refusal_of(seat.comp_id, "", before)
-    for text in texts:
-        event = event_of(text, seat.comp_id, before)
-        if event and not event.startswith(own) and event not in seat.told:
-            pairs = pairs_of(text)
+    seat.epoch = Epoch(seat.comp_id, max(before.number, seat.latest) + 1, mark)
+    for pairs in map(pairs_of, texts):
+        event = before.event_in(dict(pairs))
+        is_own = event.startswith(before.refusal_of(""))
+        if event and not is_own and event not in seat.epoch.told:
             body, groups = body_of(pairs)
             body.append((Tag.POSS_RESEND, "Y"))
             kind = dict(pairs)[Tag.MSG_TYPE]
-            seat.told[event] = engine.send(seat.session, kind, body, groups)
-    return {"epoch": seat.epoch, "mark": mark}
+            seat.epoch.told[event] = engine.send(seat.session, kind, body, groups)
+    return {"epoch": seat.epoch.number, "mark": mark}

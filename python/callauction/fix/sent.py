@@ -5,18 +5,32 @@ It is on the disk before a byte is sent, but for what follows from the venue's l
 the report of an entry that was sent under the number that the log says. Those aren't written: a
 start makes them again. Of what passes the numbers alone are written: a gap comes in its place.
 """
+import asyncio
 import collections
 import itertools
 import json
+import logging
 import pathlib
 from collections.abc import Callable, Iterator, Mapping
-from typing import NamedTuple
+from typing import TYPE_CHECKING, NamedTuple
 
 from callauction.fix._quickfix import Engine
-from callauction.fix.tags import event_of, number_of
+from callauction.fix.tags import Groups, Pairs, event_in, number_of, pairs_of
 from callauction.venue.fix_terms import SENT
 from callauction.venue.log import Line, Log, taking, text_of
 
+if TYPE_CHECKING:
+    from callauction.fix.seats import Seat
+    from callauction.fix.wires import Wire
+
+NOTICES = logging.getLogger("callauction.venue")
+CLOSE_PAUSE = 0.01
+MOST_AT_ONCE = 16
+"""How many sessions have their turn, and how many reports wait, before the log, the program and the
+clients are given what there is.
+"""
+Outgoing = tuple[int, bytes, int, bool]
+"""What is to be sent: on which connection, the bytes, up to which number, whether it ends then."""
 New = tuple[int, bytes, bool]
 """A message that was stored: its number, its text, and whether it passes."""
 
@@ -162,6 +176,101 @@ class Sent:
         await self.log.written()
 
 
+class Outbound:
+    """What sessions are to be sent on these connections, with their `engine` from the front's begin
+    on. `seats` are theirs, of which nothing is written of those that are `beginning` anew; `wake`
+    is called where there is something new.
+    """
+
+    engine: Engine
+
+    def __init__(self, sent: Sent, wires: "Mapping[int, Wire]", wake: Callable[[], None]) -> None:
+        self.sent, self._wires, self._wake = sent, wires, wake
+        self.seats: "Mapping[str, Seat]" = {}
+        self.beginning: "set[Seat]" = set()
+        self._held: dict[int, list[Outgoing]] = {}
+        self._unsent = 0
+        self.is_writing = self._has_failed = False
+        sent.log.on_fault = self._failed
+
+    def since(self, seat: "Seat", following: int) -> int:
+        """The number of the first message of a session whose answer a crash may take, among those
+        before this number to the session; 0 where it can take none.
+        """
+        is_safe = self.sent.is_safe(seat.session, following - 1)
+        return 0 if is_safe else self.sent.firm(seat.session)
+
+    def send(
+        self, seat: "Seat", kind: str, pairs: Pairs, groups: Groups,
+        promised: int = 0, time: str = "", passes: bool = False,
+    ) -> int:
+        """Stores a message, and sends it soon where its session is on: its number. It isn't written
+        where that is the promised one, and says that it was sent at this time; of one that passes
+        the number alone is kept.
+        """
+        self._wake()
+        return self.engine.send(seat.session, kind, pairs, groups, promised, time, passes)
+
+    def send_many(self) -> None:
+        """Sends what there is where many reports wait, of which there is one more."""
+        self._unsent += 1
+        if self._unsent >= MOST_AT_ONCE:
+            self.send_out()
+
+    def send_out(self) -> None:
+        """Sends what sessions have to send, as far as a crash can't take it."""
+        self._unsent = 0
+        for each in self.engine.outgoing():
+            self._offer(each)
+        if self._held and not self.is_writing:
+            self.write()
+
+    def _offer(self, those: Outgoing) -> None:
+        """Sends bytes, or holds them."""
+        number, data, last, is_last = those
+        if (wire := self._wires.get(number)) is None:
+            return
+        if number in self._held or (wire.seat and not self.sent.is_safe(wire.seat.session, last)):
+            self._held.setdefault(number, []).append(those)
+        else:
+            wire.send(data, is_last)
+
+    # ---- what is written
+
+    def write(self) -> None:
+        """Writes what sessions were sent, and sends then what waits for that."""
+        self.is_writing = True
+        seats = (it for it in self.seats.values() if not it.epoch.owed and it not in self.beginning)
+        self.sent.write(self.engine, {it.session: it.since for it in seats}, self._written)
+
+    def _written(self) -> None:
+        """What was to be written is."""
+        self.is_writing = False
+        if self._has_failed:
+            self._has_failed = False
+            NOTICES.warning("fix goes on")
+        held, self._held = self._held, {}
+        for those in held.values():
+            for each in those:
+                self._offer(each)
+        if self._held:
+            self.write()
+
+    async def written(self) -> None:
+        """Writes all, and waits until it is."""
+        self.write()
+        await self.sent.log.written()
+        while self.is_writing:
+            await asyncio.sleep(CLOSE_PAUSE)
+
+    def _failed(self, fault: OSError) -> None:
+        """What sessions are sent can't be written: they are sent nothing until it can."""
+        if not self._has_failed:
+            path = self.sent.log.path
+            NOTICES.error("fix halted: %s can't be written: %s", path, fault.strerror)
+        self._has_failed = True
+
+
 def comp_id_of(session: str) -> str:
     """The client's CompID in a session, as QuickFIX names that."""
     return session.rpartition("->")[2]
@@ -185,7 +294,7 @@ def passed_line(session: str, since: int, those: list[New]) -> str:
     """The line of messages that pass, under numbers without a gap; it names what they answered,
     each by its last answer.
     """
-    events = (event_of(text, "", "") for _, text, _ in those)
+    events = (event_in(dict(pairs_of(text)), "", "") for _, text, _ in those)
     answered = [it for it in events if it.rpartition(".")[2].isdecimal()]
     said = {"first": those[0][0], "last": those[-1][0], "events": answered}
     return text_of({"kind": "passed", "session": session, "since": since} | said)

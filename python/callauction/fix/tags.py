@@ -190,22 +190,10 @@ def pairs_of(text: bytes) -> Pairs:
     return [(int(tag), value) for tag, _, value in parts if tag.isdigit()]
 
 
-def epoch_name(epoch: int, mark: str) -> str:
-    """How ids name the epoch of a session, which a reset began: its number, behind the mark of the
-    last restore before that, as what was lost then had the same; empty where it wasn't reset.
-    """
-    return f"{mark}-{epoch}" if epoch and mark else str(epoch or "")
-
-
 def refusal_of(comp_id: str, number: object, epoch: str) -> str:
     """The id of the answer to a message that wasn't executed, of a session in an epoch by its name.
     """
     return f"R.{comp_id}.{f'{epoch}.' if epoch else ''}{number}"
-
-
-def event_of(text: bytes, comp_id: str, epoch: str) -> str:
-    """The id of what a message to a session says, empty where it has none."""
-    return event_in(dict(pairs_of(text)), comp_id, epoch)
 
 
 def event_in(given: Given, comp_id: str, epoch: str) -> str:

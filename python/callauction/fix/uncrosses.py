@@ -1,7 +1,6 @@
 """What an uncross did, as the program shows it: a second run of it, on the journal's commands up to
 there, shows the open orders before and after, the trades, and where the day is.
 """
-import asyncio
 import dataclasses
 import subprocess
 from collections.abc import Sequence
@@ -30,15 +29,10 @@ class Seen:
     is_over: bool
 
 
-async def seen_of(board: Instrument, program: str, place: int, known: int) -> Seen:
-    """What the uncross at this place of the journal, from 1, did. `known` trades were made before.
-    It is asked for in a thread, as a journal may be long. Raises DownloadError.
+def seen_at(board: Instrument, program: str, place: int, known: int) -> Seen:
+    """What the uncross at this place of the journal, from 1, did, once the program has said it;
+    `known` trades were made before. A journal may be long. Raises DownloadError.
     """
-    return await asyncio.to_thread(seen, board, program, place, known)
-
-
-def seen(board: Instrument, program: str, place: int, known: int) -> Seen:
-    """What an uncross did, once the program has said it. Raises DownloadError."""
     commands = [record for record, _ in replay.entries_of(board)[:place]]
     asked = ["show,orders", commands[-1], "show,orders", f"show,trades,{known + 1}", "show,day"]
     words = [program, "--live", *RESERVE, *board.terms.words()]

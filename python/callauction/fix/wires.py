@@ -4,13 +4,15 @@ and it takes no more than a share of the time.
 import asyncio
 import logging
 import time
-from typing import Protocol
+from typing import TYPE_CHECKING
 
-from callauction.fix._quickfix import Engine
 from callauction.fix.seats import Seat
 from callauction.venue import shown
-from callauction.venue.gates import Gate, Gates
+from callauction.venue.gates import Gate
 from callauction.venue.members import Member
+
+if TYPE_CHECKING:
+    from callauction.fix.connections import Connections
 
 MOST_UNSENT = 1 << 24
 """Bytes that a connection may leave unread; then it ends, and the store has the rest."""
@@ -29,43 +31,12 @@ BUSY_SHARE = 4
 """How often that time passes before more is read of it."""
 
 
-class Host(Protocol):
-    """Who has the connections and the sessions."""
-
-    engine: Engine
-    gates: Gates
-
-    def connected(self, wire: "Wire") -> int:
-        """A connection has come: its number."""
-
-    def heard(self, wire: "Wire") -> Seat | None:
-        """Something was said on a connection, which is to be taken: whose it is."""
-
-    def take(self) -> None:
-        """Takes what sessions have said."""
-
-    def begun(self, wire: "Wire") -> None:
-        """A connection is somebody's now."""
-
-    def logs_off(self, wire: "Wire") -> None:
-        """A connection has said a Logout, which is to be answered after what it said before."""
-
-    def lost(self, wire: "Wire") -> None:
-        """A connection has ended."""
-
-    def has_news(self) -> None:
-        """Something has changed that a session asked for."""
-
-    def leave(self, wire: "Wire", code: str) -> None:
-        """Ends the session of a connection, for one of the ERRORS of messages."""
-
-
 class Wire(asyncio.Protocol):
     """A connection, whose bytes QuickFIX reads. To the venue it is a watcher who is shown nothing
     but which boards have changed.
     """
 
-    def __init__(self, host: Host) -> None:
+    def __init__(self, host: "Connections") -> None:
         self._host = host
         self.number, self.role = 0, "member"
         self.member: Member | None = None
@@ -89,7 +60,7 @@ class Wire(asyncio.Protocol):
         self._is_asked = False
         self._gate.is_held = True
         begin = time.thread_time()  # others may have the processor meanwhile
-        self._is_left = self._is_full = self._host.engine.feed(self.number, data)
+        self._is_left = self._is_full = self._host.outbound.engine.feed(self.number, data)
         took = time.thread_time() - begin
         if took > MOST_TOOK:
             loop = asyncio.get_running_loop()
@@ -98,13 +69,13 @@ class Wire(asyncio.Protocol):
         seat = self._host.heard(self)
         if seat is not None and self.seat is None:
             self._begun(seat)
-        is_within = self._host.engine.is_within(self.number)
-        if seat is not None and (seat.is_busy or is_within):
+        is_within = self._host.outbound.engine.is_within(self.number)
+        if seat is not None and (seat.inbound.is_busy or is_within):
             self._gate.untaken = 0
         self._host.take()
-        if not self._is_ending and self._host.engine.is_leaving(self.number):
+        if not self._is_ending and self._host.outbound.engine.is_leaving(self.number):
             self._is_ending = True
-            self._host.logs_off(self)
+            self._host.start(self._host.log_off(self))
         self.go_on()
 
     @property
@@ -116,7 +87,7 @@ class Wire(asyncio.Protocol):
         """It is somebody's now."""
         self.seat, self.member = seat, seat.watcher
         self.role = "member" if self.member is not None else "operator"
-        seat.address, seat.heard = self._gate.address, self.go_on
+        seat.address, seat.inbound.heard = self._gate.address, self.go_on
         self._gate.known()
         self._host.begun(self)
 
@@ -127,7 +98,7 @@ class Wire(asyncio.Protocol):
 
     def go_on(self) -> None:
         """Reads on, where it may."""
-        is_busy = self.seat is not None and self.seat.is_busy
+        is_busy = self.seat is not None and self.seat.inbound.is_busy
         if self.is_slow or is_busy or self._is_resting() or self._transport.is_closing():
             return
         if self._is_left:
@@ -145,7 +116,7 @@ class Wire(asyncio.Protocol):
         """Sends bytes; nothing more is said after the last ones."""
         if self._is_full:
             self._is_full = False
-            self._host.has_news()
+            self._host.news.set()
         self._transport.write(data)
         if self._transport.get_write_buffer_size() > MOST_UNSENT:
             self.cut(UNREAD)
@@ -158,7 +129,7 @@ class Wire(asyncio.Protocol):
         """Says that a board has changed; all else are messages of the session."""
         if self.seat is not None and message.get("type") == "state":
             self.seat.feeds.new.add(message["instrument"])
-            self._host.has_news()
+            self._host.news.set()
 
     def leave(self, code: str) -> None:
         """Ends its session, for one of the ERRORS of messages."""
@@ -175,7 +146,7 @@ class Wire(asyncio.Protocol):
 
     def _check_answered(self) -> None:
         """Ends where nothing was said, and not for what is still to be taken."""
-        is_busy = self.seat is not None and self.seat.is_busy
+        is_busy = self.seat is not None and self.seat.inbound.is_busy
         if self._is_asked and not is_busy:
             self.cut(SILENT)
         self._is_asked = False
@@ -196,7 +167,7 @@ class Wire(asyncio.Protocol):
     def resume_writing(self) -> None:
         """It has read what it was sent."""
         self._is_paused = False
-        self._host.has_news()
+        self._host.news.set()
         self.go_on()
 
     def connection_lost(self, fault: Exception | None) -> None:
