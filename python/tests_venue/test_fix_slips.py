@@ -326,6 +326,32 @@ def test_what_is_sent_again_in_the_same_second(tmp_path: pathlib.Path, begin: st
     assert len(speaker.engine.said()) == 1
 
 
+def later(seconds: int) -> str:
+    """The time in so many seconds as FIX has it."""
+    return time.strftime("%Y%m%d-%H:%M:%S", time.gmtime(time.time() + seconds))
+
+
+def test_what_is_sent_again_after_a_clock_was_set_back(tmp_path: pathlib.Path, begin: str) -> None:
+    """It was sent first by the clock as it was then, which has shown no later times than that of
+    what was sent in an earlier run; what comes twice ends no session.
+    """
+    speaker, first = Speaker(tmp_path, begin), later(3500)
+    before = speaker.written("8", REPORT, {34: "1", 52: later(3600), 49: "VENUE", 56: "SLIPS"})
+    speaker.engine.restore(speaker.session, 1, before)
+    assert speaker.say("D", ORDER, {43: "Y", 122: first}) == []
+    [(_, given, _)] = speaker.engine.said()
+    assert (given[11], given[122], speaker.expected) == ("a1", first, 3)
+    assert speaker.say("D", ORDER, {34: "2", 43: "Y", 122: first}) == []
+    assert (speaker.engine.said(), speaker.is_closed, speaker.expected) == ([], False, 3)
+    speaker.number = 3
+    found = speaker.say("D", ORDER, {43: "Y", 122: later(7200)})
+    assert refusal(found) == ("3", "D", "122", "10")
+    [again] = speaker.say("2", [(7, "1"), (16, "1")])
+    assert (again[34], again[43], again[17]) == ("1", "Y", "x")
+    assert again[52] < later(60) < again[122]
+    assert speaker.is_heard()
+
+
 def test_a_gap_needs_no_first_time(tmp_path: pathlib.Path, begin: str) -> None:
     speaker = Speaker(tmp_path, begin)
     assert speaker.say("4", [(123, "Y"), (36, "7")], {43: "Y"}) == []

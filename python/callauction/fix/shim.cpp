@@ -110,23 +110,33 @@ const char* said_of(const Slip& slip) {
   return FIX::SessionRejectReason_SENDINGTIME_ACCURACY_PROBLEM_TEXT;
 }
 
+// A time in seconds of the epoch, 0 for what is none, which the dictionary finds too.
+std::time_t seconds_of(const std::string& time) {
+  try {
+    return FIX::UtcTimeStampConvertor::convert(time).getTimeT();
+  } catch (FIX::FieldConvertError&) {
+    return 0;
+  }
+}
+
+// Whether a message says that it was first sent in a later second than now.
+bool is_first_later(const FIX::Header& head) {
+  if (!head.isSetField(FIX::FIELD::OrigSendingTime) || !head.isSetField(FIX::FIELD::SendingTime)) return false;
+  const std::string first = head.getField(FIX::FIELD::OrigSendingTime), now = head.getField(FIX::FIELD::SendingTime);
+  return seconds_of(first) && seconds_of(now) && first.compare(0, to_second, now, 0, to_second) > 0;
+}
+
 // What is wrong in the head of a message that QuickFIX would take, or end its session for without a word. By the
-// standard a message that is sent again says when it was first, in an earlier second or the same one.
-Slip slip_of(const FIX::Header& head, bool is_expected) {
+// standard a message that is sent again says when it was first, in an earlier second or the same one; in a later one
+// where the clock was set back.
+Slip slip_of(const FIX::Header& head, bool is_expected, bool is_back) {
   for (const int tag : {FIX::FIELD::SenderCompID, FIX::FIELD::TargetCompID, FIX::FIELD::SendingTime})
     if (!head.isSetField(tag)) return {tag, FIX::SessionRejectReason_REQUIRED_TAG_MISSING};
   const bool is_again = head.isSetField(FIX::FIELD::PossDupFlag) && head.getField(FIX::FIELD::PossDupFlag) == "Y";
   if (!is_expected || !is_again || head.getField(FIX::FIELD::MsgType) == "4") return {};
   const int first = FIX::FIELD::OrigSendingTime;
   if (!head.isSetField(first)) return {first, FIX::SessionRejectReason_REQUIRED_TAG_MISSING};
-  const std::string before = head.getField(first), now = head.getField(FIX::FIELD::SendingTime);
-  try {
-    FIX::UtcTimeStampConvertor::convert(before);
-    FIX::UtcTimeStampConvertor::convert(now);
-  } catch (FIX::FieldConvertError&) {
-    return {};  // which the dictionary finds too
-  }
-  if (before.compare(0, to_second, now, 0, to_second) <= 0) return {};
+  if (is_back || !is_first_later(head)) return {};
   return {first, FIX::SessionRejectReason_SENDINGTIME_ACCURACY_PROBLEM};
 }
 
@@ -375,6 +385,7 @@ class Engine : public FIX::Application, FIX::LogFactory {
 
   // Heartbeats, and what else a second brings. Without heartbeats QuickFIX would wait for each Logout's answer.
   void tick() {
+    latest_ = std::max(latest_, std::time(nullptr));
     for (auto& each : wires_) {
       Wire& wire = *each.second;
       if (!wire.session) continue;
@@ -491,6 +502,7 @@ class Engine : public FIX::Application, FIX::LogFactory {
 
   // Puts a message that was sent in an earlier run back into the store.
   void restore(const std::string& session, int number, const std::string& text) {
+    latest_ = std::max(latest_, seconds_of(value_of(text, "52")));
     stores_.stores.at(ids_.at(session))->restore(number, text);
   }
 
@@ -899,10 +911,22 @@ class Engine : public FIX::Application, FIX::LogFactory {
     }
     const int place = FIX::IntConvertor::convert(number);
     const bool is_expected = place == wire.session->getExpectedTargetNum();
-    const Slip slip = has_tags ? slip_of(head, is_expected) : no_tag;
+    const bool is_back = is_set_back(*wire.session, head);
+    const Slip slip = has_tags ? slip_of(head, is_expected, is_back) : no_tag;
     if (!is_expected && is_out_of_turn(wire, text, place, slip.tag)) return false;
+    const std::string type = type_of(text);
+    const bool is_checked = type != "2" && type != "4" && type != "5";  // by QuickFIX, which would end the session
+    if (is_back && is_checked && place < wire.session->getExpectedTargetNum()) return false;
     if (slip.tag) refuse(*wire.session, head, slip, is_expected);
     return !slip.tag;
+  }
+
+  // Whether a message that is sent again was first sent at a later time, which a clock may have shown that was set back
+  // since: the machine's, or a client's that went with it.
+  bool is_set_back(FIX::Session& session, const FIX::Header& head) const {
+    const bool is_again = head.isSetField(FIX::FIELD::PossDupFlag) && head.getField(FIX::FIELD::PossDupFlag) == "Y";
+    if (latest_ <= std::time(nullptr) || !is_again || !is_first_later(head)) return false;
+    return seconds_of(head.getField(FIX::FIELD::OrigSendingTime)) <= latest_ + session.getMaxLatency();
   }
 
   // Whether a message of a member that is refused has come out of its turn, as it comes again or came before: of one
@@ -1234,6 +1258,7 @@ class Engine : public FIX::Application, FIX::LogFactory {
   FIX::FileStoreFactory files_;  // an initiator's
   Accepts accepts_;
   std::string password_, time_;  // of a Logon, and of what is sent now
+  std::time_t latest_ = 0;  // the latest time that the clock has shown, now where it wasn't set back
   std::string ends_;  // what a Logout says that follows a Reject
   const std::string* heard_ = nullptr;  // what is taken now
   Wire* hearing_ = nullptr;  // where that has come
