@@ -333,14 +333,14 @@ def test_the_codes_of_a_board(tmp_path: pathlib.Path) -> None:
         venue.members.learn(name, name)
     for gone in (names[8001], "another"):
         venue.members.learn(gone, gone).is_removed = gone != "another"
-    [board] = venue.instruments.values()
-    assert [*board.codes()] == ["", names[8000], *names[: MOST_TRADERS - 1]]
+    [board] = venue.rounds.now.boards.values()
+    assert [*board.commands.codes()] == ["", names[8000], *names[: MOST_TRADERS - 1]]
     venue.members.learn(names[8000], "again").group = 2
-    assert [*board.codes()] == ["", *names[:MOST_TRADERS]]
+    assert [*board.commands.codes()] == ["", *names[:MOST_TRADERS]]
     codes = unittest.mock.Mock(return_value=[""])
-    board.codes = codes
+    board.commands.codes = codes
     for _ in range(1000):
-        board._used_by_code()
+        board.commands._used_by_code()
     assert codes.call_count < 100
 
 

@@ -13,7 +13,7 @@ import served
 from browsing import SCREEN, opened
 from callauction.venue import Client, clock
 from callauction.venue.log import Line
-from callauction.venue.venue import BEHIND, SET, direction_of, set_since
+from callauction.venue.timekeeping import BEHIND, SET, direction_of, set_since
 from test_faults import on_a_clock
 
 CALL = 900

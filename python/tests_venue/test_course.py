@@ -7,7 +7,7 @@ import aiohttp
 import pytest
 import served
 from callauction.venue import Client
-from callauction.venue.instrument import MOST_POINTS, Point
+from callauction.venue.auctions import MOST_POINTS, Point
 from callauction.venue.venue import LOG, Venue
 from callauction.venue.views import Indication
 from conftest import FAST
@@ -82,10 +82,11 @@ def test_the_course_is_there_again_after_a_kill(tmp_path: pathlib.Path) -> None:
 
 @pytest.mark.asyncio
 async def test_a_long_course_has_its_first_and_its_last_point(inside: Venue) -> None:  # noqa: F811
-    [instrument] = inside.instruments.values()
-    instrument.start_call()
+    [instrument] = inside.rounds.now.boards.values()
+    auctions = instrument.auctions
+    auctions.start_call()
     for price in range(1, 5 * MOST_POINTS):
-        instrument.replay_point(Point(float(price), Indication(price)))
-        assert len(instrument.course) <= MOST_POINTS
-        assert instrument.course[0].indication.price == 1
-        assert instrument.course[-1].indication.price == price
+        auctions.keep_point(Point(float(price), Indication(price)))
+        assert len(auctions.course) <= MOST_POINTS
+        assert auctions.course[0].indication.price == 1
+        assert auctions.course[-1].indication.price == price

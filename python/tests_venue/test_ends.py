@@ -125,13 +125,13 @@ async def test_the_tables_have_the_trades_of_an_uncross_just_before(tmp_path: pa
     plan = Plan(call=0)
     venue = Venue(DayTerms(is_synced=False, plan=plan), tmp_path, served.program())
     await venue.open()
-    board = venue.instruments["XYZ"]
-    board.start_call()
+    board = venue.rounds.now.boards["XYZ"]
+    board.auctions.start_call()
     for name, side in (("Anna", "bid"), ("Bert", "ask")):
         member, _ = await venue.join(venue.members.codes[""], name)
         answer, _ = venue.submit(member, Order(1, "XYZ", f"enter,{side},5,200"))
         await answer
-    assert (await board.uncross()).endswith(" trades 1")
+    assert (await board.auctions.uncross()).endswith(" trades 1")
     await venue.close()
     with open(tmp_path / "results.csv", newline="", encoding="utf-8") as file:
         rows = {it["name"]: it for it in csv.DictReader(file) if it["round"] == "1"}
@@ -141,12 +141,13 @@ async def test_the_tables_have_the_trades_of_an_uncross_just_before(tmp_path: pa
 LONG = """
 import atexit, gc, sys
 from callauction.venue import __main__ as venue
+from callauction.venue.audience import Audience
 
 kept = []
-def dismissed(self, dismiss=venue.Venue.dismiss):
+def dismissed(self, dismiss=Audience.dismiss):
     kept.extend([it] for it in range(COUNT))
     dismiss(self)
-venue.Venue.dismiss = dismissed
+Audience.dismiss = dismissed
 atexit.register(lambda: print(len(gc.get_objects()), flush=True))
 sys.argv[0] = "venue"
 sys.exit(venue.main())

@@ -325,7 +325,7 @@ async def test_a_quiet_call_before_a_clock_was_set_back(
         (tmp_path / name).mkdir()
     first = Venue(day, tmp_path / "left", served.program())
     await first.open()
-    first.instruments["XYZ"].start_call()
+    first.rounds.now.boards["XYZ"].auctions.start_call()
     await asyncio.sleep(3)
     left = 900 - 3
     if is_orderly:
@@ -336,7 +336,7 @@ async def test_a_quiet_call_before_a_clock_was_set_back(
     monkeypatch.setattr(clock, "BEGAN", clock.BEGAN - 7200)
     second = Venue(day, tmp_path / "copy", served.program())
     await second.open()
-    ends = second.instruments["XYZ"].state.ends
+    ends = second.rounds.now.boards["XYZ"].auctions.state.ends
     assert ends is not None and left - 2 < ends - clock.now() < left + 1
     await second.close()
     if not is_orderly:

@@ -106,12 +106,12 @@ async def without_journal(
     day = DayTerms(is_synced=False, plan=Plan(call=1))
     first = Venue(day, folder, served.program())
     await first.open()
-    board = first.instruments["XYZ"]
-    board.start_call()
-    await board.uncross()
-    await board.refresh()
+    board = first.rounds.now.boards["XYZ"]
+    board.auctions.start_call()
+    await board.auctions.uncross()
+    await board.looks.refresh()
     if is_in_call:
-        board.start_call()
+        board.auctions.start_call()
     await first.close()
     again = folder.with_name("again")
     shutil.copytree(folder, again)  # the lock of the first log is this process's
@@ -120,7 +120,7 @@ async def without_journal(
     await venue.open()
     try:
         put_back()
-        yield venue, venue.instruments["XYZ"]
+        yield venue, venue.rounds.now.boards["XYZ"]
     finally:
         await venue.close()
 
@@ -143,7 +143,7 @@ async def is_tried_in_vain(venue: Venue, board: Instrument, patch: pytest.Monkey
     """Tries again, and halts at the first look."""
     is_silent_once(board, patch)
     with pytest.raises(MessageError) as found:
-        await venue.resume()
+        await venue.starts.resume()
     assert found.value.text == f"XYZ: {SILENT}"
 
 
@@ -155,13 +155,13 @@ async def test_a_first_look_that_fails(
     (folder := tmp_path / "venue").mkdir(0o700)
     async with without_journal(folder) as (venue, board), asyncio.timeout(served.SECONDS):
         await is_tried_in_vain(venue, board, monkeypatch)
-        assert not board.is_seen and halts_of(venue) == {"XYZ": SILENT}
-        resumed = await asyncio.gather(venue.resume(), venue.resume())
+        assert not board.looks.is_seen and halts_of(venue) == {"XYZ": SILENT}
+        resumed = await asyncio.gather(venue.starts.resume(), venue.starts.resume())
         assert [*resumed] == [["XYZ"]] * 2
-        assert board.is_seen and len(board._tasks) == 2
-        board.start_call()
+        assert board.looks.is_seen and len(board._tasks) == 2
+        board.auctions.start_call()
         async with asyncio.timeout(SOON):
-            while board.state.phase is not Phase.ENDED:
+            while board.auctions.state.phase is not Phase.ENDED:
                 await asyncio.sleep(0.1)
 
 
@@ -198,10 +198,10 @@ async def test_who_comes_during_a_first_look(
             return await show(views)
 
         monkeypatch.setattr(board.engine, "show", slow)
-        resuming = asyncio.create_task(venue.resume())
+        resuming = asyncio.create_task(venue.starts.resume())
         await begins.wait()
-        venue.enter(listener := Listener(member))
-        venue.greet(listener)
+        venue.audience.enter(listener := Listener(member))
+        venue.audience.greet(listener)
         assert "orders XYZ" not in listener.said
         ends.set()
         assert await resuming == ["XYZ"]
@@ -219,14 +219,14 @@ async def test_a_call_that_ended_while_its_board_had_halted(
     (folder := tmp_path / "venue").mkdir(0o700)
     why, does = "the call of XYZ has ended while it had halted", "`extend` lets it go on"
     async with without_journal(folder, True) as (venue, board), asyncio.timeout(served.SECONDS):
-        venue.watchers[listener := Listener()] = None
+        venue.audience.watchers[listener := Listener()] = None
         await asyncio.sleep(1)
-        assert await venue.resume() == ["XYZ"]
-        assert board.state.phase is Phase.ENDED
+        assert await venue.starts.resume() == ["XYZ"]
+        assert board.auctions.state.phase is Phase.ENDED
         late = {"instrument": "XYZ", "why": why, "does": does}
         assert listener.said["round"]["late"] == [late]
         assert f"{why}: {does}" in [it.getMessage() for it in caplog.records]
-        board.extend(60)
+        board.auctions.extend(60)
         async with asyncio.timeout(SOON):
             while listener.said["round"]["late"]:
                 await asyncio.sleep(0.1)
@@ -240,7 +240,7 @@ async def test_payoffs_wait_for_a_round_to_begin(
     instruments = tuple(InstrumentTerms(name=name) for name in ("ONE", "TWO", "THREE"))
     venue = Venue(DayTerms(is_synced=False, instruments=instruments), tmp_path, served.program())
     await venue.open()
-    venue.watchers[Listener()] = None
+    venue.audience.watchers[Listener()] = None
     counts: list[int] = []
     payoffs = results.payoffs
 
@@ -249,7 +249,7 @@ async def test_payoffs_wait_for_a_round_to_begin(
         return payoffs(day, rounds, members)
 
     monkeypatch.setattr(results, "payoffs", counted)
-    await venue.next_round(2, venue.day.treatment(2))
+    await venue.groups.next_round(2, venue.day.treatment(2))
     assert counts == [2]
     await venue.close()
 
@@ -261,13 +261,13 @@ async def test_a_first_look_that_fails_in_a_round_that_is_over(
     """It is one of what halts until it is seen, and payoffs wait for it."""
     (folder := tmp_path / "venue").mkdir(0o700)
     async with without_journal(folder) as (venue, board), asyncio.timeout(served.SECONDS):
-        await venue.next_round(2, venue.day.treatment(2))
+        await venue.groups.next_round(2, venue.day.treatment(2))
         await is_tried_in_vain(venue, board, monkeypatch)
-        assert halts_of(venue) == {"XYZ of round 1": SILENT} and not venue.are_gains_known
+        assert halts_of(venue) == {"XYZ of round 1": SILENT} and not venue.rounds.are_seen
         samples = [sample for it in Measures(venue, Gates()).collect() for sample in it.samples]
         halts = {it.labels["instrument"]: it.value for it in samples if it.name == HALTED}
         assert halts == {"XYZ": 0, "XYZ of round 1": 1}
-        assert await venue.resume() == ["XYZ"]
-        assert halts_of(venue) == {} and venue.are_gains_known
-        assert board.results == ["opening no price"] and board.engine.pid is None
-        assert await venue.resume() == []
+        assert await venue.starts.resume() == ["XYZ"]
+        assert halts_of(venue) == {} and venue.rounds.are_seen
+        assert board.auctions.results == ["opening no price"] and board.engine.pid is None
+        assert await venue.starts.resume() == []

@@ -365,12 +365,13 @@ def phase_said(halted: str, is_seen: bool) -> dict[int, str]:
     """What is said of the phase of a board in a call that ends, where this has halted."""
     state = types.SimpleNamespace(phase=Phase.CALL, auction="closing", frozen=None, ends=0.0)
     board = types.SimpleNamespace(
-        state=state,
+        auctions=types.SimpleNamespace(state=state),
         engine=types.SimpleNamespace(halted=halted if halted == "the board" else None),
         identity=types.SimpleNamespace(market="XYZ"),
-        is_seen=is_seen,
+        looks=types.SimpleNamespace(is_seen=is_seen),
     )
-    venue = types.SimpleNamespace(halted=halted if halted == "the venue" else None)
+    halts = types.SimpleNamespace(halted=halted if halted == "the venue" else None)
+    venue = types.SimpleNamespace(halts=halts)
     return dict(phase_of(cast(Any, venue), cast(Any, board)))
 
 

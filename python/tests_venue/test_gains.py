@@ -115,8 +115,8 @@ def test_nor_where_values_change(given: list[tuple[bool, Class]]) -> None:
         handed = {str(place): value for place, value in enumerate(values) if value}
         accounts.give(handed, is_to_all, len(deals))
         deals += more
-    total = sum(accounts.gain_of(str(place), fills_of(deals, place)) for place in range(6))
-    assert total <= accounts.most(lambda member: fills_of(deals, int(member)))
+    accounts.fills = {str(place): fills_of(deals, place) for place in range(6)}
+    assert accounts.gain <= accounts.most
 
 
 @given(classes(), st.sets(st.integers(0, 5)), st.integers(0, 12))
@@ -129,13 +129,13 @@ def test_nor_where_members_leave(given: Class, leavers: set[int], before: int) -
     accounts.give({str(place): it for place, it in enumerate(values) if it}, True, 0)
 
     def most(trades: int) -> int:
-        return accounts.most(lambda member: fills_of(deals[:trades], int(member)))
+        accounts.fills = {str(place): fills_of(deals[:trades], place) for place in range(6)}
+        return accounts.most
 
     of_all = most(len(deals))
     for place in leavers:
         accounts.leave(str(place))
-    total = sum(accounts.gain_of(str(place), fills_of(deals, place)) for place in range(6))
-    assert total <= most(len(deals)) <= of_all
+    assert most(len(deals)) <= of_all and accounts.gain <= accounts.most
     there = [it for place, it in enumerate(values) if it and place not in leavers]
     assert most(0) == most_gain(there)
     for place in leavers:
@@ -147,15 +147,18 @@ def test_the_value_of_who_left_counts_as_far_as_it_was_used() -> None:
     accounts = Accounts(UNCOVERED)
     accounts.give({"Anna": Value("ask", 2, 5), "Robot": Value("bid", 9, 5)}, True, 0)
     fills = {"Anna": [Fill(1, 1, "ask", 2, 4)], "Robot": [Fill(1, 2, "bid", 2, 4)]}
-    assert accounts.most(lambda member: fills[member]) == 5 * 7
+    accounts.fills = fills
+    assert accounts.most == 5 * 7
     accounts.leave("Robot")
-    assert accounts.most(lambda member: fills[member]) == 2 * 7
-    assert accounts.predicted(lambda member: fills[member]) == Predicted(2, 2, 2)
-    assert accounts.predicted(lambda member: []) is None
+    assert accounts.most == 2 * 7
+    assert accounts.predicted == Predicted(2, 2, 2)
+    accounts.fills = {}
+    assert accounts.predicted is None
+    accounts.fills = fills
     accounts.give({"Anna": Value("ask", 3, 5), "Bert": Value("bid", 5, 1)}, True, 1)
-    assert accounts.most(lambda member: fills.get(member, [])) == 2 * 7 + 2
+    assert accounts.most == 2 * 7 + 2
     accounts.come_back("Robot")
-    assert accounts.most(lambda member: fills.get(member, [])) == 2 * 7 + 2
+    assert accounts.most == 2 * 7 + 2
 
 
 @given(st.lists(VALUES, max_size=6))
@@ -187,33 +190,33 @@ def test_the_predicted_prices_are_those_at_which_most_gain(values: list[Value]) 
 
 def test_a_hand_out_to_all_keeps_what_was_gained() -> None:
     accounts = Accounts(UNCOVERED)
-    fills = [Fill(1, 1, "bid", 5, 4), Fill(2, 3, "bid", 5, 4)]
-    assert (accounts.has_values, accounts.gain_of("Anna", fills)) == (False, 0)
+    accounts.fills["Anna"] = [Fill(1, 1, "bid", 5, 4), Fill(2, 3, "bid", 5, 4)]
+    assert (accounts.has_values, accounts.gain_of("Anna")) == (False, 0)
     accounts.give({"Anna": Value("bid", 6, 5)}, True, 1)
-    assert accounts.gain_of("Anna", fills) == 10
+    assert accounts.gain_of("Anna") == 10
     accounts.give({"Anna": Value("bid", 12, 5)}, True, 2)
-    later = [*fills, Fill(3, 4, "bid", 1, 4)]
-    assert accounts.gain_of("Anna", later) == 10 + 8
-    assert accounts.most(lambda member: later) == 0
+    accounts.fills["Anna"].append(Fill(3, 4, "bid", 1, 4))
+    assert (accounts.gain_of("Anna"), accounts.most) == (10 + 8, 0)
 
 
 def test_how_many_shares_a_value_still_covers() -> None:
     accounts = Accounts(UNCOVERED)
     fills = [Fill(1, 1, "ask", 3, 4), Fill(2, 3, "ask", 4, 4), Fill(3, 5, "bid", 1, 4)]
-    assert accounts.left_of("Anna", fills) is None
+    accounts.fills["Anna"] = fills
+    assert accounts.left_of("Anna") is None
     accounts.give({"Anna": Value("ask", 2, 5)}, True, 1)
-    assert accounts.left_of("Anna", fills) == 2
-    assert accounts.left_of("Anna", [*fills, Fill(4, 7, "ask", 9, 4)]) == 0
+    assert accounts.left_of("Anna") == 2
+    fills.append(Fill(4, 7, "ask", 9, 4))
+    assert accounts.left_of("Anna") == 0
 
 
 def test_a_value_that_comes_late_counts_for_its_period() -> None:
     accounts = Accounts(UNCOVERED)
     accounts.give({"Anna": Value("ask", 2, 5)}, True, 0)
-    bought = [Fill(1, 1, "bid", 5, 4)]
-    assert accounts.gain_of("Bert", bought) == -20
+    accounts.fills["Bert"] = [Fill(1, 1, "bid", 5, 4)]
+    assert accounts.gain_of("Bert") == -20
     accounts.give({"Bert": Value("bid", 6, 5)}, False, 1)
-    assert accounts.gain_of("Bert", bought) == 10
-    assert accounts.most(lambda member: []) == 20
+    assert (accounts.gain_of("Bert"), accounts.most) == (10, 20)
 
 
 @pytest.mark.parametrize("tick, is_covered", [(2, False), (3, True), (7, True), (8, False)])

@@ -7,7 +7,7 @@ from collections.abc import AsyncIterator
 
 import pytest
 import served
-from callauction.venue import Client, clock, instrument
+from callauction.venue import Client, auctions, clock
 from callauction.venue.config import DayTerms, Plan
 from callauction.venue.instrument import Instrument
 from callauction.venue.log import SlowWrite
@@ -29,7 +29,7 @@ async def in_call(folder: pathlib.Path, call: int, is_automatic: bool) -> AsyncI
     venue = Venue(DayTerms(is_synced=False, plan=plan), folder, served.program())
     await venue.open()
     try:
-        venue.instruments["XYZ"].start_call()
+        venue.rounds.now.boards["XYZ"].auctions.start_call()
         yield venue
     finally:
         await venue.close()
@@ -37,20 +37,20 @@ async def in_call(folder: pathlib.Path, call: int, is_automatic: bool) -> AsyncI
 
 def phase_of(board: Instrument) -> Phase:
     """The phase of an instrument, which goes on meanwhile."""
-    return board.state.phase
+    return board.auctions.state.phase
 
 
 async def halt(venue: Venue, board: Instrument, whose: str, seconds: float) -> None:
     """Halts the venue or its only instrument for as many seconds."""
     if whose == "venue":
-        venue._log_failed(SlowWrite())
+        venue.halts.log_failed(SlowWrite())
     else:
         board.engine._give_up(board.engine._turn, "journal failed")
     await asyncio.sleep(seconds)
     if whose == "venue":
-        venue._log_goes_on()
+        venue.halts.log_goes_on()
     else:
-        await venue.resume()
+        await venue.starts.resume()
 
 
 @pytest.mark.asyncio
@@ -60,19 +60,19 @@ async def test_a_halt_over_the_end_of_a_call(
     tmp_path: pathlib.Path, monkeypatch: pytest.MonkeyPatch, whose: str, call: int
 ) -> None:
     """Members see a countdown once it goes on, and have that time to delete an order."""
-    monkeypatch.setattr(instrument, "GRACE_SECONDS", GRACE)
+    monkeypatch.setattr(auctions, "GRACE_SECONDS", GRACE)
     async with in_call(tmp_path, call, True) as venue, asyncio.timeout(served.SECONDS):
-        board = venue.instruments["XYZ"]
+        board = venue.rounds.now.boards["XYZ"]
         member, _ = await venue.join(venue.members.codes[""], "Anna")
         answer, _ = venue.submit(member, Order(1, "XYZ", "enter,bid,1,200"))
         assert (await answer).reply == "entered 1"
         await halt(venue, board, whose, call + 1)
-        went_on, end = clock.now(), board.state.ends
-        assert board.state.phase is Phase.CALL
-        while board.state.ends == end:
+        went_on, end = clock.now(), board.auctions.state.ends
+        assert board.auctions.state.phase is Phase.CALL
+        while board.auctions.state.ends == end:
             await asyncio.sleep(0.01)
-        assert board.state.ends is not None and board.state.phase is Phase.CALL
-        assert board.state.ends - went_on == pytest.approx(min(GRACE, call), abs=1)
+        assert board.auctions.state.ends is not None and board.auctions.state.phase is Phase.CALL
+        assert board.auctions.state.ends - went_on == pytest.approx(min(GRACE, call), abs=1)
         answer, _ = venue.submit(member, Order(2, "XYZ", "delete,1"))
         assert (await answer).reply == "deleted"
         while phase_of(board) is not Phase.WAITING:
@@ -86,30 +86,30 @@ async def test_a_halt_just_before_the_end_of_a_call(
     tmp_path: pathlib.Path, monkeypatch: pytest.MonkeyPatch, whose: str
 ) -> None:
     """Who was away has as much time as after a halt over its end."""
-    monkeypatch.setattr(instrument, "GRACE_SECONDS", GRACE)
+    monkeypatch.setattr(auctions, "GRACE_SECONDS", GRACE)
     async with in_call(tmp_path, LONG, True) as venue, asyncio.timeout(served.SECONDS):
-        board = venue.instruments["XYZ"]
+        board = venue.rounds.now.boards["XYZ"]
         await halt(venue, board, whose, LONG - 1.5)
-        went_on, end = clock.now(), board.state.ends
+        went_on, end = clock.now(), board.auctions.state.ends
         assert end is not None and end > went_on
         await asyncio.sleep(0.5)
-        assert board.state.ends is not None and board.state.phase is Phase.CALL
-        assert board.state.ends - went_on == pytest.approx(GRACE, abs=1)
+        assert board.auctions.state.ends is not None and board.auctions.state.phase is Phase.CALL
+        assert board.auctions.state.ends - went_on == pytest.approx(GRACE, abs=1)
 
 
 @pytest.mark.asyncio
 async def test_a_halt_within_a_call(tmp_path: pathlib.Path) -> None:
     """It leaves the end where it was; and a call that isn't uncrossed by itself ends as ever."""
     async with in_call(tmp_path / "automatic", 60, True) as venue:
-        board = venue.instruments["XYZ"]
-        before = board.state
+        board = venue.rounds.now.boards["XYZ"]
+        before = board.auctions.state
         await halt(venue, board, "venue", 0.5)
         await asyncio.sleep(0.5)
-        assert board.state == before
+        assert board.auctions.state == before
     async with in_call(tmp_path / "by hand", 1, False) as venue:
-        board = venue.instruments["XYZ"]
+        board = venue.rounds.now.boards["XYZ"]
         await halt(venue, board, "venue", 2)
-        assert board.state.phase is Phase.ENDED
+        assert board.auctions.state.phase is Phase.ENDED
 
 
 DAY = "sync = false\n[phases]\ncall = 5\nautomatic = {}\n[members]\nrate = 1000\nburst = 1000\n"

@@ -23,10 +23,10 @@ async def test_a_book_is_listed_once_after_a_change(
 ) -> None:
     venue = Venue(DayTerms(is_synced=False, plan=Plan(call=0)), tmp_path, served.program())
     await venue.open()
-    board = venue.instruments["XYZ"]
+    board = venue.rounds.now.boards["XYZ"]
     member, _ = await venue.join(venue.members.codes[""], "Alice")
-    venue.watchers[Listener()] = None
-    board.start_call()
+    venue.audience.watchers[Listener()] = None
+    board.auctions.start_call()
     show, asked = board.engine.show, list[str]()
 
     async def counted(views: Sequence[str]) -> list[list[str]]:
@@ -35,21 +35,21 @@ async def test_a_book_is_listed_once_after_a_change(
 
     async def seen_after(number: int, record: str) -> list[Level]:
         await venue.submit(member, Order(number, "XYZ", record))[0]
-        await board.refresh()
+        await board.looks.refresh()
         asked.clear()
-        await asyncio.gather(*[board.refresh() for _ in range(LOOKS)])
+        await asyncio.gather(*[board.looks.refresh() for _ in range(LOOKS)])
         assert asked.count("show,ladder") >= LOOKS and LIST not in asked
-        return board.visible_levels
+        return board.looks.visible_levels
 
     monkeypatch.setattr(board.engine, "show", counted)
     assert await seen_after(1, "enter,bid,50,200") == [Level(200, 50, 0)]
     assert await seen_after(2, "enter,bid,100,200,30") == [Level(200, 80, 0)]
     assert await seen_after(3, "enter,ask,10,205") == [Level(205, 0, 10), Level(200, 80, 0)]
-    assert [it.bid for it in board.levels] == [0, 150]
+    assert [it.bid for it in board.looks.levels] == [0, 150]
     assert await seen_after(4, "delete,2") == [Level(205, 0, 10), Level(200, 50, 0)]
-    await board.uncross()
-    await board.refresh()
+    await board.auctions.uncross()
+    await board.looks.refresh()
     asked.clear()
-    await board.refresh()
+    await board.looks.refresh()
     assert LIST not in asked
     await venue.close()

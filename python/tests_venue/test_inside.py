@@ -18,14 +18,16 @@ import served
 from callauction.venue import (
     clock, connection, gates, http, log, rates, serving, teaching, tokens, views,
 )
+from callauction.venue.audience import MOST_CONNECTIONS
 from callauction.venue.config import DayTerms, Plan
 from callauction.venue.gates import Gates
+from callauction.venue.halts import LATER
 from callauction.venue.http import Site
 from callauction.venue.log import ChangedByOthers, Log, SlowWrite
 from callauction.venue.members import Member, NameTakenError
 from callauction.venue.messages import MessageError, Order
 from callauction.venue.metrics import Measures
-from callauction.venue.venue import LATER, MOST_CONNECTIONS, Venue
+from callauction.venue.venue import Venue
 
 pytestmark = pytest.mark.asyncio
 
@@ -63,11 +65,11 @@ async def test_who_answers_no_heartbeat_is_sent_away(
     socket = await client.ws_connect("/api/socket", autoping=False)
     await socket.send_json({"type": "hello", "token": token})
     async with asyncio.timeout(served.SECONDS):
-        while inside.watchers or not socket.closed:
+        while inside.audience.watchers or not socket.closed:
             if (await socket.receive()).type in (aiohttp.WSMsgType.CLOSED, aiohttp.WSMsgType.CLOSE):
                 break
     async with asyncio.timeout(served.SECONDS):
-        while inside.watchers:
+        while inside.audience.watchers:
             await asyncio.sleep(0.02)
 
 
@@ -84,9 +86,9 @@ async def test_what_to_do_about_a_log_that_others_changed(
     """A log that waits for its disk needs no file."""
     full = OSError(errno.ENOSPC, "No space left on device")
     for fault in (ChangedByOthers(), SlowWrite(), full):
-        inside._log_failed(fault)
+        inside.halts.log_failed(fault)
         assert halted_of(inside) == {(): 1.0, ("XYZ",): 1.0}
-        inside._log_goes_on()
+        inside.halts.log_goes_on()
         assert halted_of(inside) == {(): 0.0, ("XYZ",): 0.0}
     halts = [it.getMessage() for it in caplog.records if "halted" in it.getMessage()]
     cant = "the venue halted: the venue's log can't be written: it "
@@ -109,13 +111,13 @@ async def test_a_member_is_connected_a_few_times_at_once(client: Any, inside: Ve
         while (last := await sockets[0].receive()).type is aiohttp.WSMsgType.TEXT:
             pass
     assert (last.data, last.extra) == (aiohttp.WSCloseCode.POLICY_VIOLATION, "too_fast")
-    assert len(inside.watchers) == MOST_CONNECTIONS
+    assert len(inside.audience.watchers) == MOST_CONNECTIONS
 
 
 async def test_a_removed_member_says_nothing_more(inside: Venue) -> None:
     member, _ = await inside.join(inside.members.codes[""], "Anna")
-    board = inside.instruments["XYZ"]
-    board.start_call()
+    board = inside.rounds.now.boards["XYZ"]
+    board.auctions.start_call()
     first, _ = inside.submit(member, Order(1, "XYZ", "enter,bid,1,200"))
     assert (await first).reply == "entered 1"
     await inside.remove([member])
@@ -129,48 +131,48 @@ async def in_flight(inside: Venue) -> Member:
     """A member with an order that isn't answered, which would trade with another one's."""
     code = inside.members.codes[""]
     (anna, _), (bert, _) = [await inside.join(code, name) for name in ("Anna", "Bert")]
-    inside.instruments["XYZ"].start_call()
+    inside.rounds.now.boards["XYZ"].auctions.start_call()
     assert (await inside.submit(bert, Order(1, "XYZ", "enter,ask,1,200"))[0]).reply == "entered 1"
     inside.submit(anna, Order(1, "XYZ", "enter,bid,1,200"))
     return anna
 
 
 async def test_an_order_in_flight_is_deleted_before_an_uncross(inside: Venue) -> None:
-    anna, board = await in_flight(inside), inside.instruments["XYZ"]
+    anna, board = await in_flight(inside), inside.rounds.now.boards["XYZ"]
     removing = asyncio.create_task(inside.remove([anna]))
     await asyncio.sleep(0)
-    assert await board.uncross() == "opening no price"
+    assert await board.auctions.uncross() == "opening no price"
     found = await removing
     assert [(it.member, it.board, it.order) for it in found.deleted] == [(anna, "XYZ", 2)]
-    assert found.halted == [] and not board.awaits("Anna")
+    assert found.halted == [] and not board.commands.awaits("Anna")
 
 
 async def test_an_order_in_flight_is_deleted_after_a_halt(inside: Venue) -> None:
     """Whoever comes again in between: nothing else is taken before."""
-    anna, board = await in_flight(inside), inside.instruments["XYZ"]
+    anna, board = await in_flight(inside), inside.rounds.now.boards["XYZ"]
     board.engine._give_up(board.engine._turn, "for a while")
     found = await inside.remove([anna])
     assert (found.deleted, found.halted) == ([], ["XYZ"])
     again, _ = await inside.join(await inside.readmit(anna), "")
     assert again is anna
-    await inside.resume()
-    assert await board.uncross() == "opening no price"
+    await inside.starts.resume()
+    assert await board.auctions.uncross() == "opening no price"
     assert [it.order for it in found.deleted] == [2]
 
 
 async def test_what_is_held_as_it_halts_isnt_done(inside: Venue) -> None:
-    anna, board = await in_flight(inside), inside.instruments["XYZ"]
+    anna, board = await in_flight(inside), inside.rounds.now.boards["XYZ"]
     removing = asyncio.create_task(inside.remove([anna]))
     await asyncio.sleep(0)
-    uncrossing = asyncio.create_task(board.uncross())
+    uncrossing = asyncio.create_task(board.auctions.uncross())
     await asyncio.sleep(0)
     board.engine._give_up(board.engine._turn, "for a while")
     with pytest.raises(MessageError) as fault:
         await uncrossing
     assert fault.value.code == "halted"
     assert (await removing).halted == ["XYZ"]
-    await inside.resume()
-    assert await board.uncross() == "opening no price"
+    await inside.starts.resume()
+    assert await board.auctions.uncross() == "opening no price"
     journal = (inside.folder / "XYZ.journal.csv").read_text("latin-1")
     assert journal.count("uncross") == 1
 
@@ -187,8 +189,8 @@ async def test_what_waits_as_it_halts_is_answered_once(
 ) -> None:
     """By its entry, once it goes on, as nobody knows before whether it has one."""
     _, token = await inside.join(inside.members.codes[""], "Anna")
-    board = inside.instruments["XYZ"]
-    board.start_call()
+    board = inside.rounds.now.boards["XYZ"]
+    board.auctions.start_call()
     order = {"type": "enter", "side": "bid", "quantity": 1, "price": "2.00"}
     async with client.ws_connect("/api/socket") as socket:
         await socket.send_json({"type": "hello", "token": token})
@@ -199,7 +201,7 @@ async def test_what_waits_as_it_halts_is_answered_once(
         board.engine._give_up(board.engine._turn, "for a while")
         await socket.send_json(order | {"number": 2})
         await asyncio.sleep(0.5)
-        await inside.resume()
+        await inside.starts.resume()
         await socket.send_json(order | {"number": 3})
         found: list[tuple[int, str]] = []
         async with asyncio.timeout(served.SECONDS):
@@ -214,7 +216,7 @@ async def test_which_entries_arent_counted_is_said(inside: Venue) -> None:
     """Those of an instrument whose journal is an older one."""
     [line] = serving.lines_of_begin(inside, 0)
     assert line.endswith(", 0 entries so far")
-    inside._waiting["XYZ"] = []
+    inside.starts.waiting["XYZ"] = []
     assert serving.lines_of_begin(inside, 0) == [f"{line} but for XYZ"]
 
 
@@ -223,11 +225,11 @@ async def test_a_log_that_is_moved_is_seen_at_once(inside: Venue) -> None:
     log, other = inside.folder / "venue.log", inside.folder / "moved"
     await inside.log.written()
     log.rename(other)
-    await comes(lambda: inside.halted)
-    assert inside.halted == "the venue's log can't be written: it was changed by others"
+    await comes(lambda: inside.halts.halted)
+    assert inside.halts.halted == "the venue's log can't be written: it was changed by others"
     other.rename(log)
-    await inside.resume()
-    assert inside.halted is None
+    await inside.starts.resume()
+    assert inside.halts.halted is None
 
 
 async def test_who_joins_as_the_log_fails_is_answered(inside: Venue) -> None:
@@ -241,7 +243,7 @@ async def test_who_joins_as_the_log_fails_is_answered(inside: Venue) -> None:
             await inside.join(code, "Anna")
         assert (found.value.code, found.value.text) == ("halted", text)
     other.rename(log)
-    await inside.resume()
+    await inside.starts.resume()
     member, token = await inside.join(code, " Anna")
     assert inside.role_of(token) == ("member", member)
     with pytest.raises(NameTakenError):
@@ -258,7 +260,7 @@ async def test_nobody_is_another_by_a_join_that_failed(inside: Venue) -> None:
     with pytest.raises(MessageError):
         await inside.join(own, "")
     other.rename(log)
-    await inside.resume()
+    await inside.starts.resume()
     with pytest.raises(NameTakenError):
         await inside.join(inside.members.codes[""], "Anna")
     assert (await inside.join(own, ""))[0] is member
@@ -280,7 +282,7 @@ async def test_what_the_operator_wants_as_the_log_fails_is_answered(inside: Venu
         await teaching.done(inside, {"do": "door", "open": False})
     assert (found.value.code, found.value.text) == ("halted", LATER)
     other.rename(log)
-    await inside.resume()
+    await inside.starts.resume()
     assert not inside.members.is_open and '"kind":"door"' in log.read_text()
 
 
@@ -295,13 +297,13 @@ async def test_who_is_let_in_as_the_log_fails_is_answered(inside: Venue) -> None
             await inside.admit("Bank", "a token")
         assert (found.value.code, found.value.text) == ("halted", LATER)
         with pytest.raises(MessageError) as found:
-            await inside.next_round(2, inside.day.treatment(2))
+            await inside.groups.next_round(2, inside.day.treatment(2))
         assert found.value.text == "the venue has halted; nothing was done"
     other.rename(log)
-    await inside.resume()
-    assert inside.members.named("Bank") is not None and inside.round.number == 1
-    await inside.next_round(2, inside.day.treatment(2))
-    assert inside.round.number == 2
+    await inside.starts.resume()
+    assert inside.members.named("Bank") is not None and inside.rounds.now.number == 1
+    await inside.groups.next_round(2, inside.day.treatment(2))
+    assert inside.rounds.now.number == 2
 
 
 async def test_a_clock_that_is_set_is_said(
@@ -311,7 +313,7 @@ async def test_a_clock_that_is_set_is_said(
     monkeypatch.setattr(clock, "set_by", lambda: 3600.04)
     log = inside.folder / "venue.log"
     await comes(lambda: '"kind":"clock_set","ahead":3600.0' in log.read_text())
-    inside._look_at_clock()
+    inside.time.look()
     said = [it.getMessage() for it in caplog.records]
     assert len(said) == 1 and said[0].startswith("the machine's clock is 3600.0 s ahead of the ")
     measures = {it.name: it for it in Measures(inside, Gates()).collect()}
@@ -362,9 +364,10 @@ async def test_a_bucket() -> None:
 
 async def test_looks_at_trades_come_in_pages(client: Any, inside: Venue) -> None:
     """Three members look at 15,000 trades as fast as they may: orders hardly wait."""
-    [instrument] = inside.instruments.values()
-    instrument.trades.extend(views.Trade(it, 2 * it, 2 * it + 1, 1, 200) for it in range(1, 15_001))
-    instrument.start_call()
+    [instrument] = inside.rounds.now.boards.values()
+    trades = (views.Trade(it, 2 * it, 2 * it + 1, 1, 200) for it in range(1, 15_001))
+    instrument.looks.trades.extend(trades)
+    instrument.auctions.start_call()
     found = [await inside.join(inside.members.codes[""], f"member {it}") for it in range(4)]
     (me, _), *others = found
 

@@ -101,7 +101,7 @@ async def test_who_has_a_journal_while_the_day_runs(
     monkeypatch.setattr(engine, "IN_USE_SECONDS", 1.0)
     venue = Venue(DayTerms(is_synced=False, plan=Plan(call=0)), tmp_path, served.program())
     await venue.open()
-    board = venue.instruments["XYZ"]
+    board = venue.rounds.now.boards["XYZ"]
     words = [sys.executable, "-c", HOLDS, str(tmp_path / "XYZ.journal.csv")]
     async with asyncio.timeout(served.SECONDS):
         with subprocess.Popen(words, stdout=subprocess.PIPE) as child:
@@ -119,7 +119,7 @@ async def test_who_has_a_journal_while_the_day_runs(
             f"XYZ: its journal is in use by process {child.pid}: `kill -9 {child.pid}` ends it",
             "XYZ halted: journal in use: end the process that has it, then `resume`",
         ]
-        assert await venue.resume() == ["XYZ"] and halts_of(venue) == {}
+        assert await venue.starts.resume() == ["XYZ"] and halts_of(venue) == {}
         await venue.close()
 
 

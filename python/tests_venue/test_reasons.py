@@ -9,7 +9,7 @@ import pytest
 import served
 from browsing import Page, opened, joins
 from callauction.venue import messages
-from callauction.venue.venue import AHEAD, AWAY, DOES, STOOD
+from callauction.venue.timekeeping import AHEAD, AWAY, DOES, STOOD
 
 PACKAGE = served.PACKAGE / "callauction/venue"
 SAID = {"bad_message", "bad_phase", "bad_name", "above_limit", "not_covered", "no_shares"}

@@ -3,18 +3,19 @@ import asyncio
 import contextlib
 import json
 import pathlib
-import types
 from collections.abc import AsyncGenerator, Iterator
-from typing import Any, cast
+from typing import Any
 
 import aiohttp
 import pytest
 import served
 from browsing import SCREEN, TELEPHONE, opened
 from callauction.venue import AsyncClient, Client, VenueError
-from callauction.venue.config import InstrumentTerms, Plan
+from callauction.venue.config import DayTerms, InstrumentTerms
 from callauction.venue.instrument import BoardIdentity, Instrument
+from callauction.venue.log import Log
 from callauction.venue.messages import MessageError
+from callauction.venue.treatments import Treatment
 from conftest import FAST
 from test_messages import RECEIVED
 from test_operations import measured
@@ -159,15 +160,14 @@ def test_what_isnt_measured_in_a_halt_since_the_start(tmp_path: pathlib.Path) ->
             assert found["callboard_trades_total"] == {("XYZ",): 1}
 
 
-def test_what_is_said_before_a_first_look() -> None:
+def test_what_is_said_before_a_first_look(tmp_path: pathlib.Path) -> None:
     """An instrument that begins hasn't halted."""
-    engine = types.SimpleNamespace(halted=None, on_entry=None)
-    terms, nothing = InstrumentTerms(), cast(Any, None)
-    board = Instrument(BoardIdentity("XYZ"), terms, Plan(), nothing, cast(Any, engine), nothing)
+    of_day = InstrumentTerms(), Treatment(), DayTerms(), tmp_path, "none", Log(tmp_path / "log")
+    board = Instrument(BoardIdentity("XYZ"), *of_day, [])
     for halted, does in ((None, "begins"), ("journal failed", "has halted")):
-        engine.halted = halted
+        board.engine.halted = halted
         with pytest.raises(MessageError) as found:
-            board.check_seen()
+            board.looks.check_seen()
         assert found.value.text == f"XYZ {does}: what it has isn't known until it goes on"
 
 

@@ -9,6 +9,7 @@ from callauction.fix.orders import CLIENT, NUMBER, ORIGIN, SAID, SINCE, TIME, WH
 from callauction.fix.refusals import refuse
 from callauction.fix.tags import Given, Tag, now
 from callauction.venue.instrument import Instrument
+from callauction.venue.leaving import withdraw
 from callauction.venue.messages import MessageError, Order
 from callauction.venue.recovery import Entry
 
@@ -47,7 +48,7 @@ class Commands:
         """Waits for answers of a board. Raises MessageError where one is left as it halts."""
         waiting = {it for it in answers if not it.done()}
         while waiting:
-            self._seat.venue.check_running()
+            self._seat.venue.halts.check_running()
             if board.engine.halted is not None:
                 market = board.identity.market
                 raise MessageError("halted", f"{market} has halted and hasn't answered")
@@ -119,4 +120,4 @@ class Commands:
         """Sends the deletion of an order, where that can be."""
         with contextlib.suppress(MessageError):
             deletion = self.deletion(board, order, 0, {SAID: GONE})
-            self._seat.venue.withdraw(self._seat.member, board, deletion)
+            withdraw(self._seat.member, board, deletion)

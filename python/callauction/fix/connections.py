@@ -88,8 +88,8 @@ class Connections:
         assert wire.seat is not None
         self.on[wire.seat] = wire
         if wire.member is not None:
-            self.venue.enter(wire)
-            self.venue.show_members()
+            self.venue.audience.enter(wire)
+            self.venue.audience.show_members()
 
     def leave(self, wire: Wire, code: str) -> None:
         """Ends the session of a connection, for one of the ERRORS of messages: a removed member's
@@ -130,8 +130,7 @@ class Connections:
         wire.seat.feeds.clear()
         if self.is_ready:
             wire.seat.lost()
-        self.venue.watchers.pop(wire, None)
-        self.venue.show_members()
+        self.venue.audience.leave(wire)
 
     # ---- what changes
 
@@ -140,7 +139,7 @@ class Connections:
         if (wire := self.on.get(seat)) is not None:
             wire.topics = STATES
             if wire.member is None:
-                self.venue.enter(wire)
+                self.venue.audience.enter(wire)
 
     async def feed(self) -> None:
         """Sends sessions what they asked for of what has changed, as fast as they read it."""

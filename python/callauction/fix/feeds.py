@@ -125,9 +125,9 @@ def rows_of(board: Instrument, levels: Sequence[Level]) -> Rows:
     """All that a board indicates: price, volume and surplus, or the best limits without a price,
     with their visible shares where the levels of its book are given; nothing on a day that is over.
     """
-    if board.state.phase is Phase.OVER:
+    if board.auctions.state.phase is Phase.OVER:
         return {}
-    price, it = board.terms.price, board.indication
+    price, it = board.terms.price, board.looks.indication
     rows: list[Pairs] = []
     if it.price is not None:
         volume = (Tag.MD_ENTRY_SIZE, str(it.volume))
@@ -147,12 +147,12 @@ def rows_of(board: Instrument, levels: Sequence[Level]) -> Rows:
 
 def phase_of(venue: Venue, board: Instrument) -> Pairs:
     """The phase of a board; without the auction, and the end, of one that wasn't seen yet."""
-    state = board.state
-    is_halted = board.engine.halted is not None or venue.halted is not None
+    state = board.auctions.state
+    is_halted = board.engine.halted is not None or venue.halts.halted is not None
     text = "halted" if is_halted else "frozen" if state.frozen is not None else str(state.phase)
     status = STATUSES[state.phase] if text == state.phase else HALTED
     found: Pairs = [(Tag.TRADING_SESSION_ID, board.identity.market)]
-    if not board.is_seen:
+    if not board.looks.is_seen:
         is_new = text == state.phase
         status, text = (UNKNOWN, "unknown") if is_new else (status, text)
         return [*found, (Tag.TRAD_SES_STATUS, status), (Tag.TEXT, text)]
@@ -169,7 +169,7 @@ async def seen(board: Instrument) -> None:
     """Looks at a board; one whose program doesn't answer soon stays as it was last seen. Raises
     MessageError where it has halted.
     """
-    look = asyncio.create_task(board.refresh())
+    look = asyncio.create_task(board.looks.refresh())
     look.add_done_callback(lambda it: it.cancelled() or it.exception())  # which nobody may ask for
     await asyncio.wait({look}, timeout=SEEN_SECONDS)
     if look.done():
@@ -201,7 +201,7 @@ class Feeds:
     def send(self, send: Send) -> None:
         """Sends what is new, once for all that has changed since."""
         new, self.new = self.new, set()
-        boards = self._venue.instruments
+        boards = self._venue.rounds.now.boards
         for board in (boards[name] for name in new if name in boards):
             rows = rows_of(board, self.levels(board))
             for data in self.data.values():
@@ -211,7 +211,7 @@ class Feeds:
 
     def levels(self, board: Instrument) -> Sequence[Level]:
         """What is visible of a board's book at each limit, where that is open."""
-        return board.visible_levels if self._venue.is_open_book else []
+        return board.looks.visible_levels if self._venue.rounds.now.is_open_book else []
 
 
 async def ask_data(seat: "Seat", asked: Pairs, given: Given, number: int) -> None:

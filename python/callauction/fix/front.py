@@ -23,7 +23,7 @@ from callauction.fix.settings import settings_of
 from callauction.fix.tags import FIX44, FIXT, pairs_of
 from callauction.venue import gates, tokens
 from callauction.venue.fix_terms import Terms
-from callauction.venue.instrument import OPERATOR
+from callauction.venue.book import OPERATOR
 from callauction.venue.messages import MessageError
 from callauction.venue.serving import AddressError
 from callauction.venue.venue import Venue
@@ -97,7 +97,7 @@ class Front:
                 self._counts = self._outbound.engine.counts
         except (RuntimeError, OSError) as fault:
             raise AddressError(f"fix: {fault}") from None
-        if self._venue.is_known:
+        if not self._venue.starts.waiting:
             await self._begin()
         else:
             self._start(self._begin())
@@ -121,7 +121,7 @@ class Front:
     async def _begin(self) -> None:
         """Finds what was sent and what was taken, and sends what wasn't; then sessions may begin.
         """
-        while not self._venue.is_known:
+        while self._venue.starts.waiting:
             await asyncio.sleep(PAUSE)
         for seat in self._seats:
             await self._admit(seat)
@@ -200,7 +200,7 @@ class Front:
             self._connections.drain()
             if not self._outbound.is_writing and self._sent.waits(self._outbound.engine):
                 self._outbound.write()
-            self._reports.end_before(self._venue.round.number)
+            self._reports.end_before(self._venue.rounds.now.number)
 
     def _start(self, work: "Coroutine[Any, Any, None]") -> "asyncio.Task[None]":
         """Begins a task, which ends with the front; a fault of one ends the front."""

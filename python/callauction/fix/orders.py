@@ -12,7 +12,8 @@ from callauction.fix.tags import (
 )
 from callauction.fix.uncrosses import Seen
 from callauction.venue import views
-from callauction.venue.instrument import OPERATOR, Instrument
+from callauction.venue.book import OPERATOR
+from callauction.venue.instrument import Instrument
 from callauction.venue.recovery import Entry, Message
 from callauction.words import Refusal
 from callauction.words import MARKET as AT_MARKET

@@ -10,7 +10,8 @@ from callauction.fix.seats import Seat
 from callauction.fix.tags import Pairs, Tag, is_recent, now
 from callauction.fix.uncrosses import seen_at
 from callauction.venue.downloads import DownloadError
-from callauction.venue.instrument import OPERATOR, Instrument
+from callauction.venue.book import OPERATOR
+from callauction.venue.instrument import Instrument
 from callauction.venue.phases import UNCROSSED
 from callauction.venue.recovery import Entry, Message
 

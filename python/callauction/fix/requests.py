@@ -58,7 +58,7 @@ async def cancel_all(seat: "Seat", rows: Pairs, given: Given, number: int) -> No
     deleting = (deleted(seat, given, it, number, note) for it in boards)
     found = await asyncio.gather(*deleting)
     faults = {board: fault for board, fault in zip(boards, found) if fault is not None}
-    left = [it for it in faults if it.awaits(seat.name) or orders_of(seat, given, it)]
+    left = [it for it in faults if it.commands.awaits(seat.name) or orders_of(seat, given, it)]
     texts = (f"{it.identity.market} ({faults[it].text})" for it in left)
     text = f"not cancelled, and still open: {', '.join(texts)}"
     if not seat.epoch.deleted[number] and (left or len(faults) == len(boards)):
@@ -77,8 +77,8 @@ async def deleted(
     sent: list[asyncio.Future[Entry]] = []
     try:
         await seat.commands.until_known(board)
-        seat.venue.check_running()
-        board.check_open()
+        seat.venue.halts.check_running()
+        board.auctions.check_open()
         try:
             for it in orders_of(seat, given, board):
                 part = seat.commands.deletion(board, it.order, number, note)

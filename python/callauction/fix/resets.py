@@ -48,7 +48,7 @@ async def reset(connections: Connections, reports: Reports, comp_id: str) -> Non
             asyncio.get_running_loop().call_later(LEAVE_SECONDS, wire.cut, NO_ANSWER)
         await asyncio.wait_for(ended(connections, reports, seat), RESET_SECONDS)
         outbound.beginning.add(seat)
-        anew = functools.partial(begin_anew, outbound.engine, seat, connections.venue.mark)
+        anew = functools.partial(begin_anew, outbound.engine, seat, connections.venue.rounds.mark)
         await outbound.sent.begin_anew(outbound.engine, seat.session, anew)
     except TimeoutError:
         raise MessageError("halted", UNANSWERED.format(comp_id)) from None

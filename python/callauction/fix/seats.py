@@ -182,7 +182,9 @@ class Seat:
     async def taken_out(self) -> None:
         """Waits until it was told all that its boards answer, but for what has halted."""
         for board in self.boards():
-            while board.awaits(self.name) and not (board.engine.halted or self.venue.halted):
+            while board.commands.awaits(self.name):
+                if board.engine.halted or self.venue.halts.halted:
+                    break
                 await asyncio.sleep(HALT_PAUSE)
             await self.reports.stream(board).until_now()
 
@@ -273,7 +275,7 @@ class Seat:
         time = given.get(Tag.TRANSACT_TIME if is_resend else Tag.ORIG_SENDING_TIME)
         if time is None or (is_resend and given[Tag.CL_ORD_ID] in self.clients.numbers):
             return
-        if seconds_of(time) + self.behind < self.venue.began - ROUNDED:
+        if seconds_of(time) + self.behind < self.venue.starts.began - ROUNDED:
             raise SeatError(OTHER, MADE_BEFORE if is_resend else OTHER_DAY)
 
     def refuse_type(self, given: Given, event: str) -> None:
@@ -311,11 +313,11 @@ class Seat:
 
     def named_board(self, name: str) -> Instrument:
         """The board of a name. Raises MessageError."""
-        return self.venue.instrument_of(name, self.watcher)
+        return self.venue.rounds.instrument_of(name, self.watcher)
 
     def boards(self) -> list[Instrument]:
         """All boards that it sees."""
-        return [*self.venue.boards_of(self.watcher).values()]
+        return [*self.venue.rounds.boards_of(self.watcher).values()]
 
     def held(self, given: Given, client: str) -> Held | None:
         """The order that an id names as far as it is known now."""

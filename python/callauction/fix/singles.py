@@ -62,7 +62,7 @@ async def edit(seat: "Seat", rows: Pairs, given: Given, number: int) -> None:
     if of_round := former_round(seat, given, stream):
         raise SeatError(ENDED, f"{ended_text(held)}, and {of_round}")
     if not held.open:
-        is_over = seat.board(given).state.phase is Phase.OVER
+        is_over = seat.board(given).auctions.state.phase is Phase.OVER
         raise SeatError(ENDED, ended_text(held, is_over))
     asked: dict[str, Any] = {"type": "delete", "order": held.order, "number": number}
     if given[Tag.MSG_TYPE] == Type.REPLACE:
@@ -70,7 +70,7 @@ async def edit(seat: "Seat", rows: Pairs, given: Given, number: int) -> None:
         left = left_of(shares_of(given, Tag.ORDER_QTY), held)
         asked |= {"type": "change", "price": price_of(given), "quantity": left}
     board = seat.board(given)
-    board.check_open()
+    board.auctions.check_open()
     seat.commands.submit(given, number, board, messages.order_of(board.terms, asked).record)
 
 

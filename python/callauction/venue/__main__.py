@@ -22,11 +22,7 @@ from callauction.venue.begun import OtherDayError, OtherTermsError  # noqa: E402
 from callauction.venue.checking import checked  # noqa: E402
 from callauction.venue.config import DayTerms  # noqa: E402
 from callauction.venue.serving import (  # noqa: E402
-    Address,
-    AddressError,
-    Front,
-    serve,
-    stopped_by_signals,
+    Address, AddressError, Front, serve, stopped_by_signals,
 )
 from callauction.venue.venue import Venue  # noqa: E402
 

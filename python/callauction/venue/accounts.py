@@ -5,7 +5,7 @@ later counts for its whole period, and that of a member who left for what it tra
 members of a period gain together no more than most_gain.
 """
 import dataclasses
-from collections.abc import Callable, Iterable, Iterator, Mapping
+from collections.abc import Iterable, Iterator, Mapping
 
 from callauction.venue.gains import (
     Predicted, Uncovered, Value, gain_of, most_gain, predicted, used_of,
@@ -32,16 +32,15 @@ class Period:
     gone: set[str] = dataclasses.field(default_factory=set)
 
 
-FillsOf = Callable[[str], Iterable[Fill]]
-"""What gives the fills of the member of this name."""
-
-
 class Accounts:
-    """The periods of an instrument's day, of which the first begins with it."""
+    """The periods of an instrument's day, of which the first begins with it, and all fills by the
+    names of members.
+    """
 
     def __init__(self, uncovered: Uncovered) -> None:
         self.uncovered = uncovered
         self.periods = [Period(0)]
+        self.fills: dict[str, list[Fill]] = {}
 
     @property
     def values(self) -> dict[str, Value]:
@@ -74,51 +73,63 @@ class Accounts:
         """A member that had left is there again."""
         self.periods[-1].gone.discard(member)
 
-    def gain_of(self, member: str, fills: Iterable[Fill]) -> int:
+    def fills_of(self, member: str) -> list[Fill]:
+        """The fills of a member."""
+        return self.fills.get(member, [])
+
+    def gain_of(self, member: str) -> int:
         """What a member's fills gain, in ticks times shares. Those of a period in which nobody had
         a value count nothing.
         """
-        found = [*fills]
         return sum(
             gain_of(
                 period.values.get(member),
-                ((it.side, it.quantity, it.tick) for it in found if begin < it.trade <= end),
+                (
+                    (it.side, it.quantity, it.tick)
+                    for it in self.fills_of(member)
+                    if begin < it.trade <= end
+                ),
                 self.uncovered,
             )
             for period, begin, end in self._spans()
             if period.values
         )
 
-    def left_of(self, member: str, fills: Iterable[Fill]) -> int | None:
+    @property
+    def gain(self) -> int:
+        """What all members have gained, in ticks times shares."""
+        return sum(map(self.gain_of, self.fills))
+
+    def left_of(self, member: str) -> int | None:
         """How many shares more a member's value covers after its fills, None where it has none."""
         value = self.values.get(member)
         if value is None:
             return None
         held = sum(
             it.quantity if it.side == value.side else -it.quantity
-            for it in fills
+            for it in self.fills_of(member)
             if it.trade > self.since
         )
         return max(0, value.quantity - held)
 
-    def most(self, fills_of: FillsOf) -> int:
+    @property
+    def most(self) -> int:
         """The most that all could gain together, in ticks times shares."""
-        return sum(most_gain([*self._usable(*it, fills_of)]) for it in self._spans())
+        return sum(most_gain([*self._usable(*it)]) for it in self._spans())
 
-    def predicted(self, fills_of: FillsOf) -> Predicted | None:
+    @property
+    def predicted(self) -> Predicted | None:
         """What the values that members have now predict."""
         *_, last = self._spans()
-        return predicted([*self._usable(*last, fills_of)])
+        return predicted([*self._usable(*last)])
 
-    def _usable(
-        self, period: Period, begin: int, end: float, fills_of: FillsOf
-    ) -> Iterator[Value]:
+    def _usable(self, period: Period, begin: int, end: float) -> Iterator[Value]:
         """The values of a period, those of members who left as far as they used them."""
         for member, value in period.values.items():
             if member not in period.gone:
                 yield value
                 continue
-            fills = [it for it in fills_of(member) if begin < it.trade <= end]
+            fills = [it for it in self.fills_of(member) if begin < it.trade <= end]
             if used := used_of(value, ((it.side, it.quantity, it.tick) for it in fills)):
                 yield dataclasses.replace(value, quantity=used)
 

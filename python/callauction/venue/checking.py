@@ -16,34 +16,21 @@ from callauction.venue import begun, config, copies, gates, owned, room, tokens
 from callauction.venue.begun import OtherDayError, date_of
 from callauction.venue.fields import ConfigError
 from callauction.venue.fix_terms import SENT
-from callauction.venue.log import Line, read_lines, taking
+from callauction.venue.halts import PUT_BACK
+from callauction.venue.log import Line, check_version, read_lines, taking
 from callauction.venue.phases import Phase, State
 from callauction.venue.process import OPENED, START_SECONDS, ProcessError
 from callauction.venue.recovery import (
-    Entry,
-    RecoveryError,
-    RolledBackError,
-    entries_in,
-    entries_of,
-    first_of,
+    Entry, RecoveryError, RolledBackError, entries_in, entries_of, first_of, mark_of, runs_of,
     settled,
 )
 from callauction.venue.rounds import Round
 from callauction.venue.serving import DAY, OVER, Address, AddressError, ends_of
-from callauction.venue.venue import (
-    BEHIND,
-    LEAST_BEHIND,
-    LOG,
-    PUT_BACK,
-    Venue,
-    behind_of,
-    check_version,
-    mark_of,
-    runs_of,
-    set_since,
-    starting,
-    warnings_of_clock,
+from callauction.venue.starts import starting
+from callauction.venue.timekeeping import (
+    BEHIND, LEAST_BEHIND, behind_of, set_since, warnings_of_clock,
 )
+from callauction.venue.venue import LOG, Venue
 
 ROLES = ("operator", "beamer")
 MOST_OF_LINE = 4096
@@ -269,13 +256,15 @@ async def rehearse(
     known = [line for line in lines if line["kind"] != "sent"]
     with tempfile.TemporaryDirectory() as place:
         venue = Venue(day, pathlib.Path(place), program)
-        boards = venue.rehearse(known)
+        venue.rounds.learn(known)
+        boards = venue.rounds.boards
+        venue.starts.replay(known, {key: [] for key in boards})
         for key in [it for it in found if it in boards]:
             with starting(key):
                 journal, words = boards[key].engine.journal, boards[key].engine.words
                 check_first(words, folder / journal.name, journal)
         venue.log.close()
-    return venue.round
+    return venue.rounds.now
 
 
 def check_first(words: Sequence[str], journal: pathlib.Path, copy: pathlib.Path) -> None:

@@ -131,14 +131,13 @@ class Connection:
         if not await self._hello():
             return
         self._gate.known()
-        self._venue.enter(self)
+        self._venue.audience.enter(self)
         both = [asyncio.create_task(while_it_is_there(it)) for it in (self._write(), self._read())]
         try:
-            self._venue.greet(self)
+            self._venue.audience.greet(self)
             await asyncio.wait(both, return_when=asyncio.FIRST_COMPLETED)
         finally:
-            self._venue.watchers.pop(self, None)
-            self._venue.show_members()
+            self._venue.audience.leave(self)
             await self._end(both)
 
     async def _end(self, both: list[asyncio.Task[None]]) -> None:
@@ -194,7 +193,7 @@ class Connection:
             return False
         if self.member is not None:
             self._bucket = self.member.bucket
-        await self._socket.send_str(packed(self._venue.welcome_of(self)))
+        await self._socket.send_str(packed(self._venue.audience.welcome_of(self)))
         return True
 
     def _take(self, text: str) -> bool:
@@ -212,7 +211,7 @@ class Connection:
                 raise fault
             if self.member is None or given["type"] not in messages.ORDER_FIELDS:
                 raise MessageError("not_allowed")
-            terms = self._venue.instrument_of(given.get("instrument"), self.member).terms
+            terms = self._venue.rounds.instrument_of(given.get("instrument"), self.member).terms
             order = messages.order_of(terms, given)
             answer, is_again = self._venue.submit(self.member, order)
         except MessageError as fault:

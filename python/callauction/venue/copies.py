@@ -21,13 +21,9 @@ from callauction.venue.fix_terms import SENT
 from callauction.venue.log import Line, LogError, read_lines, text_of
 from callauction.venue.owned import OwnerError
 from callauction.venue.recovery import (
-    Entry,
-    RecoveryError,
-    RolledBackError,
-    entries_in,
-    settled,
+    Entry, RecoveryError, RolledBackError, entries_in, mark_of, runs_of, settled,
 )
-from callauction.venue.venue import LOG, mark_of, runs_of
+from callauction.venue.venue import LOG
 
 JOURNAL = ".journal.csv"
 TOKEN = ".token"

@@ -148,7 +148,7 @@ async def output(words: list[str], given: bytes) -> bytes:
 
 def members_of(instrument: Instrument, title_of: Titles, language: str = PLAIN) -> bytes:
     """The names of the members by their numbers in the journal."""
-    numbers = instrument.numbers.items()
+    numbers = instrument.book.numbers.items()
     rows: list[SheetRow] = [{"number": it, "name": plain(title_of(name))} for name, it in numbers]
     return table(("number", "name"), rows, language)
 
@@ -162,7 +162,7 @@ def results_of(lesson: Lesson) -> Iterator[SheetRow]:
     """The results of all members, round by round, and then what they are paid."""
     for round_, board in lesson.boards():
         for member in lesson.members.everybody:
-            has_part = member.name in board.numbers or member.name in board.accounts.values
+            has_part = member.name in board.book.numbers or member.name in board.accounts.values
             if has_part or (member.group == board.identity.group and not member.is_removed):
                 head = {"name": plain(member.title), "robot": member.robot}
                 yield head | result_of(lesson.day, round_, board, member.name)
@@ -174,7 +174,7 @@ def results_of(lesson: Lesson) -> Iterator[SheetRow]:
 
 def result_of(day: config.DayTerms, round_: Round, board: Instrument, member: str) -> SheetRow:
     """What a member came to on a board."""
-    fills = board.fills_of(member)
+    fills = board.accounts.fills_of(member)
     found: SheetRow = {
         "round": round_.number,
         "title": plain(round_.treatment.title),
@@ -195,11 +195,11 @@ def result_of(day: config.DayTerms, round_: Round, board: Instrument, member: st
 
 def gains_of(day: config.DayTerms, round_: Round, board: Instrument, member: str) -> SheetRow:
     """What a member gained on a board, what all could, and the share of it that they did."""
-    gain = results.money_of(board, board.gain_of(member))
-    most = board.most
+    gain = results.money_of(board, board.accounts.gain_of(member))
+    most = board.accounts.most
     found: SheetRow = {"gain": gain, "possible": results.money_of(board, most)}
     if most:
-        found["efficiency"] = f"{board.gain / most:.4f}"
+        found["efficiency"] = f"{board.accounts.gain / most:.4f}"
     if not round_.treatment.is_practice:
         found["payoff"] = day.payoff.rate * gain
     return found
@@ -213,7 +213,7 @@ async def trades_of(lesson: Lesson, paths: dict[str, pathlib.Path]) -> list[Shee
         printed = await output([lesson.program, "--print", "trades"], given)
         for row in csv.DictReader(io.StringIO(printed.decode("ascii"))):
             quantity, tick = int(row["quantity"]), int(row["tick"])
-            names = [board.names.get(int(row[f"{it}_member"]), "") for it in ("bid", "ask")]
+            names = [board.book.names.get(int(row[f"{it}_member"]), "") for it in ("bid", "ask")]
             buyer, seller = (plain(lesson.members.title_of(it)) for it in names)
             found.append(
                 {
@@ -257,7 +257,7 @@ def board_of(
     lesson: Lesson, round_: Round, board: Instrument, language: str
 ) -> dict[str, Any]:
     """What a report says of a board."""
-    most = board.most
+    most = board.accounts.most
     return {
         "key": board.identity.key,
         "title": title_of(lesson, round_, board, language),
@@ -266,7 +266,7 @@ def board_of(
         "tick_size": format(board.terms.grid.tick_size, "f"),
         "currency": board.terms.currency,
         "possible": format(results.money_of(board, most), "f"),
-        "efficiency": f"{100 * board.gain // most} %" if most else None,
+        "efficiency": f"{100 * board.accounts.gain // most} %" if most else None,
     }
 
 

@@ -27,19 +27,8 @@ from callauction.venue.messages import MessageError
 from callauction.venue.owned import OwnerError
 from callauction.venue.process import IN_USE, Process, ProcessError
 from callauction.venue.recovery import (
-    Entry,
-    OTHER_FIRST,
-    Mark,
-    Message,
-    RecoveryError,
-    RolledBackError,
-    Run,
-    Sum,
-    first_of,
-    known_entries,
-    matched,
-    settled,
-    sums_of,
+    Entry, OTHER_FIRST, Mark, Message, RecoveryError, RolledBackError, Run, Sum, first_of,
+    known_entries, matched, settled, sums_of,
 )
 
 ENTERED = re.compile(r"(\d+): (.*)")
@@ -209,8 +198,7 @@ class Engine:
         entry, once it is there. The future's exception is a MessageError where the program takes no
         more commands, or halts while the message is held. Raises MessageError until it is open.
         """
-        if not self.is_open:
-            raise MessageError("halted", self.halted or "")
+        self.check_known()
         loop = asyncio.get_running_loop()
         sent = Sent(message, loop.create_future(), loop.time())
         if self._holds and not is_first:
@@ -218,6 +206,11 @@ class Engine:
         else:
             self._take(sent)
         return sent.answer
+
+    def check_known(self) -> None:
+        """Raises MessageError while it isn't known what its journal has of earlier runs."""
+        if not self.is_open:
+            raise MessageError("halted", self.halted or "")
 
     def _take(self, sent: Sent) -> None:
         """Sends a message once it is on the log's disk."""
@@ -322,6 +315,10 @@ class Engine:
                 self.on_change()
 
         self.log.append("\n".join(lines), go)
+
+    def note(self, kind: str, **line: Any) -> None:
+        """Writes a line about its instrument to the log."""
+        self.log.note(kind=kind, instrument=self.name, **line)
 
     def _line(self, message: Message) -> str:
         """The log's line of a message."""

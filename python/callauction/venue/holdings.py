@@ -12,7 +12,6 @@ from callauction.venue.accounts import Fill
 from callauction.venue.gains import Value
 from callauction.venue.messages import MessageError
 from callauction.venue.treatments import Limits
-from callauction.venue.views import MemberOrder
 from callauction.words import MARKET
 
 
@@ -38,42 +37,6 @@ class Own:
 
 Ways = list[Own]
 """What an order may be: as it is, and as each record that isn't answered may make it."""
-
-
-class Book:
-    """The open orders of all members by their numbers, as far as they follow from the replies, and
-    how many these are.
-    """
-
-    def __init__(self) -> None:
-        self._by_member: dict[int, dict[int, Own]] = {}
-        self.count = 0
-
-    def seen(self, orders: Iterable[MemberOrder]) -> None:
-        """All open orders, as the program shows them."""
-        self._by_member = {}
-        for it in orders:
-            self.of_member(it.member)[it.order] = Own(it.side, it.open, it.limit)
-        self.count = sum(map(len, self._by_member.values()))
-
-    def take(self, record: str, reply: str) -> None:
-        """Takes a command and its reply."""
-        member, word, *fields = record.split(",")
-        if word not in ("enter", "change", "delete"):
-            return
-        orders, done = self.of_member(int(member)), reply.partition(" ")
-        before = len(orders)
-        if done[0] == "entered":
-            orders[int(done[2])] = entered(fields)
-        elif done[0] == "changed" and (found := orders.get(int(fields[0]))):
-            orders[int(fields[0])] = changed(found, fields)
-        elif done[0] == "deleted":
-            orders.pop(int(fields[0]), None)
-        self.count += len(orders) - before
-
-    def of_member(self, member: int) -> dict[int, Own]:
-        """A member's open orders."""
-        return self._by_member.setdefault(member, {})
 
 
 def entered(fields: list[str]) -> Own:

@@ -212,7 +212,7 @@ class Site:
             {
                 "title": venue.day.title,
                 "language": venue.day.language,
-                "instruments": [shown.terms_of(it) for it in venue.boards_of(None).values()],
+                "instruments": [shown.terms_of(it) for it in venue.rounds.boards_of(None).values()],
             }
         )
 
@@ -257,13 +257,14 @@ class Site:
     async def _look(self, request: web.Request) -> web.Response:
         """What a member may see of an instrument."""
         member = self._member_of(request)
-        instrument = self._venue.instrument_of(request.query.get("instrument"), member)
+        instrument = self._venue.rounds.instrument_of(request.query.get("instrument"), member)
         what = request.match_info["what"]
         if what == "state":
-            return answered(self._venue.state_of(instrument))
-        instrument.check_seen()
+            return answered(self._venue.audience.state_of(instrument))
+        instrument.looks.check_seen()
         if what == "orders":
-            return answered(await teaching.orders_of(instrument, member.name))
+            await instrument.looks.see_orders_of(member.name)
+            return answered(shown.orders_of(instrument, member.name))
         if what == "fills":
             return answered(shown.fills_of(instrument, member.name))
         if what == "trades":
@@ -271,12 +272,12 @@ class Site:
             if not first.isdecimal() or len(first) > 10:
                 raise MessageError("bad_message", "first is no number of a trade")
             begin = max(0, int(first) - 1)
-            page = instrument.trades[begin : begin + shown.MOST_SHOWN]
+            page = instrument.looks.trades[begin : begin + shown.MOST_SHOWN]
             return answered(shown.trades_of(instrument, page))
         if what == "ladder":
-            if not self._venue.is_open_book:
+            if not self._venue.rounds.now.is_open_book:
                 raise MessageError("not_allowed", "the book is closed in this round")
-            await instrument.refresh(has_ladder=True)
+            await instrument.looks.refresh(has_ladder=True)
             return answered(shown.ladder_of(instrument))
         raise web.HTTPNotFound
 
@@ -307,11 +308,11 @@ class Site:
         """The board that a download is asked of: of this round, or of an earlier one. Raises
         MessageError.
         """
-        number = request.query.get("round", str(self._venue.round.number))
+        number = request.query.get("round", str(self._venue.rounds.now.number))
         is_number = number.isdecimal() and len(number) < 10
-        if not is_number or not 1 <= int(number) <= self._venue.round.number:
+        if not is_number or not 1 <= int(number) <= self._venue.rounds.now.number:
             raise MessageError("bad_message", "there is no such round")
-        round_ = self._venue.rounds[int(number) - 1]
+        round_ = self._venue.rounds.all[int(number) - 1]
         if found := round_.boards.get(request.match_info["instrument"]):
             return found
         raise MessageError("unknown_instrument")
@@ -338,9 +339,9 @@ class Site:
             raise web.HTTPNotFound
         board = self._board_of(request)
         if kind in downloads.OF_ALL:
-            self._venue.check_gains_known()
+            self._venue.rounds.check_seen()
         elif kind == "members":
-            board.check_known()
+            board.engine.check_known()
         language = request.query.get("language", sheets.PLAIN)
         if language not in sheets.LANGUAGES:
             raise MessageError("bad_message", "language is none of en, de")

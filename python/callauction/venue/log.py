@@ -18,6 +18,7 @@ from typing import Any
 
 from callauction.venue import clock, leftovers, owned
 
+VERSION = 2
 Line = dict[str, Any]
 Then = Callable[[], None]
 SOURCE: contextvars.ContextVar[str] = contextvars.ContextVar("source", default="")
@@ -99,6 +100,12 @@ def fields_of(line: Line) -> list[tuple[str, type]]:
     """The fields that a line has to have by its kind, and the kind of each."""
     found: list[tuple[str, type]] = [("kind", str), *FIELDS.get(line["kind"], {}).items()]
     return found + [("instrument", str)] * ("instrument" in line)
+
+
+def check_version(lines: list[Line], path: pathlib.Path) -> None:
+    """Raises OtherVersion where the lines of a log are another version's."""
+    if lines and lines[0].get("version") != VERSION:
+        raise OtherVersion(f"{path} is the log of another version")
 
 
 @contextlib.contextmanager

@@ -5,6 +5,7 @@ A member's `name` is the one by which it joined, which the log has; its `title` 
 import asyncio
 import dataclasses
 import unicodedata
+from collections.abc import Mapping
 
 from callauction.venue import config, fields, tokens
 from callauction.venue.log import Line, Log
@@ -236,6 +237,12 @@ class Members:
         """Nobody is this member any more."""
         self.forget(member.name)
         self._log.note(kind="removed", name=member.name)
+
+    def move(self, groups: Mapping[str, int]) -> None:
+        """Members are in these groups from now on."""
+        for name, group in groups.items():
+            if member := self.named(name):
+                member.group = group
 
     def forget(self, name: str) -> None:
         """The member of this name is removed."""

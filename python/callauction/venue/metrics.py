@@ -45,11 +45,11 @@ class Measures:
     def _of_venue(self) -> Iterator[Metric]:
         """Those of the whole venue."""
         venue = self._venue
-        there = [it for it in venue.watchers if it.role == "member"]
+        there = [it for it in venue.audience.watchers if it.role == "member"]
         disk = os.statvfs(venue.folder)
         values: dict[str, tuple[str, float]] = {
             "up": ("1 while the venue runs", 1),
-            "venue_halted": ("1 while the whole venue has halted", int(bool(venue.halted))),
+            "venue_halted": ("1 while the whole venue has halted", int(bool(venue.halts.halted))),
             "members": ("members who have joined", len(venue.members.all)),
             "members_connected": ("members who are connected", len({it.member for it in there})),
             "connections": ("connections that are open", len(self._gates)),
@@ -87,9 +87,9 @@ class Measures:
         for name, what in gauges.items():
             gauge = GaugeMetricFamily(f"{PREFIX}_{name}", what, labels=OF_INSTRUMENTS)
             for of, instrument in self._known(name):
-                is_halted = name == "halted" and self._venue.halted is not None
+                is_halted = name == "halted" and self._venue.halts.halted is not None
                 gauge.add_metric([of], max(is_halted, value_of(instrument, name)))
-            for early, _ in self._venue.early_halts if name == "halted" else ():
+            for early, _ in self._venue.rounds.early_halts if name == "halted" else ():
                 gauge.add_metric([early_name(early)], 1)
             yield gauge
         for name, what in counters.items():
@@ -100,8 +100,8 @@ class Measures:
 
     def _known(self, name: str) -> Iterator[tuple[str, Instrument]]:
         """The instruments of which a measure is known, by their names."""
-        for of, instrument in self._venue.instruments.items():
-            if instrument.is_seen or name in OF_PROGRAMS:
+        for of, instrument in self._venue.rounds.now.boards.items():
+            if instrument.looks.is_seen or name in OF_PROGRAMS:
                 yield of, instrument
 
     def _phases(self) -> Metric:
@@ -111,14 +111,14 @@ class Measures:
         )
         for name, instrument in self._known("phase"):
             for phase in Phase:
-                found.add_metric([name, str(phase)], int(instrument.state.phase is phase))
+                found.add_metric([name, str(phase)], int(instrument.auctions.state.phase is phase))
         return found
 
     def _answers(self) -> Metric:
         """How long members waited for their answers."""
         what = "from a message's arrival to its answer"
         found = HistogramMetricFamily(f"{PREFIX}_answer_seconds", what, labels=OF_INSTRUMENTS)
-        for name, instrument in self._venue.instruments.items():
+        for name, instrument in self._venue.rounds.now.boards.items():
             times = instrument.engine.times
             found.add_metric([name], [*times.buckets()], times.total)
         return found
@@ -145,12 +145,12 @@ def value_of(instrument: Instrument, name: str) -> float:
     values = {
         "halted": int(engine.halted is not None),
         "waiting": engine.waiting,
-        "calls_left": instrument.day.left,
-        "calls_left_to_members": max(0, instrument.left_to_members),
-        "orders_open": instrument.open_count,
-        "orders_left": instrument.terms.open - instrument.open_count,
+        "calls_left": instrument.looks.day.left,
+        "calls_left_to_members": max(0, instrument.commands.left),
+        "orders_open": instrument.book.count,
+        "orders_left": instrument.terms.open - instrument.book.count,
         "orders": engine.count,
-        "trades": len(instrument.trades),
+        "trades": len(instrument.looks.trades),
         "restarts": engine.restarts,
     }
     return values[name]
@@ -177,10 +177,10 @@ def application(venue: Venue, gates: Gates, others: Others = ()) -> web.Applicat
 
 def halts_of(venue: Venue) -> dict[str, str]:
     """Why the venue, and each of its instruments, has halted, where it has."""
-    halted = {name: it.engine.halted for name, it in venue.instruments.items()}
+    halted = {name: it.engine.halted for name, it in venue.rounds.now.boards.items()}
     found = {name: why for name, why in halted.items() if why is not None}
-    early = {early_name(it): why for it, why in venue.early_halts}
-    return found | early | ({"venue": venue.halted} if venue.halted else {})
+    early = {early_name(it): why for it, why in venue.rounds.early_halts}
+    return found | early | ({"venue": venue.halts.halted} if venue.halts.halted else {})
 
 
 def early_name(board: Instrument) -> str:

@@ -14,6 +14,8 @@ import hashlib
 import pathlib
 from collections.abc import Iterable, Mapping, Sequence
 
+from callauction.venue.leftovers import Program
+from callauction.venue.log import Line, taking
 
 BLOCK = 1 << 18
 OTHER_FIRST = "the journal is another one: its first line isn't the day's"
@@ -195,4 +197,38 @@ def settled(
         raise RecoveryError("the journal has entries, and the log none of its messages")
     for run, end in zip(runs, ends):
         found += matched(run.messages, entries[run.begin : end])
+    return found
+
+
+def runs_of(lines: Iterable[Line]) -> dict[str, list[Run]]:
+    """The runs of each instrument's program, as the log has them."""
+    found: dict[str, list[Run]] = {}
+    for line in lines:
+        if line["kind"] == "start":
+            found.setdefault(line["instrument"], []).append(Run(line["entries"]))
+        elif line["kind"] == "sent":
+            with taking(line):
+                note = dict(line.get("note", {}))
+                message = Message(line["member"], line["number"], line["record"], note=note)
+                found[line["instrument"]][-1].messages.append(message)
+    return found
+
+
+def mark_of(lines: Iterable[Line]) -> Mark:
+    """The last mark of a journal that its lines of the log have."""
+    found = Mark()
+    for line in lines:
+        if line["kind"] in ("start", "mark"):
+            first = line.get("first", found.first)
+            found = Mark(line["entries"], line.get("sha256", ""), first)
+    return found
+
+
+def program_of(lines: Iterable[Line]) -> Program | None:
+    """The program of the last run that its lines of the log have. Raises LogError."""
+    found = None
+    for line in lines:
+        if line["kind"] == "start":
+            with taking(line):
+                found = Program.kept_in(line)
     return found

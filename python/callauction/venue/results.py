@@ -46,7 +46,7 @@ def gain_in(round_: Round, member: str) -> Decimal | None:
     boards = [it for it in round_.boards.values() if it.accounts.has_values]
     if not boards:
         return None
-    return sum((money_of(it, it.gain_of(member)) for it in boards), Decimal(0))
+    return sum((money_of(it, it.accounts.gain_of(member)) for it in boards), Decimal(0))
 
 
 def payoff_of(day: config.DayTerms, rounds: Iterable[Round], member: Member) -> Payoff:

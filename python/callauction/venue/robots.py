@@ -3,15 +3,16 @@ a time by chance from when it has one.
 """
 import asyncio
 import random
-from collections.abc import Iterator
-from typing import Protocol
+from collections.abc import Callable, Iterator
 
 from callauction.venue import clock
 from callauction.venue.gains import Value
+from callauction.venue.halts import Halts
 from callauction.venue.instrument import Instrument
 from callauction.venue.members import Member, Members
 from callauction.venue.messages import MessageError, Order
 from callauction.venue.recovery import Entry
+from callauction.venue.rounds import Rounds
 
 KINDS = ("zero", "truthful", "shading")
 """Zero intelligence, a price by chance at which nothing is lost; the value itself; a tenth less
@@ -25,29 +26,17 @@ MOST_SHARE = 0.7
 MOST_ROBOTS = 200
 QUANTITIES = range(10, 101, 10)
 CHANCE = random.SystemRandom()
+Submit = Callable[[Member, Order], "tuple[asyncio.Future[Entry], bool]"]
+"""What sends a message of a member. Raises MessageError."""
 Turn = tuple[str, str, str]
 """A robot's turn: its name, the key of its board, the auction."""
-
-
-class Host(Protocol):
-    """A venue, as robots see it."""
-
-    members: Members
-    halted: str | None
-
-    @property
-    def instruments(self) -> dict[str, Instrument]:
-        """The boards of the round that is played."""
-
-    def submit(self, member: Member, order: Order) -> "tuple[asyncio.Future[Entry], bool]":
-        """Sends a message of a member. Raises MessageError."""
 
 
 class Robots:
     """The robots of a venue."""
 
-    def __init__(self, venue: Host) -> None:
-        self._venue = venue
+    def __init__(self, members: Members, rounds: Rounds, halts: Halts, submit: Submit) -> None:
+        self._members, self._rounds, self._halts, self._submit = members, rounds, halts, submit
         self._due: dict[Turn, float] = {}
 
     async def run(self) -> None:
@@ -55,7 +44,7 @@ class Robots:
         while True:
             await asyncio.sleep(PAUSE)
             for member, board in self._turns():
-                turn = member.name, board.identity.key, board.state.auction
+                turn = member.name, board.identity.key, board.auctions.state.auction
                 if turn not in self._due:
                     self._due[turn] = clock.now() + CHANCE.random() * window(board)
                 if self._due[turn] <= clock.now():
@@ -64,23 +53,23 @@ class Robots:
 
     def _turns(self) -> Iterator[tuple[Member, Instrument]]:
         """The robots that may enter an order, and where."""
-        robots = [it for it in self._venue.members.all if it.robot]
-        for board in self._venue.instruments.values():
-            halted = board.engine.halted or self._venue.halted
-            if board.state.takes_orders() and not halted:
+        robots = [it for it in self._members.all if it.robot]
+        for board in self._rounds.now.boards.values():
+            halted = board.engine.halted or self._halts.halted
+            if board.auctions.state.takes_orders() and not halted:
                 here = (it for it in robots if it.group == board.identity.group)
                 yield from ((it, board) for it in here if not waits(it, board))
 
     def _play(self, member: Member, board: Instrument) -> None:
         """Enters a robot's order, unless it has one."""
-        if board.open_orders(member.name):
+        if board.commands.open_orders(member.name):
             return
         record = record_of(member.robot, board, member.name)
         if record is None:
             return
         try:
             order = Order(member.last + 1, board.terms.name, record)
-            answer, _ = self._venue.submit(member, order)
+            answer, _ = self._submit(member, order)
         except MessageError:
             return  # such as one that the limits of the round refuse
         answer.add_done_callback(lambda it: it.cancelled() or it.exception())
@@ -93,7 +82,7 @@ def waits(robot: Member, board: Instrument) -> bool:
 
 def window(board: Instrument) -> float:
     """The seconds in which the robots enter their orders."""
-    ends = board.state.ends
+    ends = board.auctions.state.ends
     return MOST_SECONDS if ends is None else min(MOST_SECONDS, MOST_SHARE * (ends - clock.now()))
 
 
@@ -102,7 +91,7 @@ def record_of(kind: str, board: Instrument, member: str) -> str | None:
     value = board.accounts.values.get(member)
     if value is None:
         return blind(board) if kind == "zero" else None
-    left = board.accounts.left_of(member, board.fills_of(member))
+    left = board.accounts.left_of(member)
     if not left:
         return None
     tick = max(board.terms.low, min(board.terms.high, tick_of(kind, value, board)))
@@ -122,7 +111,7 @@ def tick_of(kind: str, value: Value, board: Instrument) -> int:
 
 def blind(board: Instrument) -> str:
     """The order of a robot that has no value."""
-    reference = board.day.reference
+    reference = board.looks.day.reference
     least = max(board.terms.low, reference - reference // 4)
     most = min(board.terms.high, reference + reference // 4)
     quantity = min(CHANCE.choice(QUANTITIES), board.terms.most_quantity)

@@ -2,27 +2,29 @@
 groups as they need.
 """
 import dataclasses
-from collections.abc import Iterable, Mapping, Sequence
+import pathlib
+from collections.abc import Callable, Iterable, Mapping, Sequence
 
+from callauction.venue import config
 from callauction.venue.gains import Value
-from callauction.venue.handing import ListedValue
-from callauction.venue.instrument import Instrument
-from callauction.venue.phases import Phase
+from callauction.venue.instrument import BoardIdentity, Instrument
+from callauction.venue.log import Line, Log, taking
+from callauction.venue.members import Member
+from callauction.venue.messages import MessageError
+from callauction.venue.phases import Phase, PhaseError
 from callauction.venue.treatments import Treatment
 
 
 @dataclasses.dataclass
 class Round:
     """A round: its number, from 1; what it is; its boards by their names; the message to all, which
-    may be another one than its treatment's; by markets the rows of lists for who hasn't joined yet.
+    may be another one than its treatment's.
     """
 
     number: int
     treatment: Treatment
     boards: dict[str, Instrument]
     message: str = ""
-    has_dealt: bool = False
-    listed: dict[str, tuple[ListedValue, ...]] = dataclasses.field(default_factory=dict)
 
     @property
     def groups(self) -> int:
@@ -32,17 +34,23 @@ class Round:
     @property
     def has_begun(self) -> bool:
         """Whether a call was started."""
-        return any(it.has_begun for it in self.boards.values())
+        return any(it.auctions.has_begun for it in self.boards.values())
 
     @property
     def is_between(self) -> bool:
         """Whether no auction is going on."""
-        return all(it.state.phase in (Phase.WAITING, Phase.OVER) for it in self.boards.values())
+        phases = {it.auctions.state.phase for it in self.boards.values()}
+        return phases <= {Phase.WAITING, Phase.OVER}
+
+    @property
+    def is_open_book(self) -> bool:
+        """Whether members see the book."""
+        return self.treatment.book == "open"
 
     @property
     def is_over(self) -> bool:
         """Whether the last auctions of all boards were uncrossed."""
-        return all(it.state.phase is Phase.OVER for it in self.boards.values())
+        return all(it.auctions.state.phase is Phase.OVER for it in self.boards.values())
 
     def of_group(self, group: int) -> dict[str, Instrument]:
         """The boards of a group."""
@@ -67,6 +75,145 @@ class Round:
                 if (group := groups.get(name, board.identity.group)) != board.identity.group:
                     value = board.accounts.values.pop(name)
                     others[group].accounts.values[name] = value
+
+    def treat(self, treatment: Treatment, plan: config.Plan) -> None:
+        """It is this one, of a day with such phases."""
+        self.treatment, self.message = treatment, treatment.message
+        for board in self.boards.values():
+            board.treat(treatment, plan)
+
+
+class Rounds:
+    """The rounds of a venue so far, in its folder; `on_board` is called with each new board, whose
+    program isn't started yet, and `restores` are the log's lines of those of its day.
+    """
+
+    def __init__(self, day: config.DayTerms, folder: pathlib.Path, program: str, log: Log) -> None:
+        self._day, self._folder, self._program, self._log = day, folder, program, log
+        self.all: list[Round] = []
+        self.restores: list[Line] = []
+        self.on_board: Callable[[Instrument], None] = lambda board: None
+
+    @property
+    def now(self) -> Round:
+        """The round that is played."""
+        return self.all[-1]
+
+    @property
+    def mark(self) -> str:
+        """The mark of the last restore of its day, empty for none."""
+        return str(self.restores[-1]["mark"]) if self.restores else ""
+
+    # ---- rounds
+
+    def new(self, number: int, treatment: Treatment, groups: int = 1) -> Round:
+        """A round, whose programs aren't started yet."""
+        found = Round(number, treatment, {}, treatment.message)
+        for group in range(1, groups + 1):
+            self.add_group(found, group)
+        return found
+
+    def add_group(self, round_: Round, group: int) -> list[Instrument]:
+        """The boards of one group more."""
+        added = []
+        for terms in self._day.instruments:
+            identity = BoardIdentity(terms.name, group, round_.number)
+            own = self._day, self._folder, self._program, self._log, self.restores
+            board = Instrument(identity, terms, round_.treatment, *own)
+            self.on_board(board)
+            round_.boards[identity.name] = board
+            added.append(board)
+        return added
+
+    def note(self, round_: Round) -> None:
+        """Writes a round to the log."""
+        kept = round_.treatment.kept()
+        self._log.note(kind="round", round=round_.number, groups=round_.groups, treatment=kept)
+
+    def treat(self, treatment: Treatment) -> None:
+        """Makes this round another one, with the same reference. Raises PhaseError once a call was
+        started.
+        """
+        if self.now.has_begun:
+            raise PhaseError("the round has begun")
+        self.now.treat(treatment, self._day.plan)
+        self._log.note(kind="treat", round=self.now.number, treatment=treatment.kept())
+
+    def announce(self, text: str) -> None:
+        """Says something to all in this round."""
+        self.now.message = text
+        self._log.note(kind="message", round=self.now.number, text=text)
+
+    def learn(self, lines: Iterable[Line]) -> None:
+        """Makes the rounds and the groups that the log has. Raises LogError."""
+        rounds = []
+        for line in lines:
+            with taking(line):
+                if line["kind"] == "round":
+                    if line["groups"] > self._day.members.most:
+                        raise ValueError
+                    treatment = Treatment.of(line["treatment"])
+                    rounds.append(self.new(line["round"], treatment, line["groups"]))
+                elif line["kind"] == "group":
+                    self.add_group(rounds[line["round"] - 1], line["group"])
+        self.all = rounds or self.all
+
+    # ---- boards
+
+    @property
+    def boards(self) -> dict[str, Instrument]:
+        """The boards of all rounds, by their keys."""
+        return {it.identity.key: it for round_ in self.all for it in round_.boards.values()}
+
+    def boards_of(self, member: Member | None) -> dict[str, Instrument]:
+        """The boards that somebody sees: a member those of its group."""
+        return self.now.boards if member is None else self.now.of_group(member.group)
+
+    def instrument_of(self, name: object, member: Member | None = None) -> Instrument:
+        """The board of this name, or the only one; for a member, that of its own group. Raises
+        MessageError.
+        """
+        boards = self.boards_of(member)
+        if isinstance(name, str) and name in boards:
+            return boards[name]
+        own = [*boards.values()]
+        if name is None and len(own) == 1:
+            return own[0]
+        for it in own:
+            if member and name == it.identity.market:
+                return it
+        if name is None and own:
+            first = own[0].identity.market
+            text = f'name one of {len(own)} instruments, as "instrument": "{first}"'
+            raise MessageError("unknown_instrument", text)
+        raise MessageError("unknown_instrument")
+
+    def market_of(self, name: object) -> list[Instrument]:
+        """The boards of all groups in the market of this name, or in the only one. Raises
+        MessageError.
+        """
+        markets = {it.identity.market for it in self.now.boards.values()}
+        if name is None and len(markets) == 1:
+            return self.now.of_market(markets.pop())
+        return self.now.of_market(self.instrument_of(name).identity.market)
+
+    @property
+    def are_seen(self) -> bool:
+        """Whether it was seen what all boards have."""
+        return all(it.looks.is_seen for it in self.boards.values())
+
+    def check_seen(self) -> None:
+        """Raises MessageError until it was seen what all boards have."""
+        for board in self.boards.values():
+            board.looks.check_seen()
+
+    @property
+    def early_halts(self) -> list[tuple[Instrument, str]]:
+        """The boards of earlier rounds that have halted before it was seen what they have, and why.
+        """
+        boards = [it for round_ in self.all[:-1] for it in round_.boards.values()]
+        halts = [(it, it.engine.halted) for it in boards if not it.looks.is_seen]
+        return [(it, why) for it, why in halts if why is not None]
 
 
 def dealt(names: Sequence[str], groups: int) -> dict[str, int]:

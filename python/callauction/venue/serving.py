@@ -263,14 +263,15 @@ class Pages:
 
 def lines_of_begin(venue: Venue, entries: int) -> list[str]:
     """The lines that say with what an opened venue begins, before a front admits members."""
-    without = f" but for {', '.join(venue.unknown)}" if venue.unknown else ""
+    unknown = ', '.join(venue.starts.waiting)
+    without = f" but for {unknown}" if unknown else ""
     lines = [f"{venue.day.title}: {venue.folder}, {entries} entries so far{without}"]
     if count := len(venue.members.all):
-        goes_on = f"goes on with what was begun on {date_of(venue.began)}"
-        round_ = f"round {venue.round.number}, members: {count}"
+        goes_on = f"goes on with what was begun on {date_of(venue.starts.began)}"
+        round_ = f"round {venue.rounds.now.number}, members: {count}"
         lines.append(f"{goes_on}: {round_}; --folder NEW begins anew")
-    if venue.changes:
-        lines.append(f"the day has changed since it was last opened: {', '.join(venue.changes)}")
+    if changes := ", ".join(venue.starts.changes):
+        lines.append(f"the day has changed since it was last opened: {changes}")
     return lines
 
 
@@ -282,7 +283,7 @@ def url_of_metrics(address: Address, port: int) -> str:
 
 def lines_of_address(venue: Venue, address: Address, fronts: Sequence[str]) -> list[str]:
     """The lines that say where the venue is, with those of its other fronts."""
-    url, *others = venue.urls()
+    url, *others = venue.audience.urls()
     lines = [f"members  {url}"]
     lines += [f"or       {other}" for other in others]
     lines += fronts
@@ -351,7 +352,7 @@ async def begin(
     pages = Pages(Site(venue, program, address.hosts(), own).application(), own)
     doors.append(pages)
     port = await pages.begin(address.host, address.port, tls)
-    venue.urls = functools.partial(address.urls, port)
+    venue.audience.urls = functools.partial(address.urls, port)
     for front in fronts:
         others.append(await front.begin(tls))
         doors.append(front)
@@ -360,7 +361,7 @@ async def begin(
     NOTICES.info("serving at port %s, %s entries so far", port, entries)
     for line in others:
         NOTICES.info("%s", line)
-    if venue.round.is_over:
+    if venue.rounds.now.is_over:
         NOTICES.warning(OVER)
 
 
@@ -379,7 +380,7 @@ async def end(venue: Venue, doors: Sequence[Door]) -> None:
     gc.disable()
     for door in doors:
         door.shut()
-    venue.dismiss()
+    venue.audience.dismiss()
     await venue.close(*(door.end() for door in doors))
 
 

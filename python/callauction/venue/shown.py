@@ -1,12 +1,13 @@
 """What is shown of an instrument, as JSON: prices as decimal texts, quantities in shares."""
 import re
-from collections.abc import Callable, Iterable
+from collections.abc import Callable, Container, Iterable
 from typing import Any
 
 from callauction.venue.accounts import Fill
 from callauction.venue.instrument import Instrument
+from callauction.venue.members import Member, Members
 from callauction.venue.results import Payoff
-from callauction.venue.rounds import Round
+from callauction.venue.rounds import Round, Rounds
 from callauction.venue.treatments import Treatment
 from callauction.venue.views import Indication, Trade
 
@@ -39,7 +40,7 @@ def results_of(instrument: Instrument) -> list[Json]:
     how many trades.
     """
     found = []
-    for text in instrument.results:
+    for text in instrument.auctions.results:
         shown = indication_of(instrument, Indication.of(text))
         trades = TRADES.search(text)
         shown["trades"] = int(trades[1]) if trades else 0
@@ -51,7 +52,7 @@ def state_of(instrument: Instrument, now: float) -> Json:
     """What everybody may see: the phase, its clock, the indication, what uncrosses came to; without
     what isn't known yet.
     """
-    state = instrument.state
+    state = instrument.auctions.state
     found: Json = {
         "type": "state",
         "instrument": instrument.terms.name,
@@ -62,15 +63,15 @@ def state_of(instrument: Instrument, now: float) -> Json:
         "now": round(state.frozen or now, 3),
         "ends": state.ends,
         "latest": state.latest,
-        "reference": price_of(instrument, instrument.day.reference),
-        "indication": indication_of(instrument, instrument.indication),
+        "reference": price_of(instrument, instrument.looks.day.reference),
+        "indication": indication_of(instrument, instrument.looks.indication),
         "results": results_of(instrument),
-        "trades": len(instrument.trades),
-        "left": instrument.day.left,
-        "calls_left_to_members": max(0, instrument.left_to_members),
+        "trades": len(instrument.looks.trades),
+        "left": instrument.looks.day.left,
+        "calls_left_to_members": max(0, instrument.commands.left),
         "round": instrument.identity.round,
     }
-    return found if instrument.is_seen else found | UNKNOWN
+    return found if instrument.looks.is_seen else found | UNKNOWN
 
 
 def terms_of(instrument: Instrument, has_groups: bool = False) -> Json:
@@ -100,7 +101,7 @@ def orders_of(instrument: Instrument, member: str) -> Json:
             "filled": it.filled,
             "only": it.only,
         }
-        for it in sorted(instrument.orders.get(member, []), key=lambda it: it.order)
+        for it in sorted(instrument.looks.orders.get(member, []), key=lambda it: it.order)
     ]
     return {"type": "orders", "instrument": instrument.terms.name, "orders": orders}
 
@@ -134,18 +135,18 @@ def gain_of(instrument: Instrument, member: str) -> str | None:
     """What a member has gained, None where nobody was handed out a value."""
     if not instrument.accounts.has_values:
         return None
-    return money_of(instrument, instrument.gain_of(member))
+    return money_of(instrument, instrument.accounts.gain_of(member))
 
 
 def fills_of(instrument: Instrument, member: str) -> Json:
     """A member's fills, its value and how many shares more that covers, and its gain."""
-    fills = instrument.fills_of(member)
+    fills = instrument.accounts.fills_of(member)
     return {
         "type": "fills",
         "instrument": instrument.terms.name,
         "fills": [fill_of(instrument, it) for it in fills[-MOST_SHOWN:]],
         "value": value_of(instrument, member),
-        "left": instrument.accounts.left_of(member, fills),
+        "left": instrument.accounts.left_of(member),
         "gain": gain_of(instrument, member),
     }
 
@@ -154,12 +155,12 @@ def trades_of(
     instrument: Instrument, trades: Iterable[Trade], title_of: Callable[[str], str] | None = None
 ) -> Json:
     """Trades, with who traded with whom where that is to be seen, by the titles of the members."""
-    found = []
+    found, party = [], instrument.book.of_order
     for it in trades:
         price = price_of(instrument, it.tick)
         row: Json = {"trade": it.number, "quantity": it.quantity, "price": price}
         if title_of is not None:
-            buyer, seller = (title_of(instrument.party(order)) for order in (it.bid, it.ask))
+            buyer, seller = (title_of(party(order)) for order in (it.bid, it.ask))
             row |= {"buyer": buyer, "seller": seller}
         found.append(row)
     return {"type": "trades", "instrument": instrument.terms.name, "trades": found}
@@ -167,7 +168,7 @@ def trades_of(
 
 def ladder_of(instrument: Instrument, is_whole: bool = False) -> Json:
     """The visible shares at each limit, or the whole ones; no price for those of market orders."""
-    those = instrument.levels if is_whole else instrument.visible_levels
+    those = instrument.looks.levels if is_whole else instrument.looks.visible_levels
     levels = [
         {"price": price_of(instrument, it.limit), "bid": it.bid, "ask": it.ask}
         for it in those
@@ -183,12 +184,12 @@ def course_of(instrument: Instrument) -> Json:
             "price": price_of(instrument, it.indication.price),
             "volume": it.indication.volume,
         }
-        for it in instrument.course
+        for it in instrument.auctions.course
     ]
     return {
         "type": "course",
         "instrument": instrument.terms.name,
-        "began": instrument.began,
+        "began": instrument.auctions.began,
         "points": points,
     }
 
@@ -198,7 +199,7 @@ def efficiency_of(instrument: Instrument, title_of: Callable[[str], str]) -> Jso
     percent of it that was gained; the prices and the volume that the values predict; who gained
     most.
     """
-    gain, most = instrument.gain, instrument.most
+    gain, most = instrument.accounts.gain, instrument.accounts.most
     return {
         "type": "efficiency",
         "instrument": instrument.terms.name,
@@ -214,7 +215,7 @@ def gains_of(instrument: Instrument, title_of: Callable[[str], str]) -> list[Jso
     """Who gained most, by the titles of the members, where values were given."""
     if not instrument.accounts.has_values:
         return []
-    found = [(instrument.gain_of(it), title_of(it)) for it in instrument.numbers]
+    found = [(instrument.accounts.gain_of(it), title_of(it)) for it in instrument.book.numbers]
     found.sort(key=lambda it: -it[0])
     return [
         {"name": title, "gain": money_of(instrument, gain)}
@@ -225,11 +226,37 @@ def gains_of(instrument: Instrument, title_of: Callable[[str], str]) -> list[Jso
 
 def predicted_of(instrument: Instrument) -> Json | None:
     """The prices and the volume that the values predict, None where they predict no trade."""
-    found = instrument.predicted
+    found = instrument.accounts.predicted
     if found is None:
         return None
     low, high = (price_of(instrument, it) for it in (found.low, found.high))
     return {"low": low, "high": high, "volume": found.volume}
+
+
+def halt_of(instrument: Instrument, why: str) -> Json:
+    """What is said of a board of an earlier round that has halted."""
+    identity = instrument.identity
+    return {"instrument": identity.name, "round": identity.round, "why": why}
+
+
+def members_of(members: Members, there: Container[Member | None], rounds: Rounds) -> Json:
+    """Who is a member, and who is connected; the codes by which they come."""
+    rows = [
+        {
+            "name": member.title,
+            "is_here": member in there or bool(member.robot),
+            "is_removed": member.is_removed,
+            "robot": member.robot,
+            "group": member.group,
+            "values": {
+                name: {"value": value_of(it, member.name), "gain": gain_of(it, member.name)}
+                for name, it in rounds.boards_of(member).items()
+            },
+        }
+        for member in members.everybody
+    ]
+    codes = {members.title_of(name): code for name, code in members.codes.items()}
+    return {"type": "members", "members": rows, "codes": codes, "open": members.is_open}
 
 
 def treatment_of(treatment: Treatment) -> Json:

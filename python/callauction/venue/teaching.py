@@ -17,13 +17,15 @@
 - resume: tries again what had halted, and answers what had (resumed); an error says what halts
   again. reset (session): a session by FIX begins anew.
 """
+import contextlib
 import dataclasses
 import logging
-from collections.abc import Awaitable, Callable, Container
+from collections.abc import Awaitable, Callable, Container, Iterator
 from typing import Any
 
 from callauction.limits import MOST_QUANTITY
-from callauction.venue import shown, views
+from callauction.venue import shown
+from callauction.venue.auctions import Auctions
 from callauction.venue.fields import SENTENCE, ConfigError, Fields, flaw_of
 from callauction.venue.handing import HOWS, SIDES, HandError, ListedValue, Rule, named, rows_of
 from callauction.venue.instrument import Instrument
@@ -31,7 +33,6 @@ from callauction.venue.log import SOURCE
 from callauction.venue.members import Member
 from callauction.venue.messages import MessageError, number_of, text_of
 from callauction.venue.phases import PhaseError
-from callauction.venue.process import ProcessError
 from callauction.venue.robots import KINDS, MOST_ROBOTS
 from callauction.venue.tokens import new_code
 from callauction.venue.treatments import MOST_SECONDS, Treatment, treatment_of
@@ -40,10 +41,10 @@ from callauction.venue.venue import Venue
 NOTICES = logging.getLogger("callauction.venue")
 MOST_ROUNDS = 10_000
 STEPS = {
-    "start": Instrument.start_call,
-    "end": Instrument.end_call,
-    "freeze": Instrument.freeze,
-    "thaw": Instrument.thaw,
+    "start": Auctions.start_call,
+    "end": Auctions.end_call,
+    "freeze": Auctions.freeze,
+    "thaw": Auctions.thaw,
 }
 Words = dict[str, Callable[[Venue, dict[str, Any]], Awaitable[shown.Json]]]
 
@@ -52,16 +53,24 @@ async def done(venue: Venue, message: dict[str, Any]) -> shown.Json:
     """Does what is asked for. Raises MessageError and PhaseError."""
     word = text_of(message, "do")
     try:
-        if (act := WORDS.get(word)) is not None:
-            found = await act(venue, message)
-        else:
-            found = await step(venue, word, message)
+        with refusing():
+            act = WORDS.get(word)
+            found = await (act(venue, message) if act else step(venue, word, message))
     except (MessageError, PhaseError) as fault:
         say(logging.WARNING if word == "resume" else logging.INFO, message, f" isn't done: {fault}")
         raise
-    await venue.noted()
+    await venue.halts.noted()
     say(logging.INFO, message, told(found))
     return {"done": word} | found
+
+
+@contextlib.contextmanager
+def refusing() -> Iterator[None]:
+    """Raises MessageError where a round, or values, can't be as a message wants them."""
+    try:
+        yield
+    except (ConfigError, HandError) as fault:
+        raise MessageError("bad_message", str(fault)) from None
 
 
 def told(found: shown.Json) -> str:
@@ -91,28 +100,28 @@ async def step(venue: Venue, word: str, message: dict[str, Any]) -> shown.Json:
     """
     if word not in (*STEPS, "uncross", "extend"):
         raise MessageError("bad_message", f"the operator can't {word}")
-    boards = venue.market_of(message.get("instrument"))
-    venue.check_running()
+    boards = venue.rounds.market_of(message.get("instrument"))
+    venue.halts.check_running()
     seconds = number_of(message, "seconds", 1, MOST_SECONDS) if word == "extend" else 0
     seen = message.get("phase")
     if word == "start":
-        await venue.begin_call(boards)
+        await venue.values.begin_call(boards)
     faults: list[PhaseError] = []
     replies: dict[str, str] = {}
     for board in boards:
         try:
             check_seen(board, seen)
             if word == "uncross":
-                replies[board.terms.name] = await board.uncross()
+                replies[board.terms.name] = await board.auctions.uncross()
             elif word == "extend":
-                board.extend(seconds)
+                board.auctions.extend(seconds)
             else:
-                STEPS[word](board)
+                STEPS[word](board.auctions)
         except PhaseError as fault:
             faults.append(fault)
     if len(faults) == len(boards):
         raise faults[0]
-    venue.show_round()
+    venue.audience.show_round()
     if not replies:
         return {}
     return {"reply": next(iter(replies.values())), "replies": replies}
@@ -120,55 +129,47 @@ async def step(venue: Venue, word: str, message: dict[str, Any]) -> shown.Json:
 
 def check_seen(board: Instrument, seen: object) -> None:
     """Raises PhaseError where the phase isn't the one that the operator has seen."""
-    if seen is not None and seen != str(board.state.phase):
-        raise PhaseError(f"the phase is {board.state.phase} and no longer {seen}")
+    if seen is not None and seen != str(board.auctions.state.phase):
+        raise PhaseError(f"the phase is {board.auctions.state.phase} and no longer {seen}")
 
 
 # ---- the rounds
 
 
 async def begin_round(venue: Venue, message: dict[str, Any]) -> shown.Json:
-    """Begins the next round: that of the day, or one that the message says. Raises MessageError and
-    PhaseError.
+    """Begins the next round: that of the day, or one that the message says. Raises MessageError,
+    PhaseError, ConfigError, HandError.
     """
-    venue.check_running()
+    venue.halts.check_running()
     number = number_of(message, "round", 2, MOST_ROUNDS)
     treatment = venue.day.treatment(number)
     if "treatment" in message:
         treatment = treatment_of_message(message["treatment"])
-    try:
-        venue.day.check(treatment)
-        await venue.next_round(number, treatment)
-    except HandError as fault:
-        raise MessageError("bad_message", str(fault)) from None
+    venue.day.check(treatment)
+    await venue.groups.next_round(number, treatment)
     return {"round": number}
 
 
 async def treat(venue: Venue, message: dict[str, Any]) -> shown.Json:
     """Makes this round another one, before its first call; its reference stays, and its values
-    where the round has handed them out. Raises MessageError and PhaseError.
+    where the round has handed them out. Raises what `begin_round` raises.
     """
-    now = venue.round.treatment
+    now = venue.rounds.now.treatment
     treatment = treatment_of_message(message.get("treatment"))
     treatment = dataclasses.replace(treatment, reference=now.reference)
-    if venue.round.has_dealt:
+    if venue.values.are_dealt:
         treatment = dataclasses.replace(treatment, rule=now.rule)
-    try:
-        venue.day.check(treatment)
-    except HandError as fault:
-        raise MessageError("bad_message", str(fault)) from None
-    venue.treat(treatment)
+    venue.day.check(treatment)
+    venue.rounds.treat(treatment)
+    venue.audience.show_all()
     return {}
 
 
 def treatment_of_message(table: object) -> Treatment:
-    """The round of a message, whose file is its text. Raises MessageError."""
+    """The round of a message, whose file is its text. Raises MessageError, ConfigError."""
     if not isinstance(table, dict):
         raise MessageError("bad_message", "treatment is no object")
-    try:
-        return treatment_of(Fields("round", table), None)
-    except ConfigError as fault:
-        raise MessageError("bad_message", str(fault)) from None
+    return treatment_of(Fields("round", table), None)
 
 
 async def announce(venue: Venue, message: dict[str, Any]) -> shown.Json:
@@ -176,7 +177,8 @@ async def announce(venue: Venue, message: dict[str, Any]) -> shown.Json:
     text = text_of(message, "text")
     if not SENTENCE.fullmatch(text):
         raise MessageError("bad_message", f"text {flaw_of(text, SENTENCE)}")
-    venue.announce(text)
+    venue.rounds.announce(text)
+    venue.audience.show_round()
     return {}
 
 
@@ -185,19 +187,19 @@ async def announce(venue: Venue, message: dict[str, Any]) -> shown.Json:
 
 async def show(venue: Venue, message: dict[str, Any]) -> shown.Json:
     """Chooses what the screen shows. Raises MessageError."""
-    venue.show_on_beamer(text_of(message, "shows"))
+    venue.audience.show_on_beamer(text_of(message, "shows"))
     return {}
 
 
 async def show_payoffs(venue: Venue, message: dict[str, Any]) -> shown.Json:
     """Chooses what members see of payoffs. Raises MessageError."""
-    venue.show_paid(text_of(message, "shows"))
+    venue.audience.show_paid(text_of(message, "shows"))
     return {}
 
 
 async def resume(venue: Venue, message: dict[str, Any]) -> shown.Json:
     """Tries again what had halted, and says what had. Raises MessageError where it halts again."""
-    return {"resumed": await venue.resume()}
+    return {"resumed": await venue.starts.resume()}
 
 
 # ---- members
@@ -212,7 +214,7 @@ async def new_code_of(venue: Venue, message: dict[str, Any]) -> shown.Json:
     if title and title not in venue.members.codes:
         name = venue.members.called(title).name
     code = venue.members.set_code(name, new_code())
-    venue.show_members()
+    venue.audience.show_members()
     return {"code": code}
 
 
@@ -222,13 +224,13 @@ async def open_door(venue: Venue, message: dict[str, Any]) -> shown.Json:
     if not isinstance(is_open, bool):
         raise MessageError("bad_message", "open is neither true nor false")
     venue.members.open_door(is_open)
-    venue.show_members()
+    venue.audience.show_members()
     return {}
 
 
 async def remove(venue: Venue, message: dict[str, Any]) -> shown.Json:
     """Removes a member, or some, with their open orders. Raises MessageError."""
-    venue.check_running()
+    venue.halts.check_running()
     titles = texts_of(message, "members") if "members" in message else [message.get("member")]
     members = [venue.members.called(it) for it in titles]
     for member in members:
@@ -262,8 +264,8 @@ async def rename(venue: Venue, message: dict[str, Any]) -> shown.Json:
     """Gives a member another name. Raises MessageError."""
     member = venue.members.called(message.get("member"))
     venue.members.rename(member, text_of(message, "name"))
-    venue.give_listed([member])
-    venue.show_all()
+    venue.values.give_listed([member])
+    venue.audience.show_all()
     return {"name": member.title}
 
 
@@ -284,28 +286,26 @@ async def change_robots(venue: Venue, message: dict[str, Any]) -> shown.Json:
 async def give(venue: Venue, message: dict[str, Any]) -> shown.Json:
     """Hands out values: to all (`to` is "all"), to those who have none ("new"), or to those that a
     list or `members` names ("named"); answers which names of a list nobody has, whose values are
-    kept until somebody has them. Who would lose a value needs `replace`. Raises MessageError.
+    kept until somebody has them. Who would lose a value needs `replace`. Raises MessageError, and
+    HandError where they can't be handed out so.
     """
     rule = rule_of(message)
-    market = venue.market_of(message.get("instrument"))[0].identity.market
+    market = venue.rounds.market_of(message.get("instrument"))[0].identity.market
     rows, absent = named(rule.rows, {it.title: it.name for it in venue.members.all})
     rule = dataclasses.replace(rule, rows=rows)
-    held = venue.round.values(market)
+    held = venue.rounds.now.values(market)
     whom = text_of(message, "to", "named" if rule.how == "list" else "all")
     members = receivers(venue, rule, message, whom, held)
     losing = held if whom == "all" else {it.name for it in members} & held.keys()
     if losing and message.get("replace") is not True:
         raise MessageError("has_values", f"{len(losing)} members would lose a value")
-    try:
-        venue.check_listed(market, absent)
-        given = 0
-        if rows or not absent:
-            given = await venue.give_values(market, rule, members, held, whom == "all")
-    except HandError as fault:
-        raise MessageError("bad_message", str(fault)) from None
+    venue.values.check_listed(market, absent)
+    given = 0
+    if rows or not absent:
+        given = await venue.values.give(market, rule, members, held, whom == "all")
     if rule.how == "list" or whom == "all":
-        venue.keep_listed(market, absent, whom == "all")
-        venue.give_listed(venue.members.all)  # who joined meanwhile
+        venue.values.keep_listed(market, absent, whom == "all")
+        venue.values.give_listed(venue.members.all)  # who joined meanwhile
     return {"given": given, "absent": [it.member for it in absent]}
 
 
@@ -324,7 +324,7 @@ def receivers(
 
 
 def rule_of(message: dict[str, Any]) -> Rule:
-    """How a message wants values to be handed out. Raises MessageError."""
+    """How a message wants values to be handed out. Raises MessageError, HandError."""
     default = "list" if {"values", "file"} & {*message} else "chance"
     how = text_of(message, "how", default)
     if how not in HOWS[2:]:
@@ -349,12 +349,9 @@ def texts_of(message: dict[str, Any], name: str) -> tuple[str, ...]:
 
 
 def rows_of_message(message: dict[str, Any]) -> tuple[ListedValue, ...]:
-    """The rows of a message's file, or of its list of values. Raises MessageError."""
+    """The rows of a message's file, or of its list of values. Raises MessageError, HandError."""
     if "file" in message:
-        try:
-            return rows_of(text_of(message, "file"))
-        except HandError as fault:
-            raise MessageError("bad_message", str(fault)) from None
+        return rows_of(text_of(message, "file"))
     values = message.get("values")
     if not isinstance(values, list) or not all(isinstance(it, dict) for it in values):
         raise MessageError("bad_message", "values is no list of objects")
@@ -366,17 +363,6 @@ def rows_of_message(message: dict[str, Any]) -> tuple[ListedValue, ...]:
         quantity = number_of(it, "quantity", 1, MOST_QUANTITY)
         found.append(ListedValue(None, text_of(it, "member"), side, text_of(it, "price"), quantity))
     return tuple(found)
-
-
-async def orders_of(instrument: Instrument, member: str) -> shown.Json:
-    """A member's open orders, as the program has them now. Raises MessageError."""
-    if member in instrument.numbers:
-        try:
-            lines = (await instrument.engine.show([f"show,orders,{instrument.numbers[member]}"]))[0]
-        except ProcessError:
-            raise MessageError("halted", "the program doesn't answer now") from None
-        instrument.orders[member] = views.orders_of(lines)
-    return shown.orders_of(instrument, member)
 
 
 async def reset(venue: Venue, message: dict[str, Any]) -> shown.Json:

@@ -1,0 +1,156 @@
+"""The groups that members are in, with boards of their own, and the rounds in which these go on."""
+import asyncio
+import contextlib
+
+from callauction.venue import config
+from callauction.venue.audience import Audience
+from callauction.venue.gains import Value
+from callauction.venue.halts import Halts
+from callauction.venue.log import Log
+from callauction.venue.members import Member, Members
+from callauction.venue.phases import PhaseError
+from callauction.venue.rounds import Rounds, by_side, dealt
+from callauction.venue.starts import Starts
+from callauction.venue.treatments import Treatment
+from callauction.venue.values import Values
+
+
+class Groups:
+    """The groups of a venue's members, of which one changes at a time."""
+
+    def __init__(
+        self,
+        day: config.DayTerms,
+        log: Log,
+        members: Members,
+        rounds: Rounds,
+        audience: Audience,
+        values: Values,
+        halts: Halts,
+        starts: Starts,
+    ) -> None:
+        self._day, self._log, self._members, self._rounds = day, log, members, rounds
+        self._audience, self._halts = audience, halts
+        self._values, self._starts = values, starts
+        self._changing = asyncio.Lock()
+
+    async def place(self, newcomers: list[Member]) -> None:
+        """Puts new members into the smallest groups that have room; opens one more where none has,
+        and before the first call of a round deals all members again then.
+        """
+        async with self._changing:
+            before = self._rounds.now.groups
+            for member in newcomers:
+                sizes = self._sizes(member)
+                smallest = min(sizes, key=lambda it: sizes[it])
+                if sizes[smallest] < self._day.group:
+                    self._deal({member.name: smallest})
+                    continue
+                await self._open_group()
+                if self._rounds.now.has_begun:
+                    self._deal({member.name: self._rounds.now.groups})
+                else:
+                    self._deal_all(self._rounds.now.values(self._day.instruments[0].name))
+            if self._rounds.now.groups > before:
+                self._audience.show_all()
+        self._values.give_listed(newcomers)
+
+    def begin(self) -> None:
+        """Deals the members of the round, once it is known what all journals have; puts those whose
+        group has no room into others, as where the venue was killed while it opened one.
+        """
+        if self._starts.waiting:
+            return
+        self._deal_round()
+        for member in self._members.all:
+            sizes = self._sizes(member)
+            smallest = min(sizes, key=lambda it: sizes[it])
+            if sizes[member.group] >= self._day.group and not self._has_number(member):
+                self._deal({member.name: smallest})
+
+    async def next_round(self, number: int, treatment: Treatment) -> None:
+        """Ends this round and begins the one of this number, for the same members. Raises
+        PhaseError and MessageError, also where the log can't be written now.
+        """
+        with contextlib.suppress(OSError):  # which halts the venue
+            await self._log.check_written()
+        self._halts.check_running()
+        async with self._changing, self._starts.reopening:
+            now = self._rounds.now
+            if number != now.number + 1:
+                raise PhaseError(f"the round is {now.number}")
+            before = [*now.boards.values()]
+            for board in before:
+                if board.engine.halted is None:
+                    await board.looks.settle()
+            if not now.is_between:
+                raise PhaseError("an auction is going on: end its call, and uncross")
+            for board in before:
+                await board.end()
+            count = -(-len(self._members.all) // self._day.group)
+            found = self._rounds.new(number, treatment, max(1, count))
+            self._rounds.note(found)
+            for board in found.boards.values():
+                await self._starts.open_new(board)
+            self._rounds.all.append(found)
+            self._deal_round()
+        self._log.append("", self._audience.show_all)
+        await self._halts.noted()
+
+    # ---- who is where
+
+    def _sizes(self, newcomer: Member) -> dict[int, int]:
+        """How many members each group has, without this one."""
+        sizes = dict.fromkeys(range(1, self._rounds.now.groups + 1), 0)
+        for it in self._members.everybody:
+            if it is not newcomer and (not it.is_removed or self._has_number(it)):
+                sizes[it.group] += 1
+        return sizes
+
+    def _has_number(self, member: Member) -> bool:
+        """Whether a member has a number in a journal of this round that nobody else may have."""
+        boards = self._rounds.now.boards.values()
+        return any(it.commands.keeps_number(member.name) for it in boards)
+
+    async def _open_group(self) -> None:
+        """Opens the boards of one group more."""
+        group = self._rounds.now.groups + 1
+        self._log.note(kind="group", round=self._rounds.now.number, group=group)
+        for board in self._rounds.add_group(self._rounds.now, group):
+            await self._starts.open_new(board)
+
+    def _deal_all(self, values: dict[str, Value]) -> None:
+        """Deals all members to the groups, with as many in each who have values of one side."""
+        names = by_side((it.name for it in self._members.all), values)
+        self._deal(dealt(names, self._rounds.now.groups))
+
+    def _deal(self, groups: dict[str, int]) -> None:
+        """Puts members into groups."""
+        before = {it: it.member.group for it in self._audience.watchers if it.member}
+        if groups and self._rounds.now.groups > 1:
+            self._log.note(kind="deal", round=self._rounds.now.number, groups=groups)
+        self._move(groups)
+        for watcher, group in before.items():
+            if watcher.member and watcher.member.group != group:
+                watcher.offer("welcome", self._audience.welcome_of(watcher))
+                self._audience.greet(watcher)
+
+    def _move(self, groups: dict[str, int]) -> None:
+        """Members are in these groups from now on, with their values."""
+        self._members.move(groups)
+        self._rounds.now.move(groups)
+
+    def _deal_round(self) -> None:
+        """Deals the members to the groups of a new round where those of the last one don't do, and
+        hands out its values. It is done again where the venue was killed meanwhile.
+        """
+        now = self._rounds.now
+        if now.number == 1 or self._values.are_dealt or now.has_begun:
+            return
+        before = self._rounds.all[-2]
+        values = {it.name: before.values(it.name) for it in self._day.instruments}
+        if now.groups == 1:
+            self._move({it.name: 1 for it in self._members.everybody})
+        elif now.groups != before.groups:
+            self._deal_all(values[self._day.instruments[0].name])
+        self._values.give_round(values)
