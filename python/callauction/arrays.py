@@ -132,6 +132,13 @@ def wrong_field_of(command: numpy.void) -> str:
     return ""
 
 
+def joined(*parts: Structs) -> Structs:
+    """A new array of the structs of these, one after the other. The bytes between fields are 0, so
+    that equal arrays have equal bytes.
+    """
+    return numpy.concatenate(parts, out=numpy.zeros(sum(map(len, parts)), parts[0].dtype))
+
+
 def whole(name: str, array: object, kind: "numpy.dtype[numpy.void]", is_written: bool) -> Structs:
     """The array itself, which is one-dimensional, of this dtype, contiguous and aligned, and may be
     written where it is to be. Raises TypeError for another dtype or no array, else ValueError.

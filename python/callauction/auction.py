@@ -1,4 +1,5 @@
 """An auction in this process: see Auction."""
+import contextlib
 import copy
 import inspect
 from collections.abc import Callable, Mapping
@@ -16,10 +17,17 @@ from callauction.arrays import (
     TRADE,
     Shares,
     Structs,
+    joined,
     whole,
 )
 from callauction.carried import CarriedOver, carried_over
-from callauction.errors import AuctionError, ClosedError, NotAppliedError, close_after
+from callauction.errors import (
+    AuctionError,
+    BusyError,
+    ClosedError,
+    NotAppliedError,
+    close_after,
+)
 from callauction.library import ffi, lib
 from callauction.limits import MOST_NUMBER
 from callauction.reading import (
@@ -170,6 +178,9 @@ class Auction:
         )
 
     def __enter__(self) -> Self:
+        with contextlib.suppress(BusyError):  # then it isn't closed
+            if self.is_closed:
+                raise ClosedError("the auction was closed")
         return self
 
     def __exit__(
@@ -285,7 +296,7 @@ class Auction:
         reply, copied = ffi.new("callauction_reply *"), ffi.new("size_t *")
         self._call(lib.python_uncross_orders, reply, written, len(written), copied)
         answer = cast("words.Uncrossed | words.Interrupted | words.Refused", read(reply))
-        return answer, outcomes[: copied[0]].copy()
+        return answer, joined(outcomes[: copied[0]])
 
     def read_trade(
         self, member: int, number: int, *, check: bool = False
@@ -377,7 +388,7 @@ class Auction:
             self._call(lib.python_trades, seen, written, room, copied)
             found.append(trades[: copied[0]])
             seen += room
-        return numpy.concatenate(found)
+        return joined(*found)
 
     def orders(self, member: int | None = None) -> Structs:
         """The open orders of a member, or of all, in price-time priority: a new array of ORDER, the
@@ -403,7 +414,7 @@ class Auction:
         written = ffi.from_buffer("callauction_order[]", orders, require_writable=True)
         copied = ffi.new("size_t *")
         self._call(function, *of, written, len(written), copied)
-        return orders[: copied[0]].copy()
+        return joined(orders[: copied[0]])
 
     def state(self) -> words.State:
         """Where the day is; no call of a member, and after the day too."""

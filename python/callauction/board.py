@@ -18,6 +18,7 @@ from callauction.arrays import (
     TRADE,
     Shares,
     Structs,
+    joined,
     whole,
 )
 from callauction.auction import ALL_MEMBERS, Auction, config_of, config_struct, copy_over
@@ -334,7 +335,7 @@ class Member:
         written = ffi.from_buffer("callauction_order[]", orders, require_writable=True)
         copied = ffi.new("size_t *")
         self._call(function, *of, written, len(written), copied)
-        return orders[: copied[0]].copy()
+        return joined(orders[: copied[0]])
 
     def _copied(
         self, function: Any, kind: str, dtype: "numpy.dtype[Any]", seen: int, *more: Any
@@ -351,7 +352,7 @@ class Member:
             self._call(function, seen, written, _AT_ONCE, copied, *more)
             found.append(piece[: copied[0]])
             seen += _AT_ONCE
-        return numpy.concatenate(found)
+        return joined(*found)
 
 
 class Board:
@@ -477,7 +478,7 @@ class Board:
         answer = lib.python_board_close(self._own, entries, len(room), counted, written)
         if answer:
             raise board_error_of(answer)
-        return BoardDay(self._config, room[: written[0]].copy(), tuple(counts.tolist()))
+        return BoardDay(self._config, joined(room[: written[0]]), tuple(counts.tolist()))
 
 
 _boards: "weakref.WeakSet[Board]" = weakref.WeakSet()

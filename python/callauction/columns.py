@@ -82,7 +82,8 @@ def commands(
     A column is one number for all commands, or a list, an array or a Series of a number for each.
     The words of files and frames are taken too: `enter`, `change`, `delete`, `status`, `ask`,
     `trade`, `uncross`; `bid`, `ask`; `opening`, `closing` and an empty word, as in a column `only`;
-    `market` as a limit. Columns of several numbers have one length. An order without a limit (None,
+    `market` as a limit, and digits in a column that has it. An empty cell is missing. Columns of
+    several numbers have one length. An order without a limit (None,
     or `<NA>`) is a market order, one without a peak no iceberg order.
     READ_TRADE has its number as `id`. An order's `client` is any number of your own, 0 to 2^64 - 1.
 
@@ -109,6 +110,8 @@ def _given(
     frame: "Mapping[str, Column] | pandas.DataFrame | None", keywords: dict[str, Column]
 ) -> dict[str, Any]:
     """The columns of a frame and those of keywords. Raises TypeError."""
+    if not (frame is None or isinstance(frame, Mapping) or hasattr(frame, "columns")):
+        raise TypeError(f"frame must be a mapping or a frame of columns, not {type(frame).__name__}")
     found: dict[str, Any] = {} if frame is None else {str(name): frame[name] for name in frame}
     for name in found:
         if name not in NAMES:
@@ -163,7 +166,9 @@ class _Column:
             self._take(name, [value])
 
     def _take(self, name: str, listed: Sequence[object]) -> None:
-        """Takes numbers one by one."""
+        """Takes numbers one by one; in a column that is text for its word MARKET, digits too."""
+        if name == "limit" and any(isinstance(it, str) and it == MARKET for it in listed):
+            listed = [int(it) if isinstance(it, str) and it.isdecimal() else it for it in listed]
         numbers = [_number(name, place, value) for place, value in enumerate(listed)]
         if None in numbers:
             self.is_there = numpy.array([number is not None for number in numbers], bool)
@@ -181,7 +186,8 @@ def _plain(name: str, value: Any) -> Any:
     if isinstance(value, numpy.ma.MaskedArray):
         hidden = numpy.flatnonzero(value.mask)
         if len(hidden):
-            raise ValueError(f"{name}: element {hidden[0]} is masked: None is an order without it")
+            hint = ": None is an order without it" if name in FLAGGED else ""
+            raise ValueError(f"{name}: element {hidden[0]} is masked{hint}")
         value = value.data
     if value.ndim > 1:
         raise ValueError(f"{name} must have one dimension, not {value.ndim}")
@@ -210,13 +216,13 @@ def _number(name: str, place: int, value: object) -> int | None:
     that isn't a number, and ValueError for one that its field can't hold as it is, and for one that
     each command has.
     """
-    if value is None or type(value).__name__ == "NAType":
-        if name in ALWAYS:
-            raise ValueError(f"{name}: element {place} is missing")
-        return None
     words = WORDS.get(name, {})
     if isinstance(value, str) and value in words:
         return words[value]
+    if value is None or type(value).__name__ == "NAType" or isinstance(value, str) and not value:
+        if name in ALWAYS:
+            raise ValueError(f"{name}: element {place} is missing")
+        return None
     if isinstance(value, bool | numpy.bool_):
         raise TypeError(f"{name}: element {place} must be an integer, not bool")
     if isinstance(value, float | numpy.floating):

@@ -57,6 +57,7 @@ class RecordedAuction(DayTables):
         return f"<{type(self).__name__} of {self._auction!r}>"
 
     def __enter__(self) -> Self:
+        self._auction.__enter__()
         return self
 
     def __exit__(

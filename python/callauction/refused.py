@@ -15,7 +15,7 @@ def refusals(replies: Structs, commands: Structs | None = None) -> pandas.DataFr
 
     `replies` is its array of REPLY; `place` is an element of it, from 0, `refusal` the number of a
     Refusal and `name` its name. The array of `commands` adds who gave them and what they were.
-    Raises TypeError or ValueError for another array, or where the lengths differ.
+    Raises TypeError or ValueError for another array, or where there are fewer than replies.
     """
     whole("replies", replies, REPLY, is_written=False)
     places = numpy.flatnonzero(replies["tag"] == ReplyTag.REFUSED)
@@ -26,7 +26,7 @@ def refusals(replies: Structs, commands: Structs | None = None) -> pandas.DataFr
         return found
     whole("commands", commands, COMMAND, is_written=False)
     if len(commands) < len(replies):
-        raise ValueError(f"commands must be {len(replies)} or more, not {len(commands)}")
+        raise ValueError(f"commands must have {len(replies)} elements or more, not {len(commands)}")
     given = commands[places]
     tags = [CommandTag(tag).name for tag in given["tag"]]
     return found.assign(member=given["member"].astype("int64"), command=tags)

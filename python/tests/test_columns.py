@@ -1,4 +1,5 @@
 """Arrays of commands of columns: nothing of them is cut, and the auction takes what they say."""
+import io
 import re
 from typing import Any
 
@@ -89,6 +90,36 @@ def test_words_of_files_and_frames() -> None:
     assert made.tobytes() == array_of([(3, command) for command in wanted]).tobytes()
 
 
+def test_a_column_that_is_text_for_its_word() -> None:
+    frame = pandas.read_csv(io.StringIO("side,quantity,limit\nbid,5,200\nask,5,market\n"))
+    made = commands(frame)
+    assert made["limit"].tolist() == [200, 0] and made["has_limit"].tolist() == [1, 0]
+
+
+def test_the_frame_of_a_journal_is_applied_again() -> None:
+    with RecordedAuction() as auction, Auction() as other:
+        auction.enter(1, BID, 500, 202, peak=100)
+        auction.enter(2, ASK, 300, restriction=Restriction.OPENING_ONLY)
+        auction.change(1, 1, 400, 201)
+        auction.order_status(1, 1)
+        auction.uncross()
+        frame = auction.journal()
+        names = ["member", "side", "quantity", "limit", "peak", "id"]
+        other.apply_many(commands(frame[names], tag=frame["command"], restriction=frame["only"]))
+        assert other.trades().tolist() == auction.copy()._auction.trades().tolist()
+        assert other.state() == auction.state()
+
+
+@pytest.mark.parametrize("frame", [
+    [1, 2], pandas.Series([1, 2]), numpy.zeros(2, COMMAND), "day.csv", 5, [{"side": 1}],
+])  # fmt: skip
+def test_what_is_no_frame(frame: Any) -> None:
+    kind = type(frame).__name__
+    text = f"frame must be a mapping or a frame of columns, not {kind}"
+    with pytest.raises(TypeError, match=f"^{re.escape(text)}$"):
+        commands(frame, quantity=5)
+
+
 def test_the_frame_of_open_orders_enters_them_again() -> None:
     names = ("side", "quantity", "limit")
     with RecordedAuction() as auction, Auction() as other:
@@ -132,7 +163,10 @@ BAD: list[tuple[type[Exception], str, dict[str, Any]]] = [
     (ValueError, "limit: element 0 must be from 0 to 4294967295, not -1", {"limit": [-1, 1]}),
     (ValueError, "limit: element 1 .* not 4294967296", {"limit": numpy.array([1, 1 << 32])}),
     (ValueError, "quantity: element 0 must .* not 18446744073709551616", {"quantity": 1 << 64}),
-    (ValueError, "limit: element 1 is masked", {"limit": HIDDEN}),
+    (ValueError, "limit: element 1 is masked: None is an order without it$", {"limit": HIDDEN}),
+    (ValueError, "quantity: element 1 is masked$", {"quantity": HIDDEN}),
+    (TypeError, "limit: element 1 must be an integer, not str", {"limit": ["market", "x"]}),
+    (ValueError, "side: element 1 must be BID or ASK, as ENTER needs it", {"side": ["bid", ""]}),
     (ValueError, "side: element 0 must be one of Side, not 3", {"side": [3, 1]}),
     (ValueError, "side: element 1 must be BID or ASK, as ENTER needs it", {"side": [BID, None]}),
     (ValueError, "side: element 0 must be BID or ASK", {"side": numpy.array([0, 1])}),

@@ -2,10 +2,12 @@
 import copy
 from collections.abc import Iterator
 
+import numpy
 import pandas
 import pytest
 from callauction import (
     Auction,
+    AuctionKind,
     Board,
     BusyError,
     ClosedError,
@@ -13,6 +15,7 @@ from callauction import (
     RecordedAuction,
     Restriction,
     Side,
+    commands,
 )
 from callauction.arrays import Structs
 from callauction.tables import ORDERS
@@ -163,6 +166,36 @@ def test_members_and_closed_auctions() -> None:
         auction.orders()
     with pytest.raises(ClosedError):
         auction.expiring()
+
+
+def listed_bytes() -> list[bytes]:
+    """The bytes of all arrays that an auction and a board of one day return."""
+    with Auction() as auction, Board(2) as board:
+        made = commands(side=[Side.BID, Side.ASK], quantity=[50, 30], limit=[205, 200])
+        auction.apply_many(made)
+        board[1].apply_many(made)
+        arrays = [auction.orders(), auction.expiring(), auction.uncross_orders()[1]]
+        arrays += [auction.trades(), board[1].orders()]
+        board[0].uncross()
+        arrays += [board[1].trades(), board[1].uncrossed_orders(AuctionKind.OPENING)]
+        arrays.append(board.close().history)
+    return [it.tobytes() for it in arrays]
+
+
+def test_equal_days_give_equal_bytes() -> None:
+    """Also those between the fields of structs, whatever memory had before."""
+    first = listed_bytes()
+    dirt = [numpy.full(size, 93, "u1") for size in range(16, 12_000, 8)]
+    del dirt
+    assert listed_bytes() == first
+
+
+def test_a_closed_auction_begins_no_block() -> None:
+    closed: list[Auction | RecordedAuction] = [Auction(), RecordedAuction()]
+    for auction in closed:
+        auction.close()
+        with pytest.raises(ClosedError), auction:
+            pytest.fail("the block began")
 
 
 def test_a_copy_over_another_forgets_what_that_was() -> None:

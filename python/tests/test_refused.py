@@ -56,5 +56,5 @@ def test_other_arrays_are_no_replies() -> None:
         callauction.refusals(numpy.zeros(1, [("tag", "u1"), ("id", "u4")]))
     with pytest.raises(TypeError, match="commands must be a numpy array, not list"):
         callauction.refusals(numpy.zeros(1, REPLY), [])  # type: ignore[arg-type]
-    with pytest.raises(ValueError, match="commands must be 1 or more, not 0"):
+    with pytest.raises(ValueError, match="commands must have 1 elements or more, not 0"):
         callauction.refusals(numpy.zeros(1, REPLY), numpy.zeros(0, COMMAND))
