@@ -48,6 +48,7 @@ call = 0
 name = "XYZ"
 open = 65536
 [members]
+joins = 0
 rate = 100000
 burst = 100000
 [fix]

@@ -38,6 +38,7 @@ sync = {sync}
 [phases]
 call = 0
 [members]
+joins = 0
 rate = 100000
 burst = 100000
 """

@@ -18,10 +18,13 @@ call = 0
 orders = 65536
 calls = 1048576
 [members]
+joins = 0
 rate = 100000
 burst = 100000
 """
-"""A day whose calls end by the operator alone, and whose members may speak as fast as they can."""
+"""A day whose calls end by the operator alone, and whose members may join and speak as fast as they
+can.
+"""
 
 
 def pytest_configure(config: pytest.Config) -> None:

@@ -27,6 +27,7 @@ call = 0
 orders = 65536
 calls = 1048576
 [members]
+joins = 0
 rate = 100000
 burst = 100000
 [fix]

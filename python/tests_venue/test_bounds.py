@@ -120,6 +120,7 @@ sync = false
 [phases]
 call = 0
 [members]
+joins = 0
 rate = 100000
 burst = 100000
 [[instrument]]
@@ -350,6 +351,7 @@ reserve = 3
 [phases]
 call = 0
 [members]
+joins = 0
 rate = 100000
 burst = 100000
 [[instrument]]

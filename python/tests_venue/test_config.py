@@ -25,6 +25,7 @@ automatic = true
 open = false
 names = ["Anna", "Bert"]
 most = 30
+joins = 12
 rate = 5.5
 burst = 10
 [[instrument]]
@@ -60,7 +61,7 @@ def test_all_that_a_day_may_say(tmp_path: pathlib.Path) -> None:
         is_synced=False,
         reserve=8,
         plan=Plan(300, 30, 120, True),
-        members=MemberTerms(False, "", ("Anna", "Bert"), 30, 5.5, 10),
+        members=MemberTerms(False, "", ("Anna", "Bert"), 30, 12, 5.5, 10),
         instruments=(first, InstrumentTerms("DEF")),
     )
     words = "--low 1 --high 2000 --reference 400 --members 64 --open 100 --calls 1000 --range 10"

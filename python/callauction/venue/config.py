@@ -128,14 +128,16 @@ class Plan:
 @dataclasses.dataclass(frozen=True)
 class MemberTerms:
     """Who may be a member: by the code of the day where `is_open`, and these names by a code of
-    their own; how many at most, and how fast they may speak: messages a second, and at once. Where
-    there are more than `group`, they are in groups with boards of their own; see DayTerms.group.
+    their own; how many at most, how many new ones of one address may join at once, 0 for any, and
+    how fast they may speak: messages a second, and at once. Where there are more than `group`, they
+    are in groups with boards of their own; see DayTerms.group.
     """
 
     is_open: bool = True
     code: str = ""
     names: tuple[str, ...] = ()
     most: int = 200
+    joins: int = 40
     rate: float = 20.0
     burst: int = 40
     group: int | None = None
@@ -291,6 +293,7 @@ def members_of(fields: Fields) -> MemberTerms:
         code=code_of(fields, default.code),
         names=fields.names("names"),
         most=fields.whole("most", default.most, 1, 10_000),
+        joins=fields.whole("joins", default.joins, 0, 10_000),
         rate=fields.number("rate", default.rate, MOST_RATE),
         burst=fields.whole("burst", default.burst, 1, 100_000),
         group=fields.whole_or_none("group", 2, MOST_TRADERS),

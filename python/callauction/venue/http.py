@@ -15,6 +15,7 @@ from aiohttp.http_exceptions import HttpProcessingError
 
 from callauction.venue import addresses, downloads, fields, heads, messages, replay, sheets, shown
 from callauction.venue import teaching
+from callauction.venue.arrivals import PAUSE
 from callauction.venue.connection import connect, packed
 from callauction.venue.gates import BODY_SECONDS, Gates
 from callauction.venue.instrument import Instrument
@@ -49,6 +50,7 @@ STATUSES = {
     "venue_full": 409,
     "has_values": 409,
     "joining_closed": 403,
+    "join_later": 429,
 }
 SOCKET = "/api/socket"
 MOST_NAME = 40
@@ -134,7 +136,8 @@ class Site:
             return await self._served(request, handler)
         except MessageError as fault:
             body = {"error": fault.code, "text": fault.text}
-            return web.json_response(body, status=STATUSES.get(fault.code, 400))
+            later = {"Retry-After": f"{PAUSE:.0f}"} if fault.code == "join_later" else {}
+            return web.json_response(body, status=STATUSES.get(fault.code, 400), headers=later)
         except web.HTTPException:
             raise
         except ConnectionError:
@@ -226,7 +229,7 @@ class Site:
         if not await self._guesses.turn(*who):
             raise MessageError("too_fast")
         try:
-            member, token = await self._venue.join(code, name)
+            member, token = await self._venue.join(code, name, request.remote or "")
         except MessageError as fault:
             if fault.code == "bad_code":
                 are_many = self._guesses.wrong(*who)

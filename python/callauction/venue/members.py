@@ -4,17 +4,19 @@ A member's `name` is the one by which it joined, which the log has; its `title` 
 """
 import asyncio
 import dataclasses
+import logging
 import unicodedata
 from collections.abc import Mapping
 
-from callauction.venue import config, fields, tokens
+from callauction.venue import arrivals, config, fields, tokens
+from callauction.venue.arrivals import Arrivals
 from callauction.venue.log import Line, Log
 from callauction.venue.messages import MessageError
 from callauction.venue.names import folded, is_role, is_seen
 from callauction.venue.rates import Bucket
 from callauction.venue.recovery import Entry
 
-
+NOTICES = logging.getLogger("callauction.venue")
 HELLO_RATE, HELLO_BURST = 2.0, 20
 """How often a member may say who it is, or come again by its code, a second and at once."""
 
@@ -81,6 +83,7 @@ class Members:
         self.codes: dict[str, str] = {}
         self._code_of_file = ""
         self.is_open = terms.is_open
+        self.arrivals = Arrivals(terms.joins)
 
     @property
     def everybody(self) -> list[Member]:
@@ -157,9 +160,9 @@ class Members:
 
     # ---- joining
 
-    def join(self, code: str, name: str) -> tuple[Member, str]:
+    def join(self, code: str, name: str, address: str = "") -> tuple[Member, str]:
         """A member and its new token: a new member by the day's code, or one that comes again by a
-        code of its own. Raises MessageError.
+        code of its own, from this address. Raises MessageError.
         """
         typed = code.strip().upper()
         for own, kept in self.codes.items():
@@ -171,7 +174,14 @@ class Members:
             raise MessageError("joining_closed")
         wanted = unicodedata.normalize("NFC", " ".join(name.split()))
         left = [it.name for it in self.all if it.is_unanswered and it.title == wanted]
-        return self._come_again(left[0] if left else self._new_title(name))
+        if left:
+            return self._come_again(left[0])
+        title = self._new_title(name)
+        self._check_room()
+        self.arrivals.check(address)
+        found = self._come_again(title)
+        self.arrivals.came(address, title)
+        return found
 
     def join_robot(self, name: str, robot: str) -> Member:
         """A robot of the venue itself, whose token nobody has. Raises MessageError."""
@@ -202,10 +212,29 @@ class Members:
         """The member of this name, new where there is none, whose token is this one from now on.
         Raises MessageError.
         """
-        if name not in self._by_name and len(self.all) >= self._terms.most:
-            raise MessageError("venue_full")
+        is_new = name not in self._by_name
+        if is_new:
+            self._check_room()
         self._log.note(kind="member", name=name, token=tokens.digest(token), robot=robot)
-        return self.learn(name, tokens.digest(token), robot)
+        found = self.learn(name, tokens.digest(token), robot)
+        if is_new and self.is_full:
+            NOTICES.warning(arrivals.FULL, self.most, name, arrivals.DO)
+        return found
+
+    @property
+    def most(self) -> int:
+        """How many members there may be."""
+        return self._terms.most
+
+    @property
+    def is_full(self) -> bool:
+        """Whether all places are taken."""
+        return len(self.all) >= self.most
+
+    def _check_room(self) -> None:
+        """Raises MessageError where all places are taken."""
+        if self.is_full:
+            raise MessageError("venue_full")
 
     def learn(self, name: str, token: str, robot: str = "") -> Member:
         """The member with this name has this token from now on."""

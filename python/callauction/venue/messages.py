@@ -48,6 +48,7 @@ ERRORS = {
     "bad_phase": "this can't be done in this phase",
     "has_values": "members have values, which they would lose",
     "joining_closed": "nobody can join any more",
+    "join_later": "many have joined from this address",
     "not_covered": "the value doesn't cover these shares",
     "no_shares": "there are no such shares to sell",
     "no_money": "there is no such money",

@@ -240,7 +240,9 @@ def halt_of(instrument: Instrument, why: str) -> Json:
 
 
 def members_of(members: Members, there: Container[Member | None], rounds: Rounds) -> Json:
-    """Who is a member, and who is connected; the codes by which they come."""
+    """Who is a member, and who is connected; the codes by which they come, how many there may be,
+    and the addresses whose new members are slowed, with how many came from there and who did last.
+    """
     rows = [
         {
             "name": member.title,
@@ -256,7 +258,12 @@ def members_of(members: Members, there: Container[Member | None], rounds: Rounds
         for member in members.everybody
     ]
     codes = {members.title_of(name): code for name, code in members.codes.items()}
-    return {"type": "members", "members": rows, "codes": codes, "open": members.is_open}
+    slowed = [
+        {"address": address, "count": len(names), "last": names[-1]}
+        for address, names in members.arrivals.slowed().items()
+    ]
+    found = {"type": "members", "members": rows, "codes": codes, "open": members.is_open}
+    return found | {"most": members.most, "slowed": slowed}
 
 
 def treatment_of(treatment: Treatment) -> Json:

@@ -155,6 +155,8 @@ class Venue:
             await asyncio.sleep(LOOK_SECONDS)
             self.time.look()
             self._look_at_disk()
+            if self.members.arrivals.has_changed():
+                self.audience.show_members()
             if self.log.length == length:
                 self.time.note(self.rounds.now.boards.values())
             for board in [*self.rounds.now.boards.values()]:
@@ -251,11 +253,11 @@ class Venue:
             raise MessageError("bad_token", OTHER_DEVICE * self.members.was_token(token))
         return "member", member
 
-    async def join(self, code: str, name: str) -> tuple[Member, str]:
-        """A member and its token. Raises MessageError."""
+    async def join(self, code: str, name: str, address: str = "") -> tuple[Member, str]:
+        """A member and its token, for somebody at this address. Raises MessageError."""
         self.halts.check_running()
         before = {it.name: it.is_removed for it in self.members.everybody}
-        member, token = self.members.join(code, name)
+        member, token = self.members.join(code, name, address)
         if member.name not in before:
             await self.groups.place([member])
         elif before[member.name]:

@@ -16,11 +16,12 @@ import {
 
 const KEPT = "venue.token", WHY = "venue.why";
 const SLOW = 300;
+const LATER = ["join_later", "halted"], AGAIN = 3000, SPREAD = 2000;
 const OTHER_DEVICE = "goes on at another device";
 const clock = new Clock(find("clock"));
 const said = { states: {}, orders: {}, fills: {}, trades: {}, ladder: {} };
 let round = null, payoff = null;
-let terms = [], chosen = "", connection = null, name = "", lostAt = null, words = null;
+let terms = [], chosen = "", connection = null, name = "", lostAt = null, words = null, again = 0;
 
 const term = () => terms.find((it) => it.name === chosen);
 const shown = (kind) => said[kind][chosen];
@@ -266,9 +267,11 @@ function sayJoin(found) {
   put(find("join-said"), found, "said bad");
 }
 
-// A second press while the first isn't answered does nothing.
+// A second press while the first isn't answered does nothing. What is refused for now alone is asked for
+// again in a while, until the form is changed.
 async function join(event) {
-  event.preventDefault();
+  event?.preventDefault();
+  clearTimeout(again);
   const button = find("join").querySelector("button");
   if (isOff(button)) return;
   disable(button, true);
@@ -279,7 +282,10 @@ async function join(event) {
     begin(found.token);
     if (found.again) say(text("came_again", found.name));
   } catch (fault) {
-    sayJoin(fault.code ? errorText(fault) : text("away_join"));
+    const isLater = LATER.includes(fault.code);
+    sayJoin(isLater ? text(fault.code === "halted" ? "join_halted" : "e_join_later")
+      : fault.code ? errorText(fault) : text("away_join"));
+    if (isLater) again = setTimeout(join, AGAIN + SPREAD * Math.random());
   } finally {
     disable(button, false);
   }
@@ -297,6 +303,7 @@ function leave(why = "") {
 }
 
 function begin(token) {
+  clearTimeout(again);
   connection = new Connection(token, take);
   draw();
 }
@@ -309,6 +316,10 @@ function follow({ key, newValue }) {
 }
 
 find("join").addEventListener("submit", join);
+find("join").addEventListener("input", () => {
+  clearTimeout(again);
+  sayJoin("");
+});
 window.addEventListener("storage", follow);
 find("leave").addEventListener("click", async () => {
   if (await asks(text("leave_asks"), text("leave_help"), text("leave"))) leave();

@@ -12,7 +12,7 @@ const KEYS = {
 export class People {
   // `act` does what is asked for.
   constructor(act) {
-    Object.assign(this, { act, members: [], codes: {}, isOpen: true, sorted: { by: "", isDown: false } });
+    Object.assign(this, { act, members: [], codes: {}, isOpen: true, slowed: [], sorted: { by: "", isDown: false } });
     for (const head of document.querySelectorAll("[data-sort]")) {
       head.querySelector("button").addEventListener("click", () => this.sortBy(head.dataset.sort));
     }
@@ -24,8 +24,17 @@ export class People {
   }
 
   // Robots that were removed are no longer listed.
-  take({ members, codes, open = true }) {
-    Object.assign(this, { members: members.filter((it) => !it.is_removed || !it.robot), codes, isOpen: open });
+  take({ members, codes, open = true, most = Infinity, slowed = [] }) {
+    Object.assign(this, { codes, isOpen: open, most, slowed });
+    this.members = members.filter((it) => !it.is_removed || !it.robot);
+  }
+
+  // Says that nobody more can join, or which addresses are slowed, and what to do.
+  drawArrivals(count) {
+    const full = count < this.most ? [] : [text("all_taken", shares(this.most))];
+    const texts = [...full, ...this.slowed.map((it) => text("slowed", it.address, shares(it.count), it.last))];
+    hide(find("arrivals"), !texts.length);
+    put(find("arrivals"), texts.length ? [...texts, text("arrivals_do")].join("\n") : "");
   }
 
   // The members with what they have, by their gains or as the teacher sorts them.
@@ -52,6 +61,7 @@ export class People {
   draw(chosen, hasBegun = this.hasBegun) {
     Object.assign(this, { chosen, hasBegun });
     const there = this.members.filter((it) => !it.is_removed), here = there.filter((it) => it.is_here);
+    this.drawArrivals(there.length);
     put(find("door"), text(this.isOpen ? "close_door" : "open_door"));
     hide(find("no-members"), Boolean(this.members.length));
     hide(find("members").parentElement, !this.members.length);

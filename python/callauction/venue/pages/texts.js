@@ -151,7 +151,14 @@ export const TEXTS = {
     e_bad_name: "A name has 1 to 40 characters that can be seen, without < and >.",
     e_name_taken: "Somebody has this name. Is it you? Then ask the teacher for a new code and enter it as the code; "
       + "else take another name.",
-    e_venue_full: "As many members as may be have joined.",
+    e_venue_full: "As many members as may be have joined: ask the teacher to make room for you.",
+    e_join_later: "Many have just joined from this network. Leave this page open: it tries again by itself within "
+      + "seconds.",
+    join_halted: "Trading has halted. Leave this page open: it tries to join again by itself.",
+    all_taken: "All {0} places are taken: nobody more can join.",
+    slowed: "Joining from {0} is slowed: {1} members came from there, lastly {2}.",
+    arrivals_do: "If these aren't your class, close joining, press “New code for all”, and remove who is wrong: "
+      + "“Remove who is away” removes all whose page isn't open. Then open joining.",
     e_instrument_full: "As many members as may be trade this instrument; your order wasn't entered.",
     e_bad_price: "The price is between two steps; nothing was entered.",
     e_above_limit: "That is more than this venue allows; nothing was entered.",
@@ -344,7 +351,15 @@ export const TEXTS = {
     e_name_taken: "Diesen Namen hat schon jemand. Sind Sie das? Dann bitten Sie die Lehrkraft um einen neuen Code "
       + "und "
       + "geben ihn als Code ein; sonst wählen Sie einen anderen Namen.",
-    e_venue_full: "So viele, wie dürfen, sind beigetreten.",
+    e_venue_full: "So viele, wie dürfen, sind beigetreten: Bitten Sie die Lehrkraft um einen Platz.",
+    e_join_later: "Aus diesem Netz sind gerade viele beigetreten. Diese Seite offen lassen: Sie versucht es in wenigen "
+      + "Sekunden von selbst noch einmal.",
+    join_halted: "Der Handel ist ausgesetzt. Diese Seite offen lassen: Sie versucht von selbst noch einmal "
+      + "beizutreten.",
+    all_taken: "Alle {0} Plätze sind vergeben: Niemand kann mehr beitreten.",
+    slowed: "Beitritte von {0} sind gebremst: {1} Mitglieder kamen von dort, zuletzt {2}.",
+    arrivals_do: "Ist das nicht Ihre Klasse: Beitritt schließen, „Neuer Code für alle“ drücken und entfernen, wer "
+      + "nicht dazugehört; „Abwesende entfernen“ entfernt alle, deren Seite nicht offen ist. Dann Beitritt öffnen.",
     e_instrument_full: "So viele, wie dürfen, handeln dieses Wertpapier; Ihre Order wurde nicht angenommen.",
     e_bad_price: "Der Preis liegt zwischen zwei Schritten; nichts wurde angenommen.",
     e_above_limit: "Das ist mehr, als dieser Handelsplatz erlaubt; nichts wurde angenommen.",
