@@ -143,7 +143,7 @@ def test_values_of_a_late_joiner_and_of_a_schedule(venue: Served) -> None:
     assert value(late)["price"] == "2.10"
     text = "name,side,price,quantity\nEve,ask,1.50,3\n"
     status, refused = venue.call("api/operator", {"do": "give", "file": text}, venue.operator)
-    assert (status, refused["text"]) == (409, "1 members would lose a value")
+    assert (status, refused["text"]) == (409, "1 member would lose a value")
     assert venue.do("give", file=text, replace=True)["given"] == 1
     assert value(late) == {"side": "ask", "price": "1.50", "quantity": 3}
     everyone = [*tokens, late]
@@ -164,6 +164,10 @@ def test_values_of_a_late_joiner_and_of_a_schedule(venue: Served) -> None:
         ({"file": "name;side\n"}, "the first line isn't name,side,price,quantity"),
         ({"file": "name,side,price,quantity\nAnna,buy,1,1\n"}, "line 2: side 'buy'"),
         ({"file": "name,side,price,quantity\nAnna,bid,1,0\n"}, "line 2: quantity '0'"),
+        ({"file": "name,side,price,quantity\nAnna,bid,1,1\nEve,bid,1,1\n anna,ask,1,1\n"},
+         "line 4: 'anna' is in line 2 too"),
+        ({"file": "round,name,side,price,quantity\n1,Anna,bid,1,1\n2,Anna,bid,1,1\n,Anna,ask,1,1"},
+         "line 4: 'Anna' is in line 2 too"),
         ({"file": "name,side,price,quantity\nEve,bid,11,1\n"}, "the value 11 isn't from"),
     ],
 )

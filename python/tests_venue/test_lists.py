@@ -3,6 +3,7 @@ import pathlib
 from typing import Any
 
 import served
+from browsing import SCREEN, opened
 from conftest import FAST
 from served import Served
 
@@ -68,3 +69,38 @@ def test_a_list_in_german_words(venue: Served) -> None:
     text = "Runde;Name;Seite;Wert;Menge\n1;Anna Lee;verkauf;1,50;3\n2;Eve;kauf;9,00;4\n"
     assert venue.do("give", file=text, replace=True)["given"] == 1
     assert [value(venue, it) for it in (anna, eve)] == [ANNA, EVE]
+
+
+def test_the_question_names_who_gets_and_who_keeps_a_value(
+    tmp_path: pathlib.Path, venue: Served
+) -> None:
+    anna, bert = venue.join("Anna Lee"), venue.join("Bert")
+    venue.join("Zoe")
+    bert_too = CLASS + "Bert,ask,1.50,20\n"
+    venue.do("give", file=bert_too)
+    body = {"do": "give", "file": CLASS}
+    status, refused = venue.call("api/operator", body, venue.operator)
+    assert (status, refused["gets"], refused["keeps"]) == (409, ["Anna Lee"], ["Bert"])
+    file = tmp_path / "values.csv"
+    file.write_text("name,side,price,quantity\nAnna Lee,bid,2.00,1\nZoe,bid,2.00,1\n")
+    url = f"{venue.url}teacher#{venue.operator}"
+    with opened(tmp_path / "teacher", url, SCREEN) as teacher:
+        teacher.clicks("#tab-values")
+        teacher.find("#how").send_keys("from a file")
+        teacher.waits(lambda it: it.shows("file"))
+        teacher.find("#file").send_keys(str(file))
+        teacher.clicks("#giving button")
+        teacher.waits(lambda it: it.shows("asking"))
+        assert teacher.text("asking-help") == (
+            "New values: Anna Lee, Zoe. Their trades since all last got values count by these. "
+            "Keep theirs: Bert.")
+        teacher.clicks("#asking-yes")
+        teacher.waits(lambda it: it.text("give-said").startswith("Values handed out: 2."))
+    assert value(venue, anna)["price"] == "2.00" and value(venue, bert)["quantity"] == 20
+
+
+def test_a_round_has_one_value_of_a_name(venue: Served) -> None:
+    """A name may be there once for each round."""
+    anna = venue.join("Anna Lee")
+    text = "name,side,price,quantity,round\nAnna Lee,ask,1.50,3,1\nAnna Lee,bid,9.00,4,2\n"
+    assert venue.do("give", file=text)["given"] == 1 and value(venue, anna) == ANNA

@@ -150,7 +150,7 @@ def named(
 def rows_of(text: str) -> tuple[ListedValue, ...]:
     """The rows of a CSV file with the columns name, side, price, quantity, and perhaps round, or
     their German words. Where its first line has semicolons between, its prices may have decimal
-    commas. Raises HandError, which names the line.
+    commas. Raises HandError, which names the line, also of a name that has two values in a round.
     """
     file = io.StringIO(text.removeprefix("\ufeff"))
     mark = max(",;", key=file.readline().count)
@@ -161,12 +161,26 @@ def rows_of(text: str) -> tuple[ListedValue, ...]:
     if not {"name", "side", "price", "quantity"} <= {*columns}:
         raise HandError("the first line isn't name,side,price,quantity, perhaps with round")
     found = []
+    lines: dict[str, dict[int | None, int]] = {}
     try:
         for row in reader:
-            found.append(row_of(row, reader.line_num, mark == ";"))
+            it = row_of(row, reader.line_num, mark == ";")
+            check_once(it, reader.line_num, lines.setdefault(folded(it.member), {}))
+            found.append(it)
     except csv.Error as fault:
         raise HandError(f"line {reader.line_num}: {fault}") from None
     return tuple(found)
+
+
+def check_once(it: ListedValue, line: int, lines: dict[int | None, int]) -> None:
+    """Raises HandError where a name has a value in the round of a row already, by the `lines` that
+    it has for its rounds, to which this one is added.
+    """
+    others = lines if it.round is None else {None, it.round} & lines.keys()
+    if others:
+        first = min(lines[round_] for round_ in others)
+        raise HandError(f"line {line}: {it.member!r} is in line {first} too")
+    lines[it.round] = line
 
 
 def row_of(row: Mapping[str, str | None], line: int, has_comma: bool = False) -> ListedValue:

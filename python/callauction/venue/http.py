@@ -135,7 +135,7 @@ class Site:
         try:
             return await self._served(request, handler)
         except MessageError as fault:
-            body = {"error": fault.code, "text": fault.text}
+            body = {"error": fault.code, "text": fault.text} | fault.more
             later = {"Retry-After": f"{PAUSE:.0f}"} if fault.code == "join_later" else {}
             return web.json_response(body, status=STATUSES.get(fault.code, 400), headers=later)
         except web.HTTPException:

@@ -58,11 +58,13 @@ ERRORS = {
 
 
 class MessageError(ValueError):
-    """A message that isn't done; `code` is one of ERRORS."""
+    """A message that isn't done; `code` is one of ERRORS, and `more` what the operator's page reads
+    beside it.
+    """
 
-    def __init__(self, code: str, text: str = "") -> None:
+    def __init__(self, code: str, text: str = "", **more: Any) -> None:
         super().__init__(text or ERRORS[code])
-        self.code, self.text = code, text or ERRORS[code]
+        self.code, self.text, self.more = code, text or ERRORS[code], more
 
 
 @dataclasses.dataclass(frozen=True, slots=True)

@@ -298,7 +298,7 @@ async def give(venue: Venue, message: dict[str, Any]) -> shown.Json:
     members = receivers(venue, rule, message, whom, held)
     losing = held if whom == "all" else {it.name for it in members} & held.keys()
     if losing and message.get("replace") is not True:
-        raise MessageError("has_values", f"{len(losing)} members would lose a value")
+        raise losing_values(venue, members, held, len(losing))
     venue.values.check_listed(market, absent)
     given = 0
     if rows or not absent:
@@ -307,6 +307,18 @@ async def give(venue: Venue, message: dict[str, Any]) -> shown.Json:
         venue.values.keep_listed(market, absent, whom == "all")
         venue.values.give_listed(venue.members.all)  # who joined meanwhile
     return {"given": given, "absent": [it.member for it in absent]}
+
+
+def losing_values(
+    venue: Venue, members: list[Member], held: Container[str], count: int
+) -> MessageError:
+    """What is said where as many members would lose a value: who would have a new one, and who
+    would keep its own.
+    """
+    names = {it.name for it in members}
+    kept = [it.title for it in venue.members.all if it.name in held and it.name not in names]
+    text = f"{count} member{'s' * (count != 1)} would lose a value"
+    return MessageError("has_values", text, gets=[it.title for it in members], keeps=kept)
 
 
 def receivers(

@@ -125,7 +125,7 @@ export async function ask(path, token, body) {
   if (body) headers["Content-Type"] = "application/json";
   const answer = await fetch(path, { method: body ? "POST" : "GET", headers, body: body && JSON.stringify(body) });
   const found = await answer.json();
-  if (!answer.ok) throw Object.assign(new Error(found.text), { code: found.error, text: found.text });
+  if (!answer.ok) throw Object.assign(new Error(found.text), { ...found, code: found.error });
   return found;
 }
 

@@ -33,6 +33,7 @@ const GERMAN = {
   "line {}: side {} is neither bid nor ask": "Zeile {}: Seite {} ist weder Kauf noch Verkauf",
   "line {}: quantity {} is no number of shares": "Zeile {}: Menge {} ist keine Zahl von Stücken",
   "line {}: round {} is no number of a round": "Zeile {}: Runde {} ist keine Nummer einer Runde",
+  "line {}: {} is in line {} too": "Zeile {}: {} steht schon in Zeile {}",
   "line {}: {}": "Zeile {}: {}",
   "the value {} isn't from {} to {}": "der Wert {} liegt nicht zwischen {} und {}",
   "the reference {} isn't from {} to {}": "die Referenz {} liegt nicht zwischen {} und {}",

@@ -5,7 +5,7 @@ import {
   speak, spoken, text, tokenOfAddress,
 } from "./common.js";
 import { Connection } from "./connection.js";
-import { Handing } from "./handing.js";
+import { Handing, losingText } from "./handing.js";
 import { bookPicture } from "./pictures.js";
 import { People } from "./people.js";
 import { RoundForm } from "./roundform.js";
@@ -196,7 +196,7 @@ async function act(body) {
   } catch (fault) {
     say("");
     if (fault.code !== "has_values") refuse(fault);
-    else if (await asks(text("give_asks"), text("give_asks_help"), text("give_now"))) {
+    else if (await asks(text("give_asks"), losingText(body, fault), text("give_now"))) {
       return act({ ...body, replace: true });
     }
     return null;
