@@ -1,11 +1,13 @@
 """A program that a killed venue has left, and others who have its journal."""
 import asyncio
+import contextlib
 import json
 import pathlib
 import signal
 import subprocess
 import sys
 import time
+from collections.abc import Iterator
 
 import psutil
 import pytest
@@ -75,22 +77,123 @@ def test_a_program_that_hangs_and_whose_venue_was_killed(tmp_path: pathlib.Path)
             program.kill()
 
 
-def test_a_program_that_isnt_the_last_runs(tmp_path: pathlib.Path) -> None:
+@contextlib.contextmanager
+def holding(journal: pathlib.Path) -> Iterator[int]:
+    """The number of a process that is no program and has a journal."""
+    words = [sys.executable, "-c", HOLDS, str(journal)]
+    with subprocess.Popen(words, stdout=subprocess.PIPE) as child:
+        try:
+            assert child.stdout is not None and child.stdout.readline() == b"it waits\n"
+            time.sleep(0.5)
+            yield child.pid
+            assert child.poll() is None
+        finally:
+            child.kill()
+
+
+@pytest.mark.parametrize("has_entries", [False, True])
+def test_who_has_a_journal_and_is_no_program(tmp_path: pathlib.Path, has_entries: bool) -> None:
     """It is named, with what to do, and lives on; the status is one of a start that is tried again.
+    Nobody is told to begin a day anew that has entries.
     """
-    _, program = left_hanging(tmp_path)
-    log = tmp_path / "venue/venue.log"
-    began = Program.of(program.pid)
-    assert began is not None and log.read_text().count(f'"began":{began.began},') == 1
-    other = f'"began":{began.began + 1},'
-    log.write_text(log.read_text().replace(f'"began":{began.began},', other))
+    with served.served(tmp_path, FAST) as venue:
+        token = venue.join("Anna")
+        venue.do("start")
+        if has_entries:
+            with Client(venue.url, token) as me:
+                assert me.enter("bid", 1, "2.00").entry == 1
+    with holding(tmp_path / "venue/XYZ.journal.csv") as pid:
+        do = "then start again" if has_entries else "or --folder NEW begins anew"
+        text = f"journal in use by process {pid}: `kill -9 {pid}` ends it: {do}"
+        assert start_failed(tmp_path) == (3, f"venue: XYZ: {text}\n")
+
+
+STOPS = """#!{python}
+import fcntl, os, pathlib, signal, sys
+stop = pathlib.Path({folder!r}, "stop")
+if stop.exists() and "--journal" in sys.argv:
+    path = sys.argv[sys.argv.index("--journal") + 1]
+    if pathlib.Path(path).parent.name == "venue":
+        fcntl.flock(os.open(path, os.O_RDWR), fcntl.LOCK_EX)
+        stop.write_text(str(os.getpid()))
+        os.kill(os.getpid(), signal.SIGSTOP)
+os.execv({program!r}, [{program!r}, *sys.argv[1:]])
+"""
+"""A program that stops where it is told to, once it has opened its journal."""
+
+
+def test_a_program_that_hung_before_its_venue_knew_of_it(tmp_path: pathlib.Path) -> None:
+    """The log has nothing of it; it is known by its command line, and ended."""
+    program, stop = tmp_path / "program", tmp_path / "stop"
+    text = STOPS.format(python=sys.executable, folder=str(tmp_path), program=served.program())
+    program.write_text(text)
+    program.chmod(0o700)
+    with served.served(tmp_path, FAST, CALLBOARD=str(program)) as venue:
+        token = venue.join("Anna")
+        venue.do("start")
+        with Client(venue.url, token) as me:
+            assert me.enter("bid", 1, "2.00").entry == 1
+    stop.write_text("")
+    words = ["--day", tmp_path / "day.toml", "--folder", tmp_path / "venue"]
+    words += ["--port", served.free_port()]
+    env = served.environment(CALLBOARD=str(program))
+    child = subprocess.Popen(served.words_of(*words), env=env, stderr=subprocess.DEVNULL)
+    while not stop.read_text():
+        time.sleep(0.02)
+    hung = psutil.Process(int(stop.read_text()))
+    child.kill()
+    child.wait(served.SECONDS)
+    stop.unlink()
     try:
-        who = f"process {program.pid}: `kill -9 {program.pid}` ends it"
-        text = f"venue: XYZ: journal in use by {who}: or --folder NEW begins anew\n"
-        assert start_failed(tmp_path) == (3, text)
-        assert program.status() == psutil.STATUS_STOPPED
+        with served.served(tmp_path, FAST, CALLBOARD=str(program)) as venue:
+            with Client(venue.url, token) as me:
+                assert me.enter("bid", 1, "2.00").entry == 2
+            assert not hung.is_running() or hung.status() == psutil.STATUS_ZOMBIE
     finally:
-        program.kill()
+        if hung.is_running():
+            hung.kill()
+
+
+def test_which_processes_were_left(tmp_path: pathlib.Path) -> None:
+    """This program with this journal, that leads a session, and whose parent is no venue."""
+    journal, other = tmp_path / "XYZ.journal.csv", tmp_path / "other"
+    journal.write_text("")
+    other.write_text("")
+    program = tmp_path / "program"
+    program.write_text("import time; time.sleep(1000)")
+    words = [sys.executable, str(program), "--live", "--journal"]
+    parent = [sys.executable, "-c", "import subprocess, sys; "
+              "print(subprocess.Popen(sys.argv[2:], start_new_session=True).pid, flush=True); "
+              "input()"]
+
+    def is_left(path: str, whose: str, named: str = str(program)) -> bool:
+        command = [*parent, whose, *words, path]
+        pipe = subprocess.PIPE
+        with subprocess.Popen(command, stdin=pipe, stdout=pipe, cwd=tmp_path) as child:
+            assert child.stdin is not None and child.stdout is not None
+            pid = int(child.stdout.readline())
+            try:
+                while not psutil.Process(pid).cmdline():  # as its start isn't done yet
+                    time.sleep(0.01)
+                return leftovers.is_left(pid, named, journal)
+            finally:
+                psutil.Process(pid).kill()
+                child.kill()
+
+    assert is_left(str(journal), "shell") and is_left(journal.name, "shell")
+    assert not is_left(str(other), "shell") and not is_left(str(tmp_path / "none"), "shell")
+    assert not is_left(str(journal), "shell", str(other))
+    assert not is_left(str(journal), "callauction.venue")
+    own = subprocess.Popen([*words, str(journal)], start_new_session=True)
+    other_words = subprocess.Popen(SLEEPS, start_new_session=True)
+    try:
+        assert not leftovers.is_left(own.pid, str(program), journal)  # whose parent this is
+        assert not leftovers.is_left(other_words.pid, str(program), journal)
+        assert not leftovers.is_left(1 << 22, str(program), journal)
+    finally:
+        for child in (own, other_words):
+            child.kill()
+            child.wait(served.SECONDS)
 
 
 @pytest.mark.asyncio

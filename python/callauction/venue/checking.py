@@ -14,6 +14,7 @@ from collections.abc import Collection, Iterable, Iterator, Sequence
 from callauction.statuses import FAILED
 from callauction.venue import begun, config, copies, gates, owned, room, tokens
 from callauction.venue.begun import OtherDayError, date_of
+from callauction.venue.engine import JOURNAL
 from callauction.venue.fields import ConfigError
 from callauction.venue.fix_terms import SENT
 from callauction.venue.halts import PUT_BACK
@@ -186,7 +187,7 @@ def checked_day(day: config.DayTerms, folder: pathlib.Path, lines: list[Line]) -
         yield f"warning: {BEHIND % behind}"
         return
     yield from (f"warning: {text}" for text in warnings_of_clock(0.0, set_since(lines)))
-    for path in sorted(folder.glob(f"*{copies.JOURNAL}")):
+    for path in sorted(folder.glob(f"*{JOURNAL}")):
         behind = round(os.lstat(path).st_mtime - time.time(), 3)
         if behind >= LEAST_BEHIND:
             yield f"warning: the clock is {behind} s behind the last change of {path.name}"
@@ -212,7 +213,7 @@ def checked_journals(
     for key in dict.fromkeys(filter(None, boards)):
         own = [line for line in lines if line.get("instrument") == key]
         try:
-            found[key] = entries_known(folder / f"{key}{copies.JOURNAL}", key, own)
+            found[key] = entries_known(folder / f"{key}{JOURNAL}", key, own)
             yield f"{key}: {len(found[key])} entries"
         except RolledBackError as fault:  # it halts, and the others are served
             yield f"warning: {fault}: {PUT_BACK}"

@@ -17,6 +17,7 @@ import time
 from callauction.statuses import BAD_DAY, BAD_FILE, FAILED
 from callauction.venue import owned, tokens
 from callauction.venue.downloads import NAMES_FILE, RESULTS_FILE
+from callauction.venue.engine import JOURNAL
 from callauction.venue.fix_terms import SENT
 from callauction.venue.log import Line, LogError, read_lines, text_of
 from callauction.venue.owned import OwnerError
@@ -25,7 +26,6 @@ from callauction.venue.recovery import (
 )
 from callauction.venue.venue import LOG
 
-JOURNAL = ".journal.csv"
 TOKEN = ".token"
 SUMS = "SHA256SUMS"
 SUM = re.compile(r"([0-9a-f]{64})  ([^\x00-\x1f\x7f]{1,255})")

@@ -6,6 +6,7 @@ answered from there, and what it hadn't is sent again. A journal that is older t
 another one, halts it, and so does a program that doesn't answer.
 """
 import asyncio
+import contextlib
 import contextvars
 import dataclasses
 import errno
@@ -32,6 +33,8 @@ from callauction.venue.recovery import (
 )
 
 ENTERED = re.compile(r"(\d+): (.*)")
+JOURNAL = ".journal.csv"
+"""How the name of each journal ends."""
 NO_CALLS = ("calls are reserved for the operator", "too many commands")
 NOTICES = logging.getLogger("callauction.venue")
 CUT_OFF = "%s: the end of its journal was no whole line, and was put aside: %s has it"
@@ -62,11 +65,13 @@ class Sent:
 
 
 class InUseError(ProcessError):
-    """Another process has the journal: `by` names it with what ends it, where it is seen."""
+    """Another process has the journal: `by` names it with what ends it, where it is seen. Whether a
+    journal of its folder has an entry.
+    """
 
-    def __init__(self, by: str) -> None:
+    def __init__(self, by: str, has_entries: bool) -> None:
         super().__init__(IN_USE, FAILED)
-        self.by = by
+        self.by, self.has_entries = by, has_entries
 
 
 class Engine:
@@ -262,7 +267,7 @@ class Engine:
         """A run of the program, and how many entries its journal has. Raises ProcessError, OSError.
         """
         loop = asyncio.get_running_loop()
-        begin, ends = loop.time(), 0
+        begin, ends, looks = loop.time(), 0, loop.time() + LEFT_SECONDS
         while True:
             process = Process(self.words, self._ended)
             try:
@@ -275,7 +280,8 @@ class Engine:
                     raise
                 if loop.time() > begin + IN_USE_SECONDS:
                     raise (await self._in_use() if fault.text == IN_USE else fault) from None
-            if loop.time() > begin + LEFT_SECONDS:
+            if loop.time() > looks:
+                looks = float("inf")
                 await self._end_left()
             await asyncio.sleep(PAUSE)
 
@@ -284,18 +290,17 @@ class Engine:
         where there is no thread.
         """
         holders = await self._in_thread(leftovers.holders_of, self.journal)
-        return InUseError(leftovers.named(holders))
+        begun = await self._in_thread(has_entries, self.journal.parent)
+        return InUseError(leftovers.named(holders), begun)
 
     async def _end_left(self) -> None:
-        """Ends the program of the last run where that has the journal still, as it hangs. Raises
-        OSError where there is no thread.
+        """Ends programs that were left and have the journal still, as they hang. Raises OSError
+        where there is no thread.
         """
-        left, self._left = self._left, None
-        if left is None:
-            return
-        holders = await self._in_thread(leftovers.holders_of, self.journal)
-        if left.pid in holders and left.end():
-            NOTICES.warning(LEFT, self.name, left.pid)
+        last, self._left = self._left, None
+        for left in await self._in_thread(leftovers.left_on, self.journal, self.words[0], last):
+            if left.end():
+                NOTICES.warning(LEFT, self.name, left.pid)
 
     def _begin(self, process: Process) -> None:
         """Writes after which entries a run begins, and what is sent to it first; then sends that.
@@ -523,6 +528,16 @@ class Engine:
         if self._is_tried:
             self.halted, self._is_tried = None, False
             self.on_change()
+
+
+def has_entries(folder: pathlib.Path) -> bool:
+    """Whether a journal of a folder has an entry, as far as they can be read."""
+    for path in folder.glob(f"*{JOURNAL}"):
+        with contextlib.suppress(OSError), path.open("rb") as file:
+            file.readline()
+            if file.read(1).strip(b"\0"):
+                return True
+    return False
 
 
 def state_of(path: pathlib.Path) -> tuple[int, ...]:

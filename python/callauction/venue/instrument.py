@@ -14,7 +14,7 @@ from callauction.venue.accounts import Accounts
 from callauction.venue.auctions import Auctions, Point
 from callauction.venue.book import OPERATOR, Book
 from callauction.venue.commands import Commands
-from callauction.venue.engine import Engine
+from callauction.venue.engine import JOURNAL, Engine
 from callauction.venue.gains import Value
 from callauction.venue.handing import Rule
 from callauction.venue.log import Line, Log
@@ -68,7 +68,7 @@ class Instrument:
         restores: list[Line],
     ) -> None:
         terms = dataclasses.replace(terms.in_round(treatment), name=identity.name)
-        journal = folder / f"{identity.key}.journal.csv"
+        journal = folder / f"{identity.key}{JOURNAL}"
         words = [program, "--live", "--journal", str(journal), "--reserve", str(day.reserve)]
         words += [] if day.is_synced else ["--sync", "none"]
         engine = Engine(identity.key, [*words, *terms.words()], journal, log)

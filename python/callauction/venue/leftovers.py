@@ -1,5 +1,6 @@
 """Programs that a venue which was killed has left: who has a journal that is in use, and whether it
-is the program of the last run, by its number, its start, and the machine's.
+is the program of the last run, by its number, its start, and the machine's; or one of a run that
+was killed before its log had these, by its command line.
 """
 import contextlib
 import dataclasses
@@ -12,8 +13,12 @@ from typing import Any, Self
 from callauction.venue import clock
 
 PROCESSES = pathlib.Path("/proc")
-START_FIELD = 19
-"""The place of a process's start among the fields behind its name in /proc/PID/stat."""
+PARENT_FIELD, SESSION_FIELD, START_FIELD = 1, 3, 19
+"""The places of a process's parent, its session and its start among the fields behind its name in
+/proc/PID/stat.
+"""
+VENUE = "callauction.venue"
+"""What the command line of a venue has."""
 
 
 @dataclasses.dataclass(frozen=True)
@@ -31,8 +36,7 @@ class Program:
         """The process that has this number, None where there is none or it can't be seen."""
         boot = clock.boot()
         with contextlib.suppress(OSError, ValueError, IndexError):
-            text = (PROCESSES / str(pid) / "stat").read_text("utf-8", "replace")
-            return cls(pid, int(text.rpartition(")")[2].split()[START_FIELD]), boot)
+            return cls(pid, int(fields_of(pid)[START_FIELD]), boot)
         return None
 
     def kept(self) -> dict[str, Any]:
@@ -79,6 +83,41 @@ def writes(pid: int, about: os.stat_result) -> bool:
                 is_written = it.lstat().st_mode & stat.S_IWUSR
                 if is_written and os.path.samestat(about, os.stat(it)):
                     return True
+    return False
+
+
+def fields_of(pid: int) -> list[str]:
+    """The fields behind a process's name in its /proc/PID/stat. Raises OSError."""
+    text = (PROCESSES / str(pid) / "stat").read_text("utf-8", "replace")
+    return text.rpartition(")")[2].split()
+
+
+def words_of(pid: int) -> list[str]:
+    """The command line of a process. Raises OSError."""
+    return os.fsdecode((PROCESSES / str(pid) / "cmdline").read_bytes()).split("\0")
+
+
+def left_on(journal: pathlib.Path, program: str, last: Program | None) -> list[Program]:
+    """The processes that have a journal and were left by venues that were killed: the program of
+    the last run, and others that are this program with this journal.
+    """
+    those = map(Program.of, holders_of(journal))
+    return [it for it in those if it and (it == last or is_left(it.pid, program, journal))]
+
+
+def is_left(pid: int, program: str, journal: pathlib.Path) -> bool:
+    """Whether a process is this program with this journal on its command line, of this user, and
+    leads a session, as a venue starts it, whose parent is no venue any more.
+    """
+    about = PROCESSES / str(pid)
+    with contextlib.suppress(OSError, ValueError, IndexError):
+        fields, words = fields_of(pid), words_of(pid)
+        is_program = program in words[:2] or os.path.samefile(about / "exe", program)
+        own = about / "cwd" / words[words.index("--journal") + 1]
+        is_own = os.stat(about).st_uid == os.geteuid() and int(fields[SESSION_FIELD]) == pid
+        parent = int(fields[PARENT_FIELD])
+        is_orphan = parent != os.getpid() and VENUE not in words_of(parent)
+        return is_own and is_orphan and is_program and os.path.samefile(own, journal)
     return False
 
 

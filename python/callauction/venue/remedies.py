@@ -50,6 +50,11 @@ OF_PROGRAM = {
     "the program was ended": "install the program anew",
 }
 """What to do by the begin of what the program says, or what is said of it; the first that fits."""
+OF_DAY = {
+    "journal in use by": "then start again",
+    "journal in use": "end the program that has it, then start again",
+}
+"""What to do instead where a day of the folder has an entry, which nobody begins anew."""
 FAULTS = (
     *(AddressError, ConfigError, LogError, MemoryError, OSError, OtherDayError, OwnerError),
     *(ProcessError, RecoveryError, RuntimeError, TokenError),
@@ -83,7 +88,9 @@ def said_of_program(fault: ProcessError) -> tuple[str, int]:
     ended = f"ended with status {fault.status}" if fault.status else "isn't callboard"
     text = fault.text or f"the program {ended}"
     text += fault.by if isinstance(fault, InUseError) else ""
-    found = (do for begin, do in OF_PROGRAM.items() if text.startswith(begin))
+    is_begun = isinstance(fault, InUseError) and fault.has_entries
+    remedies = OF_DAY if is_begun else OF_PROGRAM
+    found = (do for begin, do in remedies.items() if text.startswith(begin))
     status = fault.status if BAD_FILE <= fault.status <= UNLAWFUL else FAILED
     return f"{board_of(fault)}{text}: {next(found, 'docs/FORMATS.md has it')}", status
 
