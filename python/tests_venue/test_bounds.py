@@ -168,7 +168,7 @@ def test_a_removed_member_leaves_its_place(tmp_path: pathlib.Path) -> None:
     """All places of an instrument are taken, two of them by members who trade: only those keep
     theirs, whoever is removed, also after the venue starts again.
     """
-    day = "sync = false\n[phases]\ncall = 0\n" + TWO
+    day = "sync = false\n[phases]\ncall = 0\n[members]\njoins = 0\n" + TWO
     names = [f"greedy {place}" for place in range(MOST_TRADERS)]
     with served.served(tmp_path, day) as venue:
         venue.do("start", instrument="AAA")

@@ -147,6 +147,8 @@ def test_payoffs(lesson: dict[str, Any]) -> None:
     teacher.clicks("input[name=payoffs][value=ranking]")
     anna.waits(lambda it: it.text("place") == "Place 2 of 3")
     assert "Round 2 · Open book: 10.00" in anna.text("gains")
+    least = "A payoff is never below 0."
+    assert least in anna.text("payoff") and least in teacher.text("paying")
     beamer.waits(lambda it: "Ranking" in it.text("placing"))
 
 
