@@ -21,7 +21,7 @@ NOTICED = re.compile(
     r"^venue: (.* halted: |.* goes on|.* is started again(?: \(and \d+ times more\))?$"
     r"|\S+: \d+ of at most |codes are guessed|too many connections"
     r"|all \d+ places are taken|joins from \S+ are slowed"
-    r"|a token that isn't the operator's|the operator: resume, from |the day is over"
+    r"|a token that isn't the operator's|the operator: resume( of \S+)?, from |the day is over"
     r"|\S+: process \d+, the program of the last run, "
     r"|the disk of \S+ has \d+ MiB left: |the machine's clock is "
     r"|the log's last line is \d|the call of \S+ has ended while |\S+: the end of its journal was )"

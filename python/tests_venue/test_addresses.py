@@ -11,6 +11,7 @@ import aiohttp
 import pytest
 import served
 from callauction.venue import addresses
+from callauction.venue.serving import Address
 from served import Served
 from test_doors import hello
 
@@ -70,6 +71,20 @@ def test_a_vpn_is_no_way_to_telephones(tmp_path: pathlib.Path) -> None:
 def test_a_name_that_is_given_comes_before_all_addresses(tmp_path: pathlib.Path) -> None:
     found = done(tmp_path, *link("wlan0", "10.42.0.1/24"), "venue 0.0.0.0 --name class.example")
     assert found[0] == {"members": "class.example", "others": ["http://10.42.0.1:8080/"]}
+
+
+def test_addresses_that_the_certificate_is_for(monkeypatch: pytest.MonkeyPatch) -> None:
+    """Others would be refused by each browser; all, where it is for none."""
+    monkeypatch.setattr(addresses, "own_addresses", lambda host: ["192.0.2.2", "2001:db8::2"])
+    address = Address("0.0.0.0", 8120, "cert.pem", "key.pem", names=("venue.example",))
+    first, second, third = (
+        f"https://{it}:8120/" for it in ("venue.example", "192.0.2.2", "[2001:db8::2]")
+    )
+    assert address.urls(8120, lambda: ["*.example"]) == [first]
+    assert address.urls(8120, lambda: ["venue.example", "2001:db8::2"]) == [first, third]
+    assert address.urls(8120, lambda: ["192.0.2.2"]) == [second]
+    assert address.urls(8120, lambda: ["other.example"]) == [first, second, third]
+    assert address.urls(8120) == [first, second, third]
 
 
 def test_no_network(tmp_path: pathlib.Path) -> None:

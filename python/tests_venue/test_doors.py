@@ -83,6 +83,15 @@ def test_a_member_speaks_for_itself_alone(venue: Served) -> None:
         assert heard[1]["error"] == "bad_message"
 
 
+def test_an_error_echoes_numbers_alone(venue: Served) -> None:
+    token = venue.join("Anna")
+    for number in (True, 1.5, "1"):
+        text = json.dumps(ENTER | {"number": number})
+        heard = asyncio.run(said(venue, hello(token), text, count=2))[1]
+        RECEIVED.validate(heard)
+        assert heard["error"] == "bad_message" and "number" not in heard
+
+
 def test_a_member_sees_no_others_orders_in_a_call(venue: Served) -> None:
     anna, bert = venue.join("Anna"), venue.join("Bert")
     venue.do("start")

@@ -67,7 +67,7 @@ def test_no_results_of_an_earlier_end_stay(tmp_path: pathlib.Path) -> None:
     with served.served(tmp_path, DAY) as venue:
         anna, bert = venue.join("Anna"), venue.join("Bert")
         trade(venue, anna, bert, "2.00")
-    before = [it.read_text() for it in files]
+    before = [it.read_text("utf-8-sig") for it in files]
     copies.backup(folder, copy)
     assert not any((copy / it.name).exists() for it in files)
     with served.served(tmp_path, DAY) as venue:
@@ -75,7 +75,7 @@ def test_no_results_of_an_earlier_end_stay(tmp_path: pathlib.Path) -> None:
         trade(venue, anna, venue.join("Carl"), "2.50")
         until(lambda: ",20,45.00," in download(venue, "results"))
         results = download(venue, "results")
-    after = [it.read_text() for it in files]
+    after = [it.read_text("utf-8-sig") for it in files]
     assert after[0] == results and after[0] != before[0] and after[1] != before[1]
 
 
@@ -98,7 +98,7 @@ def test_the_results(tmp_path: pathlib.Path) -> None:
         lesson(venue)
         found = rows(download(venue, "results"))
         text = download(venue, "results")
-    assert (tmp_path / "venue/results.csv").read_text() == text
+    assert (tmp_path / "venue/results.csv").read_text("utf-8") == "\ufeff" + text
     assert [(it["round"], it["name"]) for it in found] == [
         *(("1", "'=Anna"), ("1", "Bert"), ("1", "Carl")),
         *(("2", "'=Anna"), ("2", "Bert"), ("2", "Carl")),

@@ -133,7 +133,7 @@ async def test_the_tables_have_the_trades_of_an_uncross_just_before(tmp_path: pa
         await answer
     assert (await board.auctions.uncross()).endswith(" trades 1")
     await venue.close()
-    with open(tmp_path / "results.csv", newline="", encoding="utf-8") as file:
+    with open(tmp_path / "results.csv", newline="", encoding="utf-8-sig") as file:
         rows = {it["name"]: it for it in csv.DictReader(file) if it["round"] == "1"}
     assert (rows["Anna"]["bought"], rows["Bert"]["sold"]) == ("5", "5")
 

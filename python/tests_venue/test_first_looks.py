@@ -72,7 +72,7 @@ def test_a_round_that_was_begun_beside_one_that_isnt_known(tmp_path: pathlib.Pat
             ["XYZ", "Bert", "0", "0.00", "10", "20.00"],
         ]
         venue.end()
-        left = (tmp_path / "venue/results.csv").read_text("utf-8")
+        left = (tmp_path / "venue/results.csv").read_text("utf-8-sig")
         assert left.splitlines() == found.splitlines()
 
 

@@ -4,8 +4,9 @@ import time
 
 import pytest
 import served
-from browsing import SCREEN, Page, opened
+from browsing import SCREEN, Page, joined, opened
 from callauction.venue import Client, VenueError
+from test_robots import until
 
 DAY = """
 sync = false
@@ -73,3 +74,40 @@ def test_a_halt_of_one_of_two_instruments(tmp_path: pathlib.Path) -> None:
 def test_a_resume_where_nothing_has_halted(tmp_path: pathlib.Path) -> None:
     with served.served(tmp_path, DAY) as venue:
         assert venue.do("resume") == {"done": "resume", "resumed": []}
+
+
+def test_a_refusal_goes_once_trading_goes_on(tmp_path: pathlib.Path) -> None:
+    """On a member's page and on the teacher's."""
+    with served.served(tmp_path, DAY) as venue, joined(tmp_path / "anna", venue, "Anna") as anna:
+        venue.do("start", instrument="APPLES")
+        anna.waits(lambda it: not it.is_off("#send"))
+        anna.types(quantity="1", price="2.00")
+        with opened(tmp_path / "teacher", f"{venue.url}teacher#{venue.operator}", SCREEN) as page:
+            log, other = tmp_path / "venue/venue.log", tmp_path / "moved"
+            log.rename(other)
+            for it in (anna, page):
+                it.waits(lambda it: it.text("phase") == "Halted")
+            anna.clicks("#send")
+            anna.waits(lambda it: it.text("said").startswith("Trading has halted"))
+            page.clicks("[data-do=resume]")
+            page.waits(lambda it: "bad" in str(it.find("#said").get_attribute("class")))
+            other.rename(log)
+            venue.do("resume")
+            for it in (anna, page):
+                it.waits(lambda it: it.text("phase") != "Halted" and it.text("said") == "")
+
+
+def test_who_joins_in_a_halt_joins_once_it_is_over(tmp_path: pathlib.Path) -> None:
+    with served.served(tmp_path, DAY) as venue, opened(tmp_path / "anna", venue.url) as anna:
+        token = venue.join("Bert")
+        log, other = tmp_path / "venue/venue.log", tmp_path / "moved"
+        log.rename(other)
+        until(lambda: bool(venue.call("api/look/state?instrument=PEARS", token=token)[1]["halted"]))
+        anna.waits(lambda it: it.shows("join"))
+        anna.types(code=venue.code, name="Anna")
+        anna.clicks("#join button")
+        anna.waits(lambda it: it.text("join-said") == (
+            "Trading has halted. Leave this page open: it tries to join again by itself."))
+        other.rename(log)
+        venue.do("resume")
+        anna.waits(lambda it: it.text("who") == "Anna")

@@ -1265,6 +1265,8 @@ def test_a_copy_isnt_put_into_its_day(tmp_path: pathlib.Path) -> None:
         text = ran("backup", tmp_path / "venue", place, status=1)
         assert text == f"backup: {place} is in the folder of the day itself\n"
     copied(tmp_path / "venue", tmp_path / "venue2")
+    text = ran("backup", tmp_path, tmp_path / "copy", status=1)
+    assert text == f"backup: {tmp_path} is no folder of a venue: it has no venue.log\n"
 
 
 def test_a_place_that_is_taken(tmp_path: pathlib.Path) -> None:

@@ -9,6 +9,7 @@ import pytest
 import served
 from browsing import Page, opened, joins
 from callauction.venue import messages
+from callauction.venue.recovery import OTHER_FIRST
 from callauction.venue.timekeeping import AHEAD, AWAY, DOES, STOOD
 
 PACKAGE = served.PACKAGE / "callauction/venue"
@@ -127,6 +128,42 @@ def test_each_reason_is_said_in_german(page: Page) -> None:
 ])
 def test_a_reason(page: Page, said: str, german: str) -> None:
     assert in_german(page, [said]) == [german]
+
+
+HALTS = (
+    "journal failed",
+    "journal in use",
+    "journal open failed",
+    "the journal is missing",
+    "the journal is missing, and the log knows of 3 entries",
+    "the journal is an older one: it has 2 entries, and the log knows of 3",
+    "the journal is another one: its first 3 entries aren't those of which the log knows",
+    OTHER_FIRST,
+    "the journal was changed while its program began",
+    "the journal has entries, and the log none of its messages",
+    "entry 3 of the journal is no message of the log",
+    "/day/XYZ.journal.csv may be written by other users: chmod go-w",
+    "/day/XYZ.journal.csv belongs to another user: find out who, then chown",
+    "/day/XYZ.journal.csv is a link: put the file itself there",
+    "/day/XYZ.journal.csv is no regular file: move it away",
+    "the program was ended by signal 9",
+    "the program hasn't answered for 10 s",
+    "the program hasn't begun for 60 s",
+    "the program can't be run: No such file or directory",
+    "the program doesn't run",
+    "the program answers entry 3 after entry 3",
+    "the venue's log can't be written: it waits for the disk for more than 10 s",
+    "the venue's log can't be written: No space left on device",
+    "the venue's log can't be written: it was changed by others",
+)
+"""Why an instrument or the venue has halted, as the teacher's page says it."""
+
+
+def test_each_reason_of_a_halt_is_said_in_german(page: Page) -> None:
+    found = in_german(page, [*HALTS])
+    english = "| the |is missing| aren't | isn't |can't|hasn't|doesn't|changed by|No space"
+    assert [it for it in found if re.search(english.strip("|"), it)] == []
+    assert [it for it in HALTS if it in found] == []
 
 
 def test_a_member_reads_it(page: Page) -> None:

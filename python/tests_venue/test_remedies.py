@@ -98,3 +98,9 @@ def test_a_check_looks_whose_files_are_there_before_it_opens_one(tmp_path: pathl
         words, env=served.environment(), capture_output=True, text=True, timeout=served.SECONDS
     )
     assert ran.returncode == 2 and "venue.log" in ran.stderr, ran.stderr
+
+
+def test_a_folder_in_which_no_file_can_be_made() -> None:
+    ran = ran_once("--folder", "/proc/venue", "--port", 0, "--check")
+    text = "venue: /proc: no file can be made there: name another\n"
+    assert (ran.returncode, ran.stderr) == (3, text)

@@ -293,7 +293,7 @@ def test_all_who_are_away_are_removed(lesson: dict[str, Any]) -> None:
     teacher.waits(lambda it: it.text("count").startswith("23 members, 1 here"))
     teacher.clicks("#remove-away")
     answers(teacher)
-    teacher.waits(lambda it: it.text("count") == "1 members, 1 here, 1 robots")
+    teacher.waits(lambda it: it.text("count") == "1 member, 1 here, 1 robot")
     assert not teacher.shows("remove-away") and anna.text("who") == "Anna B."
 
 
@@ -328,7 +328,8 @@ HALTS = {
     "the journal is missing, and the log knows of 3 entries": "halt_file",
     "journal changed by others": "halt_file",
     "entry 3 of the journal is no message of the log": "halt_file",
-    "/venue/XYZ.journal.csv may be written by other users: chmod go-w": "halt_file",
+    "/venue/XYZ.journal.csv may be written by other users: chmod go-w": "halt_rights",
+    "/venue/XYZ.journal.csv belongs to another user: find out who, then chown": "halt_rights",
     "the venue's log can't be written: it was changed by others": "halt_file",
     "the venue's log can't be written: No space left on device": "halt_disk",
     "journal failed": "halt_disk",

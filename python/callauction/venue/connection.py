@@ -201,7 +201,7 @@ class Connection:
         number = None
         try:
             given, fault = read(text)
-            if isinstance(found := given.get("number"), int):
+            if type(found := given.get("number")) is int:
                 number = found
             if given.get("type") == "ping":
                 return self._pinged(given)

@@ -71,13 +71,18 @@ def whole_lines(content: bytes) -> bytes:
     return text[: text.rfind(b"\n") + 1]
 
 
+def check_day(folder: pathlib.Path) -> None:
+    """Raises CopyError where a folder is no venue's, and OSError."""
+    if LOG not in os.listdir(folder):
+        raise CopyError(f"{folder} is no folder of a venue: it has no {LOG}")
+
+
 def read_day(folder: pathlib.Path) -> tuple[Files, int]:
     """All files of a day, the log behind the journals, and how many lines it had before them.
     Raises OSError, and CopyError where there is no log.
     """
+    check_day(folder)
     names = sorted(it.name for it in folder.iterdir() if not LEFT_OUT.fullmatch(it.name))
-    if LOG not in names:
-        raise CopyError(f"{folder} is no folder of a venue: it has no {LOG}")
     begun = whole_lines(read_file(folder / LOG)).count(b"\n")
     names.sort(key=turn_of)
     found = {}
@@ -206,6 +211,7 @@ def write_day(files: Files, folder: pathlib.Path) -> None:
 def backup(folder: pathlib.Path, copy: pathlib.Path) -> Files:
     """Copies a day, which may run meanwhile: its files. Raises CopyError, LogError, OSError."""
     if copy.resolve().is_relative_to(folder.resolve()):
+        check_day(folder)
         raise CopyError(f"{copy} is in the folder of the day itself")
     check_new(copy)
     files = consistent(*read_day(folder))

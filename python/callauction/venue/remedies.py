@@ -1,5 +1,6 @@
 """What is said of each fault by which a venue doesn't start: what is wrong, and what to do."""
 import errno
+import os
 
 from callauction.statuses import BAD_DAY, BAD_FILE, FAILED, UNLAWFUL
 from callauction.venue.begun import OtherDayError
@@ -102,6 +103,8 @@ def board_of(fault: Exception) -> str:
 
 def said_of_file(fault: OSError) -> str:
     """What is said where something can't be read or written."""
+    if fault.errno == errno.ENOENT and os.path.isdir(fault.filename or ""):
+        return f"{fault.filename}: no file can be made there: name another"
     text = fault.strerror or str(fault)
     named = f"{fault.filename}: {text}" if fault.filename else text
     do = OF_FILES.get(fault.errno or 0)

@@ -12,7 +12,7 @@ import ssl
 import sys
 import threading
 import time
-from collections.abc import Callable, Coroutine, Iterator, Mapping, Sequence
+from collections.abc import Callable, Coroutine, Iterable, Iterator, Mapping, Sequence
 from typing import Any, Protocol
 
 from aiohttp import web
@@ -158,10 +158,13 @@ class Address:
         found = [*self.names, *(addresses.own_addresses(self.host) if is_anywhere else [self.host])]
         return found or ["localhost"]
 
-    def urls(self, port: int) -> list[str]:
-        """The addresses of the first page now, the best one first."""
-        kind = "https" if self.cert else "http"
-        shown = (f"[{host}]" if ":" in host else host for host in self.reached())
+    def urls(self, port: int, names: Callable[[], Iterable[str]] = tuple) -> list[str]:
+        """The addresses of the first page now, the best one first: those that the certificate with
+        these names is for, where it is for any of them.
+        """
+        kind, those, hosts = "https" if self.cert else "http", [*names()], self.reached()
+        found = [it for it in hosts if any(addresses.is_named(it, name) for name in those)]
+        shown = (f"[{host}]" if ":" in host else host for host in found or hosts)
         return [f"{kind}://{host}:{port}/" for host in shown]
 
 
@@ -352,7 +355,7 @@ async def begin(
     pages = Pages(Site(venue, program, address.hosts(), own).application(), own)
     doors.append(pages)
     port = await pages.begin(address.host, address.port, tls)
-    venue.audience.urls = functools.partial(address.urls, port)
+    venue.audience.urls = functools.partial(address.urls, port, lambda: venue.certificate_names)
     for front in fronts:
         others.append(await front.begin(tls))
         doors.append(front)
@@ -403,9 +406,10 @@ def measures(venue: Venue, found: gates.Gates, fronts: Sequence[Front]) -> web.A
 
 
 def take(venue: Venue, address: Address) -> None:
-    """Keeps when the certificate that is served ends, and says for whom it isn't."""
+    """Keeps when the certificate that is served ends and for whom it is, and says for whom not."""
     if address.cert:
         venue.certificate_ends = ends_of(address.cert)
+        venue.certificate_names = names_of(address.cert)
     for text in address.warnings():
         NOTICES.warning(text)
 

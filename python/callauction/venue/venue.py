@@ -23,6 +23,7 @@ from callauction.venue.messages import MessageError, Order
 from callauction.venue.recovery import Entry, Message
 from callauction.venue.robots import Robots
 from callauction.venue.rounds import Rounds
+from callauction.venue.sheets import SIGNATURE
 from callauction.venue.starts import Starts, starting
 from callauction.venue.timekeeping import Timekeeper
 from callauction.venue.values import Values
@@ -59,6 +60,7 @@ class Venue:
         self.starts = Starts(day, *whom, *seen, self._begun)
         self.groups = Groups(day, *whom, *seen, self.starts)
         self.certificate_ends: float | None = None
+        self.certificate_names: list[str] = []
         self.on_entry: Heard = lambda board, message, entry: None
         self.reset_session: Reset = no_sessions
         self.secrets = {role: tokens.secret_of(folder, role) for role in ("operator", "beamer")}
@@ -219,7 +221,8 @@ class Venue:
                 names = downloads.members_of(board, self.members.title_of)
                 yield f"{key}{downloads.NAMES_FILE}", names
         if self.rounds.are_seen and self.lesson("").rounds:
-            yield downloads.RESULTS_FILE, downloads.results_table(self.lesson(""))
+            results = downloads.results_table(self.lesson(""))
+            yield downloads.RESULTS_FILE, SIGNATURE.encode("utf-8") + results
 
     def _leave_tables(self) -> None:
         """Writes the tables beside the journals. Raises OSError, which names those that can't be.

@@ -1,7 +1,7 @@
 // The page of the beamer: how to join, then the call, then what came of it and why.
 import {
-  ask, choices, errorText, figures, find, hide, make, money, offerLanguages, price, put, shares, speak, spoken, text,
-  tokenOfAddress,
+  ask, choices, errorText, figures, find, hide, make, money, offerLanguages, price, put, robotsText, shares, speak,
+  spoken, text, tokenOfAddress,
 } from "./common.js";
 import { Connection } from "./connection.js";
 import { bookPicture, coursePicture, drawCode } from "./pictures.js";
@@ -66,7 +66,7 @@ function drawJoin(scene) {
   put(find("address"), address);
   put(find("code"), screen.code);
   put(find("count"), shares(screen.members ?? 0));
-  put(find("robots"), screen.robots ? `· ${text("robots_count", shares(screen.robots))}` : "");
+  put(find("robots"), screen.robots ? `· ${robotsText(screen.robots)}` : "");
   hide(find("join-small"), scene === "join" || !screen.code);
   put(find("join-small"), `${text("join_at")} ${address} · ${text("code")} ${screen.code}`);
   hide(find("qr-place"), !screen.qr);

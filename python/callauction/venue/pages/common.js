@@ -52,6 +52,8 @@ export const price = (decimal) => grouped(decimal, spoken());
 export const money = (amount, terms) => `${price(amount)} ${terms.currency}`;
 export const asTyped = (decimal) => typed(decimal, spoken());
 
+export const robotsText = (count) => text(count === 1 ? "robot_count" : "robots_count", shares(count));
+
 // What is wrong, by the code of an error of the venue; what it says more is added where it says more.
 export function errorText(fault) {
   const code = fault.code ?? fault.error, reason = fault.text ?? "";

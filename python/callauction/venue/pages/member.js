@@ -204,6 +204,7 @@ function takeState(message) {
   const before = said.states[message.instrument];
   said.states[message.instrument] = message;
   forgetUnknown(message, [said.orders, said.fills, said.trades, said.ladder]);
+  if (before?.halted && !message.halted && message.instrument === chosen && words?.isBad) say("");
   if (!before || message.instrument !== chosen || before.phase === message.phase) return;
   say("");
   form.mark(null);

@@ -1,7 +1,7 @@
 // The members as the teacher sees them: who is there, what they have and gained, and what is done with
 // one of them, with the door, with robots.
 import { asks } from "./asking.js";
-import { find, hide, price, put, shares, spoken, text } from "./common.js";
+import { find, hide, price, put, robotsText, shares, spoken, text } from "./common.js";
 import { fill } from "./rows.js";
 
 const KEYS = {
@@ -66,8 +66,9 @@ export class People {
     hide(find("no-members"), Boolean(this.members.length));
     hide(find("members").parentElement, !this.members.length);
     const robots = there.filter((it) => it.robot);
-    const words = text("members_count", shares(there.length - robots.length), shares(here.length - robots.length));
-    put(find("count"), robots.length ? `${words}, ${text("robots_count", shares(robots.length))}` : words);
+    const count = there.length - robots.length;
+    const words = text(count === 1 ? "member_count" : "members_count", shares(count), shares(here.length - robots.length));
+    put(find("count"), robots.length ? `${words}, ${robotsText(robots.length)}` : words);
     hide(find("remove-away"), !this.away.length);
     hide(find("no-robots"), !robots.length);
     const lacks = robots.some((it) => it.robot !== "zero" && !valueOf(it, chosen).value);

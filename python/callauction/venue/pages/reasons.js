@@ -24,6 +24,35 @@ const GERMAN = {
   "the call of {} has ended while it had halted": "der Aufruf von {} ging zu Ende, während es ausgesetzt war",
   "`extend` lets it go on": "„Verlängern“ hilft",
   "it goes on for {} s, then it is uncrossed": "er geht noch {} s weiter, dann wird der Preis ermittelt",
+  "journal failed": "das Journal konnte nicht geschrieben werden",
+  "journal in use": "ein anderer Prozess hat das Journal",
+  "journal open failed": "das Journal kann nicht geöffnet werden",
+  "the journal is missing": "das Journal fehlt",
+  "the journal is missing, and the log knows of {} entries": "das Journal fehlt, und das Protokoll kennt {} Einträge",
+  "the journal is an older one: it has {} entries, and the log knows of {}":
+    "das Journal ist ein älteres: Es hat {} Einträge, und das Protokoll kennt {}",
+  "the journal is another one: its first {} entries aren't those of which the log knows":
+    "das Journal ist ein anderes: Seine ersten {} Einträge sind nicht die, die das Protokoll kennt",
+  "the journal is another one: its first line isn't the day's":
+    "das Journal ist ein anderes: Seine erste Zeile ist nicht die dieses Tages",
+  "the journal was changed while its program began": "das Journal wurde verändert, während sein Programm begann",
+  "the journal has entries, and the log none of its messages":
+    "das Journal hat Einträge, und das Protokoll keine Nachricht dazu",
+  "entry {} of the journal is no message of the log": "Eintrag {} des Journals ist keine Nachricht des Protokolls",
+  "{} may be written by other users: chmod go-w": "{} dürfen andere Benutzer schreiben: chmod go-w",
+  "{} belongs to another user: find out who, then chown":
+    "{} gehört einem anderen Benutzer: herausfinden, wem; dann chown",
+  "{} is a link: put the file itself there": "{} ist ein Link: die Datei selbst dorthin legen",
+  "{} is no regular file: move it away": "{} ist keine Datei: es wegräumen",
+  "the program was ended by signal {}": "das Programm wurde durch Signal {} beendet",
+  "the program hasn't answered for {} s": "das Programm hat {} s lang nicht geantwortet",
+  "the program hasn't begun for {} s": "das Programm hat in {} s nicht begonnen",
+  "the program can't be run: {}": "das Programm kann nicht gestartet werden: {}",
+  "the program doesn't run": "das Programm läuft nicht",
+  "the program answers entry {} after entry {}": "das Programm antwortet mit Eintrag {} nach Eintrag {}",
+  "the venue's log can't be written: it waits for the disk for more than {} s":
+    "das Protokoll wartet seit mehr als {} s auf den Datenträger",
+  "the venue's log can't be written: {}": "das Protokoll kann nicht geschrieben werden: {}",
   "values by chance have a low and a high price": "Werte durch Zufall haben ein Tief und ein Hoch",
   "low {} is above high {}": "Tief {} liegt über Hoch {}",
   "a schedule has prices of demand and of supply": "eine Liste hat Preise der Nachfrage und des Angebots",
@@ -69,6 +98,11 @@ const WORDS = {
   waiting: "noch kein Aufruf", call: "Aufrufphase", extended: "verlängerte Aufrufphase", ended: "Aufruf beendet",
   over: "Handelstag beendet", title: "Titel", message: "Allen gesagt", seconds: "Sekunden", count: "Anzahl",
   quantity: "Menge", shares: "Stück",
+  "it was changed by others": "andere haben es verändert",
+  "No space left on device": "der Datenträger ist voll", "Input/output error": "Fehler des Datenträgers",
+  "Disk quota exceeded": "das Kontingent des Datenträgers ist verbraucht", "File too large": "die Datei ist zu groß",
+  "No such file or directory": "keine solche Datei", "Permission denied": "keine Erlaubnis",
+  "Read-only file system": "der Datenträger ist nur zum Lesen da",
 };
 const NUMBER = /^\d+(\.\d+)?$/;
 const patternOf = (words) => new RegExp(`^${words.split("{}")

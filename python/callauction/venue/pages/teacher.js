@@ -141,9 +141,16 @@ function take(message) {
   else if (type === "members") people.take(message);
   else if (type === "beamer") takeShown(message);
   else if (type === "round") takeRound(message);
-  else if (type in said) said[type][message.instrument] = message;
+  else if (type in said) keep(message);
   if (type === "state") forgetUnknown(message, [said.ladder, said.trades, said.efficiency, said.course]);
   draw();
+}
+
+// What was refused in a halt isn't said any more once it goes on.
+function keep(message) {
+  const those = said[message.type], before = those[message.instrument];
+  those[message.instrument] = message;
+  if (before?.halted && !message.halted && find("said").classList.contains("bad")) say("");
 }
 
 function welcome(message) {

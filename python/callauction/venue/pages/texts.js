@@ -18,6 +18,7 @@ export const TEXTS = {
     halt_disk: "What was answered is kept. Make room on the disk, or mend it; then press “{0}”.",
     halt_file: "A file isn't as the venue wrote it, and nothing is executed on it. Put the right one back; "
       + "then press “{0}”.",
+    halt_rights: "Nothing is executed on such a file. See that nobody has changed it, and do this; then press “{0}”.",
     halt_in_use: "What was answered is kept. Another process has the journal: standard error of the venue names it. "
       + "End it; then press “{0}”.",
     halt_program: "What was answered is kept. Press “{0}”; where it halts again, memory is short, or the program "
@@ -67,7 +68,8 @@ export const TEXTS = {
       + "the line that begins with “teacher”.",
     no_beamer: "This page is opened by the address that the venue printed when it was started: "
       + "the line that begins with “beamer”.",
-    members: "Members", members_count: "{0} members, {1} here", is_here: "here", is_away: "away",
+    members: "Members", members_count: "{0} members, {1} here", member_count: "1 member, {1} here",
+    is_here: "here", is_away: "away",
     new_code: "New code", codes: "Codes", rank: "Rank",
     no_members: "Nobody has joined yet.",
     give: "Hand out private values",
@@ -93,7 +95,7 @@ export const TEXTS = {
     efficiency_short: "Efficiency {0} %: {1} of {2}",
     efficiency: "Efficiency", efficiency_is: "{0} % of the greatest possible gain ({1} of {2})",
     join_at: "Join at", status: "Status", done: "Done", left: "Orders left to members", setting: "Screen, files",
-    count_of_members: "joined", robots_count: "{0} robots",
+    count_of_members: "joined", robots_count: "{0} robots", robot_count: "1 robot",
     replay: "Replay", stop: "Stop", replay_at: "Order {0} of {1}",
     why: "Why this price?", crossing: "Demand and supply", who_gained: "Who gained most",
     predicted: "By the values: price {0}, volume {1}", from_to: "{0} to {1}",
@@ -206,6 +208,8 @@ export const TEXTS = {
       + "dann „{0}“ drücken.",
     halt_file: "Eine Datei ist nicht so, wie der Handelsplatz sie schrieb; mit ihr wird nichts ausgeführt. "
       + "Die richtige zurücklegen; dann „{0}“ drücken.",
+    halt_rights: "Mit einer solchen Datei wird nichts ausgeführt. Nachsehen, dass niemand sie verändert hat, und dies "
+      + "tun; dann „{0}“ drücken.",
     halt_in_use: "Was beantwortet wurde, bleibt. Ein anderer Prozess hat das Journal; die Fehlerausgabe des "
       + "Handelsplatzes nennt ihn. Ihn beenden; dann „{0}“ drücken.",
     halt_program: "Was beantwortet wurde, bleibt. „{0}“ drücken; hält es wieder an, fehlt Speicher, "
@@ -263,7 +267,8 @@ export const TEXTS = {
       + "die Zeile, die mit „teacher“ beginnt.",
     no_beamer: "Diese Seite öffnet die Adresse, die der Handelsplatz beim Start druckt: "
       + "die Zeile, die mit „beamer“ beginnt.",
-    members: "Mitglieder", members_count: "{0} Mitglieder, {1} da", is_here: "da", is_away: "weg",
+    members: "Mitglieder", members_count: "{0} Mitglieder, {1} da", member_count: "1 Mitglied, {1} da",
+    is_here: "da", is_away: "weg",
     new_code: "Neuer Code", codes: "Codes",
     rank: "Rang", no_members: "Noch niemand ist beigetreten.",
     give: "Private Werte austeilen",
@@ -292,7 +297,7 @@ export const TEXTS = {
     efficiency_short: "Effizienz {0} %: {1} von {2}",
     efficiency: "Effizienz", efficiency_is: "{0} % des größten möglichen Gewinns ({1} von {2})",
     join_at: "Beitreten unter", status: "Stand", done: "Erledigt", left: "Freie Orders der Mitglieder",
-    setting: "Leinwand, Dateien", count_of_members: "beigetreten", robots_count: "{0} Roboter",
+    setting: "Leinwand, Dateien", count_of_members: "beigetreten", robots_count: "{0} Roboter", robot_count: "1 Roboter",
     replay: "Wiederholung", stop: "Beenden", replay_at: "Order {0} von {1}",
     why: "Warum dieser Preis?", crossing: "Nachfrage und Angebot", who_gained: "Wer am meisten gewann",
     predicted: "Nach den Werten: Preis {0}, Volumen {1}", from_to: "{0} bis {1}",
