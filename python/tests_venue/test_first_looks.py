@@ -51,7 +51,11 @@ def test_a_round_that_was_begun_beside_one_that_isnt_known(tmp_path: pathlib.Pat
     put_back = away(tmp_path / "venue")
     url = f"http://127.0.0.1:{(port := served.free_port())}"
     with served.served(tmp_path, FAST, "--metrics", f"127.0.0.1:{port}") as venue:
-        venue.do("next", round=2)
+        asked = {"do": "next", "round": 2}
+        status, refused = venue.call("api/operator", asked, venue.operator)
+        assert (status, refused["boards"], refused["text"]) == (
+            409, ["XYZ"], "it isn't known what XYZ has: resume first, or begin anyway")
+        venue.do("next", round=2, anyway=True)
         status, text = looked(f"{url}/healthz")
         assert (status, json.loads(text)["halted"]) == (503, {"XYZ of round 1": WHY})
         with opened(tmp_path / "browser", f"{venue.url}teacher#{venue.operator}", SCREEN) as page:
@@ -81,7 +85,7 @@ def test_no_results_are_left_of_a_day_that_isnt_known(tmp_path: pathlib.Path) ->
         trade(venue, *[venue.join(name) for name in ("Anna", "Bert")])
     put_back = away(tmp_path / "venue")
     with served.served(tmp_path, FAST) as venue:
-        venue.do("next", round=2)
+        venue.do("next", round=2, anyway=True)
         for kind in ("results", "trades", "report"):
             found = venue.call(f"api/download/{kind}/XYZ", token=venue.operator)
             assert (found[0], found[1]["error"]) == (503, "halted")
@@ -261,7 +265,7 @@ async def test_a_first_look_that_fails_in_a_round_that_is_over(
     """It is one of what halts until it is seen, and payoffs wait for it."""
     (folder := tmp_path / "venue").mkdir(0o700)
     async with without_journal(folder) as (venue, board), asyncio.timeout(served.SECONDS):
-        await venue.groups.next_round(2, venue.day.treatment(2))
+        await venue.groups.next_round(2, venue.day.treatment(2), is_anyway=True)
         await is_tried_in_vain(venue, board, monkeypatch)
         assert halts_of(venue) == {"XYZ of round 1": SILENT} and not venue.rounds.are_seen
         samples = [sample for it in Measures(venue, Gates()).collect() for sample in it.samples]

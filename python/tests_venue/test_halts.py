@@ -7,6 +7,7 @@ import served
 from browsing import SCREEN, Page, joined, opened
 from callauction.venue import Client, VenueError
 from test_robots import until
+from test_rounds import sees
 
 DAY = """
 sync = false
@@ -111,3 +112,32 @@ def test_who_joins_in_a_halt_joins_once_it_is_over(tmp_path: pathlib.Path) -> No
         other.rename(log)
         venue.do("resume")
         anna.waits(lambda it: it.text("who") == "Anna")
+
+
+def test_a_round_beside_a_board_that_has_halted(tmp_path: pathlib.Path) -> None:
+    """The page says which one, and begins the next round after a question alone."""
+    with served.served(tmp_path, DAY) as venue:
+        token = venue.join("Anna")
+        for name in ("APPLES", "PEARS"):
+            venue.do("start", instrument=name)
+        with Client(venue.url, token) as me:
+            assert me.enter("bid", 1, "2.00", instrument="PEARS").entry == 1
+        for name in ("APPLES", "PEARS"):
+            venue.do("uncross", instrument=name)
+        journal, other = tmp_path / "venue/PEARS.journal.csv", tmp_path / "moved"
+        with opened(tmp_path / "browser", f"{venue.url}teacher#{venue.operator}", SCREEN) as page:
+            page.waits(lambda it: not it.is_off("#next-round"))
+            journal.rename(other)
+            page.waits(lambda it: it.shows("halts"))
+            for button in ("#asking-no", "#asking-yes"):
+                page.clicks("#next-round")
+                page.waits(lambda it: it.text("asking-head") == "Begin round 2?")
+                page.clicks("#asking-yes")
+                page.waits(lambda it: it.text("asking-head") == (
+                    "It isn't known what PEARS has. Begin round 2 anyway?"))
+                assert page.text("asking-help").startswith("Cancel, mend what is said on top, and")
+                page.clicks(button)
+                page.waits(lambda it: not it.shows("asking"))
+            page.waits(lambda it: not it.shows("halts"))
+            other.rename(journal)
+            assert sees(venue, "round")["round"] == 2 and not page.errors()

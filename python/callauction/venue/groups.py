@@ -68,9 +68,12 @@ class Groups:
             if sizes[member.group] >= self._day.group and not self._has_number(member):
                 self._deal({member.name: smallest})
 
-    async def next_round(self, number: int, treatment: Treatment) -> None:
-        """Ends this round and begins the one of this number, for the same members. Raises
-        PhaseError and MessageError, also where the log can't be written now.
+    async def next_round(
+        self, number: int, treatment: Treatment, is_anyway: bool = False
+    ) -> None:
+        """Ends this round and begins the one of this number, for the same members, where it isn't
+        known what a board of this one has only if `is_anyway`. Raises PhaseError and MessageError,
+        also where the log can't be written now.
         """
         with contextlib.suppress(OSError):  # which halts the venue
             await self._log.check_written()
@@ -85,6 +88,8 @@ class Groups:
                     await board.looks.settle()
             if not now.is_between:
                 raise PhaseError("an auction is going on: end its call, and uncross")
+            if not is_anyway:
+                self._rounds.check_known()
             for board in before:
                 await board.end()
             count = -(-len(self._members.all) // self._day.group)

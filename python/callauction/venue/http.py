@@ -49,6 +49,7 @@ STATUSES = {
     "bad_phase": 409,
     "venue_full": 409,
     "has_values": 409,
+    "not_known": 409,
     "joining_closed": 403,
     "join_later": 429,
 }

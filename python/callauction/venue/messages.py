@@ -47,6 +47,7 @@ ERRORS = {
     "not_allowed": "this isn't yours to do",
     "bad_phase": "this can't be done in this phase",
     "has_values": "members have values, which they would lose",
+    "not_known": "it isn't known what a board of this round has",
     "joining_closed": "nobody can join any more",
     "join_later": "many have joined from this address",
     "not_covered": "the value doesn't cover these shares",

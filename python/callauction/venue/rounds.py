@@ -14,6 +14,8 @@ from callauction.venue.messages import MessageError
 from callauction.venue.phases import Phase, PhaseError
 from callauction.venue.treatments import Treatment
 
+NOT_KNOWN = "it isn't known what {} has: resume first, or begin anyway"
+
 
 @dataclasses.dataclass
 class Round:
@@ -206,6 +208,16 @@ class Rounds:
         """Raises MessageError until it was seen what all boards have."""
         for board in self.boards.values():
             board.looks.check_seen()
+
+    def check_known(self) -> None:
+        """Raises MessageError, which names them, where boards of this round have halted, or it
+        wasn't seen yet what they have.
+        """
+        those = [
+            name for name, it in self.now.boards.items() if it.engine.halted or not it.looks.is_seen
+        ]
+        if those:
+            raise MessageError("not_known", NOT_KNOWN.format(", ".join(those)), boards=those)
 
     @property
     def early_halts(self) -> list[tuple[Instrument, str]]:

@@ -3,7 +3,8 @@
 - start, end, uncross, freeze, thaw, extend (seconds): the auction of all groups of `instrument`;
   `phase` is the one that was seen, and nothing is done in another.
 - next (round, the number of the next one; perhaps treatment, with the keys of [[round]] in
-  day.toml, `file` being the text of the list): the next round. treat (treatment): this round,
+  day.toml, `file` being the text of the list; anyway, where it isn't known what a board of this
+  round has, as it has halted): the next round. treat (treatment): this round,
   before its first call; its reference stays, and its values where it has handed them out.
 - give (to: all, new, or named with members; how: chance with low, high, quantity; schedule with
   demand, supply, quantity; shuffle; list with values or file; replace): values; answers how many
@@ -146,7 +147,7 @@ async def begin_round(venue: Venue, message: dict[str, Any]) -> shown.Json:
     if "treatment" in message:
         treatment = treatment_of_message(message["treatment"])
     venue.day.check(treatment)
-    await venue.groups.next_round(number, treatment)
+    await venue.groups.next_round(number, treatment, message.get("anyway") is True)
     return {"round": number}
 
 

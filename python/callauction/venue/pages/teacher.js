@@ -192,8 +192,18 @@ function close() {
 
 // ---- what is done
 
+async function asksToReplace(body, fault) {
+  return await asks(text("give_asks"), losingText(body, fault), text("give_now")) && { replace: true };
+}
+
+// Whether to begin a round though it isn't known what boards of this one have.
+async function asksToBegin({ round: number }, { boards }) {
+  const head = text("unknown_asks", boards.join(", "), number);
+  return await asks(head, text("unknown_help", text("resume")), text("begin_anyway")) && { anyway: true };
+}
+
 // Does what the operator asks for: what is answered, or nothing where it isn't done. What would take
-// values away is done after a question alone.
+// values away, or begin a round beside one that isn't known, is done after a question alone.
 async function act(body) {
   say(text("one_moment"));
   try {
@@ -202,11 +212,9 @@ async function act(body) {
     return found;
   } catch (fault) {
     say("");
-    if (fault.code !== "has_values") refuse(fault);
-    else if (await asks(text("give_asks"), losingText(body, fault), text("give_now"))) {
-      return act({ ...body, replace: true });
-    }
-    return null;
+    const question = { has_values: asksToReplace, not_known: asksToBegin }[fault.code];
+    const more = question ? await question(body, fault) : refuse(fault);
+    return more ? act({ ...body, ...more }) : null;
   }
 }
 
