@@ -116,8 +116,8 @@ def test_a_script_that_takes_places(tmp_path: pathlib.Path) -> None:
         assert (slowed["address"], shown["most"]) == ("127.0.0.9", 200)
         assert slowed["count"] == len(came_in) and slowed["last"].startswith("Bot")
         [line] = said_at_end(venue).splitlines()
-        assert line == (
-            f"venue: joins from 127.0.0.9 are slowed: 40 members came from there, lastly Bot39; {DO}")
+        said = "joins from 127.0.0.9 are slowed: 40 members came from there, lastly Bot39"
+        assert line == f"venue: {said}; {DO}"
 
 
 def test_all_places_are_taken(tmp_path: pathlib.Path) -> None:

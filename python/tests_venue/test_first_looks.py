@@ -51,8 +51,8 @@ def test_a_round_that_was_begun_beside_one_that_isnt_known(tmp_path: pathlib.Pat
     put_back = away(tmp_path / "venue")
     url = f"http://127.0.0.1:{(port := served.free_port())}"
     with served.served(tmp_path, FAST, "--metrics", f"127.0.0.1:{port}") as venue:
-        asked = {"do": "next", "round": 2}
-        status, refused = venue.call("api/operator", asked, venue.operator)
+        begins = {"do": "next", "round": 2}
+        status, refused = venue.call("api/operator", begins, venue.operator)
         assert (status, refused["boards"], refused["text"]) == (
             409, ["XYZ"], "it isn't known what XYZ has: resume first, or begin anyway")
         venue.do("next", round=2, anyway=True)

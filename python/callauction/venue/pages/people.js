@@ -66,8 +66,8 @@ export class People {
     hide(find("no-members"), Boolean(this.members.length));
     hide(find("members").parentElement, !this.members.length);
     const robots = there.filter((it) => it.robot);
-    const count = there.length - robots.length;
-    const words = text(count === 1 ? "member_count" : "members_count", shares(count), shares(here.length - robots.length));
+    const [count, countHere] = [there, here].map((those) => those.length - robots.length);
+    const words = text(count === 1 ? "member_count" : "members_count", shares(count), shares(countHere));
     put(find("count"), robots.length ? `${words}, ${robotsText(robots.length)}` : words);
     hide(find("remove-away"), !this.away.length);
     hide(find("no-robots"), !robots.length);
