@@ -56,7 +56,8 @@ def test_a_class_behind_one_address(caplog: pytest.LogCaptureFixture) -> None:
     assert came(found, "10.0.0.1", "late") and not came(found, "10.0.0.1")
     [record] = caplog.records
     assert record.getMessage() == (
-        f"joins from 10.0.0.1 are slowed: 40 members came from there, lastly member 39; {DO}")
+        "joins from 10.0.0.1 are slowed: 40 members came from there, lastly member 35, "
+        f"member 36, member 37, member 38, member 39; {DO}")
     clock.now += arrivals.SLOW_SECONDS
     assert found.slowed() == {} and found.has_changed()
     clock.now += 41 * arrivals.PAUSE
@@ -116,7 +117,8 @@ def test_a_script_that_takes_places(tmp_path: pathlib.Path) -> None:
         assert (slowed["address"], shown["most"]) == ("127.0.0.9", 200)
         assert slowed["count"] == len(came_in) and slowed["last"].startswith("Bot")
         [line] = said_at_end(venue).splitlines()
-        said = "joins from 127.0.0.9 are slowed: 40 members came from there, lastly Bot39"
+        said = "joins from 127.0.0.9 are slowed: 40 members came from there, lastly "
+        said += ", ".join(f"Bot{place}" for place in range(35, 40))
         assert line == f"venue: {said}; {DO}"
 
 

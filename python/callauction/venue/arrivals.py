@@ -15,7 +15,8 @@ PAUSE = 3.0
 """Seconds from one new member to the next of an address that has had as many as may be at once."""
 SLOW_SECONDS = 60.0
 """How long it is said that an address is slowed, after somebody of it was refused."""
-MOST_COUNTED = 1000
+MOST_COUNTED, MOST_NAMED = 1000, 5
+"""How many addresses are known, and how many of who came last from one are named."""
 LATER = f"many have joined from this address: one more can each {PAUSE:g} s"
 DO = (
     "if that isn't the class, Close joining on the teacher's page, New code for all, and Remove "
@@ -60,7 +61,7 @@ class Arrivals:
             found.refused = None
         if not found.bucket.has_room():
             if not self._is_slowed(found):
-                NOTICES.warning(SLOWED, where, len(found.names), found.names[-1], DO)
+                NOTICES.warning(SLOWED, where, len(found.names), last_of(found.names), DO)
             found.refused = self._clock()
             raise MessageError("join_later", LATER)
 
@@ -86,3 +87,8 @@ class Arrivals:
     def _is_slowed(self, found: Origin) -> bool:
         """Whether somebody of an address was refused a short while ago."""
         return found.refused is not None and self._clock() - found.refused < SLOW_SECONDS
+
+
+def last_of(names: list[str]) -> str:
+    """Who came last."""
+    return ", ".join(names[-MOST_NAMED:])

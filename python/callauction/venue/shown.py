@@ -4,6 +4,7 @@ from collections.abc import Callable, Container, Iterable
 from typing import Any
 
 from callauction.venue.accounts import Fill
+from callauction.venue.arrivals import last_of
 from callauction.venue.instrument import Instrument
 from callauction.venue.members import Member, Members
 from callauction.venue.results import Payoff
@@ -259,7 +260,7 @@ def members_of(members: Members, there: Container[Member | None], rounds: Rounds
     ]
     codes = {members.title_of(name): code for name, code in members.codes.items()}
     slowed = [
-        {"address": address, "count": len(names), "last": names[-1]}
+        {"address": address, "count": len(names), "last": last_of(names)}
         for address, names in members.arrivals.slowed().items()
     ]
     found = {"type": "members", "members": rows, "codes": codes, "open": members.is_open}

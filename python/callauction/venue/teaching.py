@@ -8,7 +8,8 @@
   before its first call; its reference stays, and its values where it has handed them out.
 - give (to: all, new, or named with members; how: chance with low, high, quantity; schedule with
   demand, supply, quantity; shuffle; list with values or file; replace): values; answers how many
-  were given, and the names of a list that are absent: their values wait until they join.
+  were given, and the names of a list that are absent: their values wait until they join. An error
+  has_values has who would have another value (gets), and who would keep its own (keeps).
 - message (text): said to all. show (shows): what the screen shows. payoffs (shows: none, own,
   ranking): what members see of them.
 - code (member, or none for the day's), door (open), readmit (member), rename (member, name). remove

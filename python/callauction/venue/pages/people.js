@@ -12,7 +12,8 @@ const KEYS = {
 export class People {
   // `act` does what is asked for.
   constructor(act) {
-    Object.assign(this, { act, members: [], codes: {}, isOpen: true, slowed: [], sorted: { by: "", isDown: false } });
+    Object.assign(this, { act, members: [], codes: {}, isOpen: true, most: Infinity, slowed: [] });
+    this.sorted = { by: "", isDown: false };
     for (const head of document.querySelectorAll("[data-sort]")) {
       head.querySelector("button").addEventListener("click", () => this.sortBy(head.dataset.sort));
     }

@@ -164,7 +164,8 @@ export const TEXTS = {
       + "seconds.",
     join_halted: "Trading has halted. Leave this page open: it tries to join again by itself.",
     all_taken: "All {0} places are taken: nobody more can join.",
-    slowed: "Joining from {0} is slowed: {1} members came from there, lastly {2}.",
+    slowed: "Joining from {0} is slowed: {1} members came from there, lastly {2}. If that is your class, all come in "
+      + "by themselves, one each 3 seconds; “joins” in the day's file allows more at once.",
     arrivals_do: "If these aren't your class, close joining, press “New code for all”, and remove who is wrong: "
       + "“Remove who is away” removes all whose page isn't open. Then open joining.",
     e_instrument_full: "As many members as may be trade this instrument; your order wasn't entered.",
@@ -376,7 +377,8 @@ export const TEXTS = {
     join_halted: "Der Handel ist ausgesetzt. Diese Seite offen lassen: Sie versucht von selbst noch einmal "
       + "beizutreten.",
     all_taken: "Alle {0} Plätze sind vergeben: Niemand kann mehr beitreten.",
-    slowed: "Beitritte von {0} sind gebremst: {1} Mitglieder kamen von dort, zuletzt {2}.",
+    slowed: "Beitritte von {0} sind gebremst: {1} Mitglieder kamen von dort, zuletzt {2}. Ist das Ihre Klasse, kommen "
+      + "alle von selbst hinein, alle 3 Sekunden jemand; „joins“ in der Datei des Tages erlaubt mehr auf einmal.",
     arrivals_do: "Ist das nicht Ihre Klasse: Beitritt schließen, „Neuer Code für alle“ drücken und entfernen, wer "
       + "nicht dazugehört; „Abwesende entfernen“ entfernt alle, deren Seite nicht offen ist. Dann Beitritt öffnen.",
     e_instrument_full: "So viele, wie dürfen, handeln dieses Wertpapier; Ihre Order wurde nicht angenommen.",
