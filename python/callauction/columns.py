@@ -111,7 +111,7 @@ def _given(
 ) -> dict[str, Any]:
     """The columns of a frame and those of keywords. Raises TypeError."""
     if not (frame is None or isinstance(frame, Mapping) or hasattr(frame, "columns")):
-        raise TypeError(f"frame must be a mapping or a frame of columns, not {type(frame).__name__}")
+        raise TypeError(f"frame must be a mapping or frame of columns, not {type(frame).__name__}")
     found: dict[str, Any] = {} if frame is None else {str(name): frame[name] for name in frame}
     for name in found:
         if name not in NAMES:

@@ -115,7 +115,7 @@ def test_the_frame_of_a_journal_is_applied_again() -> None:
 ])  # fmt: skip
 def test_what_is_no_frame(frame: Any) -> None:
     kind = type(frame).__name__
-    text = f"frame must be a mapping or a frame of columns, not {kind}"
+    text = f"frame must be a mapping or frame of columns, not {kind}"
     with pytest.raises(TypeError, match=f"^{re.escape(text)}$"):
         commands(frame, quantity=5)
 
