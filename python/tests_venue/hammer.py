@@ -15,6 +15,7 @@ from callauction.fix.tags import FIX44
 SESSION = "FIX.4.4:VENUE->ALICE"
 KINDS = [*"0123456789ADFGHVWXYEjqrghxy", "AF", "AE"]
 TAGS = [*range(1, 160), *range(262, 280), *(336, 530, 552, 554, 8013, 1 << 31, 1 << 63)]
+DATA = [(354, 355), (93, 89), (95, 96), (348, 349)]
 VALUES = ["", "0", "1", "-1", "Y", "2.00", "XYZ", "1" * 400, "\xff", "20261126-09:00:00", "9" * 19]
 ROW = [(269, "Q"), (270, "2.00")]
 
@@ -27,6 +28,9 @@ def message(chance: random.Random, number: int) -> bytes:
     if chance.random() < 0.4:
         order = [(11, "a"), (55, "XYZ"), (54, "1"), (60, fixing.stamp()), (38, "5"), (40, "1")]
         kind, pairs = "D", order + pairs[: chance.choice((0, 0, 1))]
+    if chance.random() < 0.2:
+        (length, data), value = chance.choice(DATA), chance.choice([*VALUES, "\x01", "a\x0158=b"])
+        pairs += [(length, str(chance.choice((len(value), 1, -1, 1 << 40)))), (data, value)]
     head = [(43, "Y"), (122, chance.choice(VALUES))][: chance.choice((0, 0, 0, 1, 2))]
     text = fixing.written(kind, number, "ALICE", pairs, head)
     if chance.random() < 0.1:

@@ -420,22 +420,26 @@ def test_a_tag_that_is_none(tmp_path: pathlib.Path, begin: str, tag: str) -> Non
 
 @pytest.mark.parametrize("tag", ["38x", "+38", "-38", " 38", ""])
 def test_a_tag_without_a_number(tmp_path: pathlib.Path, begin: str, tag: str) -> None:
-    """The message is refused, or passed over as garbled: then it is missing."""
     speaker = Speaker(tmp_path, begin)
     found = speaker.say("D", [it for it in ORDER if it[0] != 38], {tag: "5"})
-    assert speaker.engine.said() == []
-    assert found == [] and speaker.expected == 2 or refusal(found)[1:] == ("D", "", "0")
+    assert refusal(found) == ("2", "D", "", "0")
+    assert speaker.engine.said() == [] and speaker.is_heard()
 
 
 def test_a_logon_s_password_has_its_tag(tmp_path: pathlib.Path, begin: str) -> None:
     speaker = Speaker(tmp_path, begin)
     speaker.engine.lost(speaker.connection)
-    assert speaker.connect("30", {2**32 + 554: "any"}) == [] and speaker.is_closed
+    speaker.connection = speaker.engine.connect()
+    logon = speaker.written("A", [(98, "0"), (108, "30")], {2**32 + 554: "any"})
+    speaker.engine.feed(speaker.connection, logon)
+    assert speaker.heard() == [] and speaker.is_closed
 
 
 WRONG: dict[str, Heads] = {
     "a tag": {9999: "x"},
     "no tag": {2**32 + 38: "5"},
+    "no number": {"x": "1"},
+    "data": {354: "9", 355: "abc"},
     "a head": {49: NONE},
     "a value": {60: "yesterday"},
     "a type": {35: "ZZ"},

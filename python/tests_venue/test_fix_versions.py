@@ -26,7 +26,10 @@ OTHERS = {
     *("MinPriceIncrement", "LowLimitPrice", "HighLimitPrice"),
 }
 """Fields that the standard hasn't in these messages, as docs/FIX.md says."""
-PASSED_OVER = {"HandlInst", "ExDestination", "OrderCapacity", "AccountType", "Text"}
+PASSED_OVER = {
+    *("HandlInst", "ExDestination", "OrderCapacity", "AccountType"),
+    *("Text", "EncodedTextLen", "EncodedText"),
+}
 """Fields that clients repeat where the standard hasn't them, and that change nothing."""
 
 

@@ -116,6 +116,7 @@ class Connections:
         while wire.seat is not None and wire.seat.is_awaiting and loop.time() < last:
             await asyncio.sleep(LOGOUT_PAUSE)
         if wire.number in self.wires:
+            wire.is_ending = False  # where that is refused
             self.outbound.engine.log_off(wire.number)
             self.drain()
 

@@ -42,6 +42,7 @@ const char* const unsupported = "3";
 const char* const unsupported_text = FIX::BusinessRejectReason_UNSUPPORTED_MESSAGE_TYPE_TEXT;
 const int last_tag = 1617;  // of the standard
 const size_t most_digits = 9, most_letters = 18;  // of a MsgSeqNum and a HeartBtInt, without zeros before and with them
+const size_t size_of_trailer = 7;  // bytes of a sum with its tag and its end
 const size_t to_second = 17;  // letters of a time, without what is less than a second
 const size_t most_text = 200;  // letters of what a session says that are in the log
 const size_t most_shown = 24;  // letters of what a refused Logon says of itself
@@ -90,24 +91,108 @@ bool is_count(const std::string& text) {
 struct Slip { int tag = 0, reason = 0; };
 const Slip no_tag{-1, FIX::SessionRejectReason_INVALID_TAG_NUMBER};
 
-// Whether a field has no tag, which is a number of 1 to 9 digits from 1 on: QuickFIX would take it for another one.
-bool has_no_tag(const std::string& text) {
-  for (size_t begin = 0; begin < text.size();) {
-    const size_t end = std::min(text.find('\001', begin), text.size());
-    const size_t size = std::min(text.find_first_of("=\001", begin), end) - begin;
-    if (size < 1 || size > most_digits || text[begin] == '0') return true;
-    for (size_t at = begin; at < begin + size; ++at) if (text[at] < '0' || text[at] > '9') return true;
-    begin = end + 1;
+// A field of a message: its tag, which is a number of 1 to 9 digits from 1 on, 0 where it has none, as QuickFIX would
+// take it for another one; and where its value begins and ends.
+struct Field { int tag = 0; size_t value = 0, end = 0; };
+Field field_at(const std::string& text, size_t begin) {
+  const size_t end = std::min(text.find('\001', begin), text.size());
+  const size_t last = std::min(begin + most_digits, end);
+  size_t at = begin;
+  int tag = 0;
+  for (; at < last && text[at] >= '0' && text[at] <= '9'; ++at) tag = 10 * tag + text[at] - '0';
+  const bool has_tag = at > begin && at < end && text[at] == '=' && text[begin] != '0';
+  return {has_tag ? tag : 0, at + 1, end};
+}
+
+// The tag of the data of which a field of this tag says by the standard how long they are, 0 for none.
+int data_after(int tag) {
+  switch (tag) {
+    case 93: return 89;
+    case 90: case 95: case 212: case 348: case 350: case 352: case 354: case 356: case 358: case 360: case 362:
+    case 364: case 445: case 618: case 621: case 1184: case 1277: case 1280: case 1282: case 1397: case 1401: case 1403:
+    case 1468: return tag + 1;
+    default: return 0;
   }
-  return false;
+}
+
+// Whether a field is one of those that a message has once, around what its length and its sum are of.
+bool is_around(const Field& field) { return field.tag >= 8 && field.tag <= 10; }
+
+// Whether each field of a message has a tag, none says how long data are, and there are no more around it than must be.
+bool is_plain(const std::string& text) {
+  int around = 0;
+  for (size_t begin = 0; begin < text.size();) {
+    const Field field = field_at(text, begin);
+    if (field.tag == 0 || data_after(field.tag)) return false;
+    around += is_around(field);
+    begin = field.end + 1;
+  }
+  return around <= 3;
+}
+
+// The last field of a message that is what it says, a sum of what is before it.
+std::string trailer_of(const std::string& text) {
+  unsigned sum = 0;
+  for (const unsigned char each : text) sum += each;
+  const std::string digits = std::to_string(1000 + sum % 256);
+  return "10=" + digits.substr(1) + '\001';
+}
+
+// Whether a message begins as each one, and its length and its sum are right.
+bool is_whole(const std::string& text) {
+  const Field begin = field_at(text, 0), length = field_at(text, begin.end + 1), type = field_at(text, length.end + 1);
+  if (begin.tag != 8 || length.tag != 9 || type.tag != 35 || text.size() < type.end + size_of_trailer) return false;
+  const std::string said = text.substr(length.value, length.end - length.value);
+  const size_t last = text.size() - size_of_trailer;
+  if (!is_count(said) || std::stoul(said) != last - length.end - 1) return false;
+  return text.substr(last) == trailer_of(text.substr(0, last));
+}
+
+// Reads a message: what in it can't be read, as a field has no tag, or is around a message, or data aren't as long as
+// the field before them says. What can be is left of it for QuickFIX, which takes each SOH for the end of a field: a
+// space is in its place in data. Raises InvalidMessage for a message with a wrong length or sum, where that isn't left
+// to QuickFIX.
+Slip read(std::string& text) {
+  if (is_plain(text)) return {};
+  if (!is_whole(text)) throw FIX::InvalidMessage();
+  const size_t head = field_at(text, 0).end + 1, last = text.size() - size_of_trailer;
+  std::string body;
+  Slip slip;
+  Field before, field;
+  for (size_t begin = field_at(text, head).end + 1; begin < last; begin = field.end + 1, before = field) {
+    field = field_at(text, begin);
+    if (field.tag == 0 || is_around(field)) {
+      const Slip twice{field.tag, FIX::SessionRejectReason_TAG_APPEARS_MORE_THAN_ONCE};
+      if (slip.tag == 0) slip = field.tag == 0 ? no_tag : twice;
+      continue;
+    }
+    if (field.tag == data_after(before.tag)) {
+      const std::string length = text.substr(before.value, before.end - before.value);
+      const size_t end = is_count(length) ? field.value + std::stoul(length) : last;
+      if (end < last && text[end] == '\001') {
+        std::replace(text.begin() + field.value, text.begin() + end, '\001', ' ');
+        field.end = end;
+      } else if (slip.tag == 0) {
+        slip = {before.tag, FIX::SessionRejectReason_VALUE_IS_INCORRECT};
+      }
+    }
+    body.append(text, begin, field.end + 1 - begin);
+  }
+  text = text.substr(0, head) + "9=" + std::to_string(body.size()) + '\001' + body;
+  text += trailer_of(text);
+  return slip;
 }
 
 // What QuickFIX says of a slip.
 const char* said_of(const Slip& slip) {
-  const bool is_missing = slip.reason == FIX::SessionRejectReason_REQUIRED_TAG_MISSING;
-  if (is_missing) return FIX::SessionRejectReason_REQUIRED_TAG_MISSING_TEXT;
-  if (slip.tag < 0) return FIX::SessionRejectReason_INVALID_TAG_NUMBER_TEXT;
-  return FIX::SessionRejectReason_SENDINGTIME_ACCURACY_PROBLEM_TEXT;
+  switch (slip.reason) {
+    case FIX::SessionRejectReason_REQUIRED_TAG_MISSING: return FIX::SessionRejectReason_REQUIRED_TAG_MISSING_TEXT;
+    case FIX::SessionRejectReason_INVALID_TAG_NUMBER: return FIX::SessionRejectReason_INVALID_TAG_NUMBER_TEXT;
+    case FIX::SessionRejectReason_VALUE_IS_INCORRECT: return FIX::SessionRejectReason_VALUE_IS_INCORRECT_TEXT;
+    case FIX::SessionRejectReason_TAG_APPEARS_MORE_THAN_ONCE:
+      return FIX::SessionRejectReason_TAG_APPEARS_MORE_THAN_ONCE_TEXT;
+    default: return FIX::SessionRejectReason_SENDINGTIME_ACCURACY_PROBLEM_TEXT;
+  }
 }
 
 // A time in seconds of the epoch, 0 for what is none, which the dictionary finds too.
@@ -646,13 +731,14 @@ class Engine : public FIX::Application, FIX::LogFactory {
   }
 
   // Takes a message. One with a wrong checksum is passed over, as the standard says.
-  void take(Wire& wire, const std::string& text) {
+  void take(Wire& wire, std::string text) {
     heard_ = &text;
     hearing_ = &wire;
     try {
-      if (!wire.session) wire.is_closed = !begins(wire, text) || !takes_logon(wire, text);
+      const Slip slip = acceptor_ ? read(text) : Slip();
+      if (!wire.session) wire.is_closed = !begins(wire, text) || !takes_logon(wire, text, slip);
       else if (acceptor_ && type_of(text) == "A") end(wire, logged_on);
-      else if (acceptor_ && (is_beyond(wire, text) || !is_passed(wire, text))) {}  // which is done with
+      else if (acceptor_ && (is_beyond(wire, text) || !is_passed(wire, text, slip))) {}  // which is done with
       else if (acceptor_ && is_long(wire, text)) begin_again(wire, text);
       else hand(wire, text);
     } catch (FIX::InvalidMessage&) {
@@ -814,11 +900,10 @@ class Engine : public FIX::Application, FIX::LogFactory {
   }
 
   // Whether QuickFIX is to have a message: not one that has no number, which ends the session, nor one that has another
-  // fault in its head or tags, which is refused; nor one that QuickFIX would refuse out of its turn. Raises
+  // fault in its head, or can't be read, which is refused; nor one that QuickFIX would refuse out of its turn. Raises
   // InvalidMessage where its length or its sum is wrong.
-  bool is_passed(Wire& wire, const std::string& text) {
-    const bool has_tags = !has_no_tag(text);
-    if (!has_tags || !has_head(text)) return is_right(wire, text, has_tags) && !is_venue_s(wire, text);
+  bool is_passed(Wire& wire, const std::string& text, const Slip& unread) {
+    if (unread.tag || !has_head(text)) return is_right(wire, text, unread) && !is_venue_s(wire, text);
     const int number = FIX::IntConvertor::convert(value_of(text, "34"));
     if (number != wire.session->getExpectedTargetNum()) return !is_out_of_turn(wire, text, number, false);
     return !is_venue_s(wire, text);
@@ -896,8 +981,8 @@ class Engine : public FIX::Application, FIX::LogFactory {
     return addressed(gap, theirs, number);
   }
 
-  // Whether a message whose tags or head may have a fault has none.
-  bool is_right(Wire& wire, const std::string& text, bool has_tags) {
+  // Whether a message whose head may have a fault has none, and all of it can be read.
+  bool is_right(Wire& wire, const std::string& text, const Slip& unread) {
     FIX::Message message;
     message.setString(text, true);
     FIX::Header& head = message.getHeader();
@@ -912,7 +997,7 @@ class Engine : public FIX::Application, FIX::LogFactory {
     const int place = FIX::IntConvertor::convert(number);
     const bool is_expected = place == wire.session->getExpectedTargetNum();
     const bool is_back = is_set_back(*wire.session, head);
-    const Slip slip = has_tags ? slip_of(head, is_expected, is_back) : no_tag;
+    const Slip slip = unread.tag ? unread : slip_of(head, is_expected, is_back);
     if (!is_expected && is_out_of_turn(wire, text, place, slip.tag)) return false;
     const std::string type = type_of(text);
     const bool is_checked = type != "2" && type != "4" && type != "5";  // by QuickFIX, which would end the session
@@ -980,8 +1065,8 @@ class Engine : public FIX::Application, FIX::LogFactory {
 
   // Takes a Logon that has the right password: whether the connection goes on. Where QuickFIX would end it without a
   // word, a Logout says why, but to a Logon whose length or sum is wrong.
-  bool takes_logon(Wire& wire, const std::string& text) {
-    const std::string slip = slip_of_logon(text);
+  bool takes_logon(Wire& wire, const std::string& text, const Slip& unread) {
+    const std::string slip = unread.tag ? unread_in_logon(unread) : slip_of_logon(text);
     if (!slip.empty()) {
       put("event", wire.session->getSessionID().toString(), slip);
       return say_why(wire, slip);
@@ -994,6 +1079,11 @@ class Engine : public FIX::Application, FIX::LogFactory {
     const std::string why = fault_of(*wire.session, text);
     put_end(wire, why.empty() ? "its Logon has a wrong length or sum" : why);
     return !why.empty() && say_why(wire, why);
+  }
+
+  static std::string unread_in_logon(const Slip& slip) {
+    if (slip.tag < 0) return "a tag is no number of at most 9 digits";
+    return std::string(said_of(slip)) + ": " + std::to_string(slip.tag);
   }
 
   // What is wrong with a Logon that QuickFIX would take, or would say nothing of; empty for nothing, and where its
@@ -1063,7 +1153,6 @@ class Engine : public FIX::Application, FIX::LogFactory {
   // Whether a first message is a Logon with the password of a session that isn't on. No other reaches its session: that
   // would reset or answer before it asked for a password.
   bool begins(Wire& wire, const std::string& text) {
-    if (has_no_tag(text)) return refused("a tag is no number of at most 9 digits");
     FIX::Message message;
     message.setString(text, false);
     FIX::Session* found = FIX::Session::lookupSession(text, true);

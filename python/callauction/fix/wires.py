@@ -43,7 +43,7 @@ class Wire(asyncio.Protocol):
         self.is_leaving = False
         self.topics: frozenset[str] = frozenset()
         self._is_left = self._is_full = self._is_paused = False
-        self._is_asked = self._is_ending = False
+        self._is_asked = self.is_ending = False
         self._why = ""
         self._rests_until = 0.0
         self.seat: Seat | None = None
@@ -73,8 +73,8 @@ class Wire(asyncio.Protocol):
         if seat is not None and (seat.inbound.is_busy or is_within):
             self._gate.untaken = 0
         self._host.take()
-        if not self._is_ending and self._host.outbound.engine.is_leaving(self.number):
-            self._is_ending = True
+        if not self.is_ending and self._host.outbound.engine.is_leaving(self.number):
+            self.is_ending = True
             self._host.start(self._host.log_off(self))
         self.go_on()
 
