@@ -9,11 +9,12 @@ import fixing
 import psutil
 import pytest
 import served
-from callauction.fix.refusals import OTHER_DAY
+from callauction.fix.refusals import OTHER_DAY, USED
 from callauction.fix.reports import MOST_AGE
 from fixing import Message, Pairs, Peer
+from test_fix_operator import reset
 from test_fix_requests import Killable, killable, until_logged
-from test_fix_tags import order, picked
+from test_fix_tags import TIME, answer, order, picked
 
 
 def heard_again(day: Killable, peer: Peer, folder: pathlib.Path, client: str) -> Message:
@@ -88,6 +89,51 @@ def test_a_reject_is_sent_again(tmp_path: pathlib.Path) -> None:
         again.number, again.sent = peer.number, peer.sent
         again.logon(fixing.token_of(folder, "ALICE"))
         assert told.items() <= again.take(lambda it: it[35] == "3").items()
+
+
+CANCEL: Pairs = [(41, "none"), (11, "f1"), (55, "XYZ"), (54, "1"), (60, TIME)]
+REFUSED: dict[str, tuple[str, Pairs]] = {
+    "by the venue": ("D", order("a1", "1", "10", (40, "1"), (59, "3"))),
+    "by the program": ("D", order("a2", "1", "10", (40, "2"), (44, "99.00"))),
+    "a cancel": ("F", CANCEL),
+}
+"""Messages that are refused."""
+
+
+def told(peer: Peer, name: str, *head: tuple[int, str]) -> tuple[str, ...]:
+    """What is answered to a message that is refused; its id is that of an answer if it has come
+    before.
+    """
+    number, found = peer.number, answer(peer, *REFUSED[name], head=[*head])
+    if head:
+        event = picked(found, 17) if found[35] == "8" else picked(found, 20001)
+        assert event[0].startswith("R.ALICE.") and event[0].endswith(f".{number}")
+    return picked(found, 35, 11, 41, 37, 150, 39, 102, 103, 58, 38, 40, 44)
+
+
+def test_what_was_refused_and_is_sent_again(tmp_path: pathlib.Path) -> None:
+    """It is told why once more, as it was first: also after a kill, and a reset. What isn't sent
+    again has an id that was used.
+    """
+    port, folder = served.free_port(), tmp_path / "venue"
+    with killable(tmp_path, fixing.day_of(port, "ALICE")) as day:
+        peer = Peer(port, "ALICE")
+        peer.logon(fixing.token_of(folder, "ALICE"))
+        first = {it: told(peer, it) for it in REFUSED}
+        assert [it[6:8] for it in first.values()] == [("", "11"), ("", "99"), ("1", "")]
+        for _ in range(2):
+            assert {it: told(peer, it, (97, "Y")) for it in REFUSED} == first
+            day.again()
+            peer.logon(fixing.token_of(folder, "ALICE"))
+            assert {it: told(peer, it, (97, "Y")) for it in REFUSED} == first
+            assert {told(peer, it)[8] for it in REFUSED} == {USED}
+            peer.close()
+            assert reset(day.venue, "ALICE")[0] == 200
+            peer = Peer(port, "ALICE")
+            peer.logon(fixing.token_of(folder, "ALICE"))
+            peer.all()
+        other = answer(peer, "D", order("f1", "1", "10", (40, "1")), [(97, "Y")])
+        assert picked(other, 150, 103, 58) == ("8", "6", USED)
 
 
 class Former(Peer):

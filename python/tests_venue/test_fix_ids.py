@@ -185,14 +185,16 @@ def test_ids_after_resets(tmp_path: pathlib.Path) -> None:
 
 
 def test_a_store_that_a_reset_did_not_empty(tmp_path: pathlib.Path) -> None:
-    """What the client sends again from it as PossDup isn't refused as used, and not done again."""
+    """What the client sends again from it as PossDup isn't done again; it is told what became of
+    it, or why it was refused.
+    """
     port = served.free_port()
     with on(tmp_path, fixing.day_of(port, "ALICE"), port, "ALICE") as (venue, [peer]):
         token = fixing.token_of(tmp_path / "venue", "ALICE")
         venue.do("start")
         first = answer(peer, "D", "d1", ORDER)
         assert first[150] == "0"
-        assert answer(peer, "D", "d2", [*ORDER[:-1], (44, "2.001")])[150] == "8"
+        refused = answer(peer, "D", "d2", [*ORDER[:-1], (44, "2.001")])
         assert reset(venue, "ALICE")[0] == 200
         peer = Peer(port, "ALICE")
         peer.logon(token)
@@ -201,8 +203,9 @@ def test_a_store_that_a_reset_did_not_empty(tmp_path: pathlib.Path) -> None:
         found = answer(peer, "D", "d1", ORDER, *again)
         assert (found[150], found[39], found[37]) == ("I", "0", first[37])
         found = answer(peer, "D", "d2", ORDER, *again)
-        assert (found[150], found[103], found[58]) == ("8", "6", USED)
-        assert answer(peer, "D", "d1", ORDER)[103] == "6"
+        assert (found[150], found[103], found[58]) == ("8", refused[103], refused[58])
+        for client in ("d1", "d2"):
+            assert answer(peer, "D", client, ORDER)[58] == USED
 
 
 @pytest.mark.parametrize("is_begun_again", [False, True])

@@ -9,7 +9,9 @@ from typing import NamedTuple, Self
 from callauction.fix.given import MOST_LETTERS, check_client
 from callauction.fix.orders import NUMBER, SINCE, entry_event
 from callauction.fix.refusals import UNUSED
-from callauction.fix.tags import Given, Pairs, Status, Tag, Type, event_in, refusal_of
+from callauction.fix.tags import (
+    Given, Pairs, Status, Tag, Type, body_of, event_in, refusal_of,
+)
 from callauction.venue.instrument import Instrument
 from callauction.venue.recovery import Entry, Message
 
@@ -159,13 +161,14 @@ class Epoch:
 
 
 class Clients:
-    """The ids of a session's client: of which message each is, and what was said to mass cancels by
-    theirs.
+    """The ids of a session's client: of which message each is, what was said to mass cancels by
+    theirs, and why other messages were `refused`, by a report or an OrderCancelReject.
     """
 
     def __init__(self) -> None:
         self.numbers: dict[str, Number] = {}
         self.mass: dict[str, Pairs] = {}
+        self.refused: dict[str, tuple[Type, Pairs]] = {}
 
     def is_used(self, given: Given, own: Number) -> bool:
         """Whether an id was another message's. Raises SeatError where it is none."""
@@ -181,6 +184,17 @@ class Clients:
             if answer:
                 self.mass.setdefault(client, answer)
 
+    def told(self, kind: Type, pairs: Pairs) -> None:
+        """Keeps what is said to a message that is refused, but for UNUSED."""
+        is_refusal = kind == Type.REPORT and (Tag.EXEC_TYPE, Status.REJECTED) in pairs
+        if not is_refusal and kind != Type.CANCEL_REJECT:
+            return
+        given = dict(pairs)
+        client = given.get(Tag.CL_ORD_ID, "")
+        if len(client) <= MOST_LETTERS and given.get(Tag.TEXT) not in UNUSED:
+            said = [it for it in pairs if it[0] != Tag.TRANSACT_TIME]
+            self.refused.setdefault(client, (kind, said))
+
     def learn(self, pairs: Pairs, epoch: Epoch) -> None:
         """Learns what a session was told in an earlier run of a message that wasn't executed."""
         given = dict(pairs)
@@ -193,3 +207,4 @@ class Clients:
             is_mass = given[Tag.MSG_TYPE] == Type.MASS_CANCELED
             own = epoch.number_of(int(number) if number.isdecimal() else 0)  # 0: before a reset
             self.keep(given, own, [it for it in pairs if is_mass and it[0] in OF_MASS])
+            self.told(Type(given[Tag.MSG_TYPE]), body_of(pairs)[0])

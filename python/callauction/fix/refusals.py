@@ -2,7 +2,9 @@
 from typing import TYPE_CHECKING
 
 from callauction.fix.orders import CLIENT, ORIGIN, Asked, Report, refusal
-from callauction.fix.tags import CODES, DAY, FIXT, NONE, Exec, Given, Pairs, Status, Tag, Type
+from callauction.fix.tags import (
+    CODES, DAY, EVENTS, FIXT, NONE, Exec, Given, Pairs, Status, Tag, Type,
+)
 from callauction.venue.instrument import Instrument
 from callauction.venue.messages import MessageError
 from callauction.venue.recovery import Message
@@ -118,6 +120,12 @@ def tell_mass_answer(seat: "Seat", event: str, answer: Pairs) -> None:
     pairs: Pairs = [(Tag.ORDER_ID, event), *answer]
     pairs += [(Tag.MASS_ACTION_REPORT_ID, event)] if seat.begin == FIXT else []
     seat.reports.tell(Report(seat.name, Type.MASS_CANCELED, event, pairs))
+
+
+def tell_again(seat: "Seat", event: str, kind: Type, said: Pairs) -> None:
+    """Says once more, to a message that is sent again, why it was refused."""
+    pairs = [(tag, event if tag == EVENTS[kind] else it) for tag, it in said]
+    seat.reports.tell(Report(seat.name, kind, event, pairs))
 
 
 ANSWERS = {

@@ -159,6 +159,7 @@ class Reports:
         if seat is None:
             return
         epoch = seat.epoch
+        seat.clients.told(report.type, report.pairs)
         if report.event not in epoch.told:
             self._tell_new(seat, report, epoch.reached[board])
         if board:

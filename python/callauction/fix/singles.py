@@ -9,7 +9,7 @@ from callauction.fix.given import (
 )
 from callauction.fix.orders import Held, ended_text
 from callauction.fix.refusals import (
-    DUPLICATE, ENDED, UNKNOWN, UNSUPPORTED, USED, PendingError, SeatError,
+    DUPLICATE, ENDED, UNKNOWN, UNSUPPORTED, USED, PendingError, SeatError, tell_again,
 )
 from callauction.fix.tags import DAY, Exec, Given, Pairs, Status, Tag, Type
 from callauction.venue import messages
@@ -108,16 +108,21 @@ async def settled(seat: "Seat", given: Given, client: str) -> "tuple[Held | None
 
 async def is_known(seat: "Seat", given: Given, number: int) -> bool:
     """Whether an id was another message's, and this one is sent again: what became of the order is
-    said then. Raises MessageError where it is none.
+    said then, or why it was refused. Raises MessageError where it is none.
     """
     if not seat.clients.is_used(given, seat.epoch.number_of(number)):
         return False
     if not is_sent_again(given):
         raise SeatError(DUPLICATE, USED)
     held, stream = await settled(seat, given, given[Tag.CL_ORD_ID])
-    if held is None:
+    refused = seat.clients.refused.get(given[Tag.CL_ORD_ID])
+    is_new = given[Tag.MSG_TYPE] == Type.ENTER
+    if held is not None:
+        tell_status(seat, given, held, stream, number, [])
+    elif refused is not None and is_new == (refused[0] == Type.REPORT):
+        tell_again(seat, seat.epoch.refusal_of(number), *refused)
+    else:
         raise SeatError(DUPLICATE, USED)
-    tell_status(seat, given, held, stream, number, [])
     return True
 
 
