@@ -241,6 +241,32 @@ def test_a_logout_says_why(
     assert speaker.is_closed
 
 
+@pytest.mark.parametrize("heads", [{52: "20200101-00:00:00"}, {49: "EVE"}])
+@pytest.mark.parametrize("kind, pairs", [("D", ORDER), ("5", [])])
+@pytest.mark.parametrize("number, expected", [("3", 4), ("9", 3)])
+def test_a_logout_that_is_wrong_as_what_came_before(
+    tmp_path: pathlib.Path,
+    begin: str,
+    heads: Heads,
+    kind: str,
+    pairs: Pairs,
+    number: str,
+    expected: int,
+) -> None:
+    """A client whose clock was set answers each Logout by one: there is one Reject, one Logout, and
+    the connection ends by its answer, which counts in its turn.
+    """
+    speaker = Speaker(tmp_path, begin)
+    assert [it[35] for it in speaker.say(kind, pairs, heads)] == ["3", "5"]
+    assert not speaker.is_closed
+    assert speaker.say("5", [], heads | {34: number}) == []
+    assert (speaker.is_closed, speaker.expected) == (True, expected)
+    [end] = [it for _, _, it in speaker.engine.events() if b" is ended: " in it]
+    assert end.endswith(b"its Logout has another time (52) or other CompIDs (49, 56)")
+    speaker.number = expected
+    assert [it[35] for it in speaker.connect("30")] == ["A"]
+
+
 # ---- ends and refusals of a client that don't come in their turn
 
 

@@ -49,6 +49,7 @@ const size_t most_shown = 24;  // letters of what a refused Logon says of itself
 const int most_wait = 10;  // seconds after which what was asked for is asked for again
 const int most_waits = 3;  // seconds in which a Logout is to be answered
 const std::string no_answer = "a Logout wasn't answered for " + std::to_string(most_waits) + " s";
+const char* const other_logout = "its Logout has another time (52) or other CompIDs (49, 56)";
 const char* const after_logout = "more than a message came after a Logout";
 const std::string too_low = "MsgSeqNum too low";  // how QuickFIX begins a Logout for one
 const std::string remedy =
@@ -709,6 +710,20 @@ class Engine : public FIX::Application, FIX::LogFactory {
     return !is_logout;
   }
 
+  // Whether a message is the answer to a session's Logout, and has another time or other ids: QuickFIX would refuse it,
+  // and say a Logout again. Raises InvalidMessage where its length or its sum is wrong.
+  static bool is_last_word(Wire& wire, const std::string& text) {
+    return type_of(text) == "5" && wire.session->sentLogout() && !is_of(*wire.session, text);
+  }
+  // Ends a connection with its last word, which counts in its turn.
+  void leave(Wire& wire, const std::string& text) {
+    const std::string number = value_of(text, "34");
+    const int expected = wire.session->getExpectedTargetNum();
+    if (is_count(number) && FIX::IntConvertor::convert(number) == expected) pass_over(wire, expected);
+    put_end(wire, other_logout);
+    wire.is_closed = true;
+  }
+
   // Whether more has come on a connection than a message has.
   static bool is_too_much(const Wire& wire) {
     return wire.unread > (wire.session ? most_length + most_around : most_of_logon);
@@ -738,6 +753,7 @@ class Engine : public FIX::Application, FIX::LogFactory {
       const Slip slip = acceptor_ ? read(text) : Slip();
       if (!wire.session) wire.is_closed = !begins(wire, text) || !takes_logon(wire, text, slip);
       else if (acceptor_ && type_of(text) == "A") end(wire, logged_on);
+      else if (acceptor_ && is_last_word(wire, text)) leave(wire, text);
       else if (acceptor_ && (is_beyond(wire, text) || !is_passed(wire, text, slip))) {}  // which is done with
       else if (acceptor_ && is_long(wire, text)) begin_again(wire, text);
       else hand(wire, text);
