@@ -135,12 +135,14 @@ def test_a_reset_while_an_order_waits(tmp_path: pathlib.Path, is_killed: bool) -
         program.suspend()
         enter(alice, "late", "XYZ")
         alice.take(lambda it: it[35] == "h" and it.get(58) == "halted")
-        text = "ALICE isn't reset: not all that it said is answered: resume what has halted first"
-        assert reset(day.venue, "ALICE")[1] == {"error": "halted", "text": text}
+        text = "XYZ hasn't answered all that it said: resume what has halted first"
+        answer = {"error": "halted", "text": f"ALICE isn't reset: {text}"}
+        assert reset(day.venue, "ALICE") == (503, answer)
+        assert alice.all() == []  # nothing was told, and no connection was ended
         if is_killed:
             day.venue.child.kill()
             day.again()
-        alice.logon(token)
+            alice.logon(token)
         day.venue.do("resume")
         assert alice.take(of("late"))[17] == "XYZ.2"
         entered(alice, "more", "XYZ")

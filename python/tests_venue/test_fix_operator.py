@@ -157,15 +157,18 @@ def test_a_session_is_reset_once_at_a_time(tmp_path: pathlib.Path) -> None:
         until_logged(tmp_path / "venue", '"11":"a1"')
         with concurrent.futures.ThreadPoolExecutor(1) as pool:
             first = pool.submit(reset, venue, "ALICE")  # waits until the order is answered
-            with pytest.raises(Closed):
-                peer.all(fixing.SECONDS)
+            assert peer.all() == []  # and tells nothing before
+            peer.enter("a2", "1", 10, "2.00")
             answer = {"error": "bad_phase", "text": "ALICE is being reset"}
             assert reset(venue, "ALICE") == (409, answer)
             program.resume()
+            with pytest.raises(Closed):
+                peer.all(fixing.SECONDS)
             assert first.result()[0] == 200
+        assert [it[11] for it in peer.got if it[35] == "8"] == ["a1", "a2"]
         second = Peer(port, "ALICE")
         second.logon(fixing.token_of(tmp_path / "venue", "ALICE"))
-        assert again(second) == [("XYZ.1", "a1", "0")]
+        assert again(second) == [("XYZ.1", "a1", "0"), ("XYZ.2", "a2", "0")]
 
 
 def test_the_copy_s_session_is_reset(tmp_path: pathlib.Path) -> None:

@@ -1,6 +1,7 @@
 """What a session is sent after the operator has reset it and the venue has begun again; and gaps in
 place of numbers under which nothing was sent.
 """
+import concurrent.futures
 import contextlib
 import pathlib
 import signal
@@ -9,13 +10,15 @@ import threading
 import time
 
 import fixing
+import psutil
 import pytest
 import served
 from callauction.fix._quickfix import Engine
+from callauction.fix.resets import RESET_SECONDS
 from callauction.fix.settings import settings_of
-from fixing import Message, Pairs, Peer
+from fixing import Closed, Message, Pairs, Peer
 from test_fix_operator import reset
-from test_fix_requests import Killable, killable
+from test_fix_requests import Killable, killable, until_logged
 
 OLD_ORDERS, NEW_ORDERS = 12, 3
 """Orders before and after the reset: the old numbers are above the new ones."""
@@ -207,6 +210,72 @@ def test_the_port_opens_once_sessions_are_there(tmp_path: pathlib.Path) -> None:
     with served.served(tmp_path, fixing.day_of(port, *MEMBERS)):
         looking.join()
     assert opened == [True]
+
+
+# ---- what waits
+
+
+@pytest.mark.parametrize("is_on", [True, False])
+def test_a_reset_while_messages_wait_for_the_rate(tmp_path: pathlib.Path, is_on: bool) -> None:
+    """It drops them, soon, and nothing that was taken: the member is told of that, and goes on, and
+    its orders end with its connection where it asked for that.
+    """
+    port, folder = served.free_port(), tmp_path / "venue"
+    day = fixing.day_of(port, "ALICE")
+    day = day.replace("rate = 100000\nburst = 100000", "rate = 4\nburst = 9")
+    with served.served(tmp_path, day) as venue:
+        venue.do("start")
+        first = Peer(port, "ALICE")
+        first.logon(fixing.token_of(folder, "ALICE"), (8013, "Y"))
+        first.enter("a1", "1", 10, "2.00")
+        first.take(lambda it: it.get(11) == "a1")
+        for number in range(200):
+            first.say("AF", [(584, f"s{number}"), (585, "7")])
+        first.enter("late", "1", 10, "2.00")
+        if not is_on:
+            first.take(lambda it: it.get(584) == "s9")
+            first.close()
+        begin = time.monotonic()
+        assert reset(venue, "ALICE")[0] == 200
+        assert time.monotonic() - begin < RESET_SECONDS
+        second = Peer(port, "ALICE")
+        second.logon(fixing.token_of(folder, "ALICE"))
+        second.take(lambda it: it.get(150) == "4")
+        second.enter("a2", "1", 10, "2.00")
+        second.take(lambda it: it.get(11) == "a2")
+        told = [(it[17], it[11], it[150]) for it in second.got]
+        assert told == [("XYZ.1", "a1", "0"), ("XYZ.2", "a1", "4"), ("XYZ.3", "a2", "0")]
+        assert '"late"' not in (folder / "venue.log").read_text("utf-8")
+    if is_on:
+        with pytest.raises(Closed):
+            first.all()
+    assert not {"late", "s199"} & {it.get(tag) for it in first.got for tag in (11, 584)}
+
+
+def test_a_reset_that_an_order_holds_up(tmp_path: pathlib.Path) -> None:
+    """Of a program that hangs, and nobody knows that yet: the member is told nothing, what it says
+    meanwhile waits, and its session goes on once the reset is refused.
+    """
+    port, folder = served.free_port(), tmp_path / "venue"
+    with killable(tmp_path, fixing.day_of(port, "ALICE")) as day:
+        [program] = psutil.Process(day.venue.child.pid).children()
+        alice = Peer(port, "ALICE")
+        alice.logon(fixing.token_of(folder, "ALICE"))
+        program.suspend()
+        alice.enter("a1", "1", 10, "2.00")
+        until_logged(folder, '"11":"a1"')
+        with concurrent.futures.ThreadPoolExecutor(1) as pool:
+            answer = pool.submit(reset, day.venue, "ALICE")
+            assert alice.all() == []
+            alice.enter("a2", "1", 10, "2.00")
+            assert alice.all() == [] and not answer.done()
+            text = "XYZ hasn't answered all that it said: resume what has halted first"
+            refusal = {"error": "halted", "text": f"ALICE isn't reset: {text}"}
+            assert answer.result() == (503, refusal)
+        day.venue.do("resume")
+        found = {it[11]: it[150] for it in (alice.take(lambda it: it[35] == "8") for _ in "12")}
+        assert found.keys() == {"a1", "a2"} and found["a1"] == "0"
+        assert reset(day.venue, "ALICE")[0] == 200
 
 
 # ---- numbers under which nothing was sent

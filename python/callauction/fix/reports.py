@@ -43,9 +43,14 @@ class Stream:
             self._is_free = False
             self._entries.put_nowait((message, entry))
 
+    @property
+    def is_late(self) -> bool:
+        """Whether an entry wasn't sent yet."""
+        return self._place < self.board.engine.count
+
     async def until_now(self) -> None:
         """Waits until all entries so far were sent."""
-        while self._place < self.board.engine.count:
+        while self.is_late:
             reached: asyncio.Future[None] = asyncio.get_running_loop().create_future()
             self._waiting.append((self.board.engine.count, reached))
             await reached
@@ -136,6 +141,10 @@ class Reports:
         """Waits until all entries so far were sent."""
         for stream in [*self._streams.values()]:
             await stream.until_now()
+
+    def late(self) -> list[Instrument]:
+        """The boards of which entries weren't sent yet."""
+        return [it.board for it in self._streams.values() if it.is_late]
 
     def end_before(self, number: int) -> None:
         """Ends the orders of rounds that were left before this one."""

@@ -14,13 +14,13 @@ from callauction.venue.log import Line
 from callauction.venue.messages import MessageError
 
 RESET_SECONDS, RESET_PAUSE = 10.0, 0.02
-"""How long the reset of a session waits for what that has said."""
+"""How long the reset of a session waits for the answers to what that has said."""
 LEAVE_SECONDS = 4.0
 """How long a session that is reset may take to answer its Logout."""
 NO_ANSWER = f"its Logout wasn't answered for {LEAVE_SECONDS:g} s"
 RESET = "the operator resets this session: begin at 1 with an empty store"
 NOT_READY = "sessions by FIX haven't begun: an instrument hasn't answered since the start"
-UNANSWERED = "{} isn't reset: not all that it said is answered: resume what has halted first"
+UNANSWERED = "{} isn't reset: {} hasn't answered all that it said: resume what has halted first"
 ENDS = "the venue ends: what was answered stays"
 """Why a session ends, in its Logout."""
 
@@ -42,6 +42,7 @@ async def reset(connections: Connections, reports: Reports, comp_id: str) -> Non
         raise MessageError("bad_phase", f"{comp_id} is being reset")
     connections.resetting.add(seat)
     try:
+        await asyncio.wait_for(answered(reports, seat), RESET_SECONDS)
         if (wire := connections.on.get(seat)) is not None:
             outbound.engine.log_out(wire.number, RESET)
             connections.drain()
@@ -51,18 +52,40 @@ async def reset(connections: Connections, reports: Reports, comp_id: str) -> Non
         anew = functools.partial(begin_anew, outbound.engine, seat, connections.venue.rounds.mark)
         await outbound.sent.begin_anew(outbound.engine, seat.session, anew)
     except TimeoutError:
-        raise MessageError("halted", UNANSWERED.format(comp_id)) from None
+        raise MessageError("halted", unanswered(reports, seat)) from None
     finally:
         connections.resetting.discard(seat)
         outbound.beginning.discard(seat)
 
 
-async def ended(connections: Connections, reports: Reports, seat: Seat) -> None:
-    """Waits until a session is off, all that it said is answered, and all entries so far were sent,
-    which a start does again.
+async def answered(reports: Reports, seat: Seat) -> None:
+    """Waits until all that a session has said is answered, but for what waits for its turn, which
+    goes on waiting; and all entries so far were sent, which a start does again. Raises MessageError
+    where an instrument has halted that is to answer.
     """
-    while seat in connections.on or seat.epoch.owed:
+    seat.inbound.is_held = True
+    try:
+        while seat.epoch.owed or seat.inbound.is_taking or seat.commands.unanswered:
+            if any(it.engine.halted is not None for it in seat.commands.unanswered.values()):
+                raise MessageError("halted", unanswered(reports, seat))
+            await asyncio.sleep(RESET_PAUSE)
+        await reports.until_now()
+    finally:
+        seat.inbound.is_held = False
+
+
+def unanswered(reports: Reports, seat: Seat) -> str:
+    """Why a session isn't reset: which instruments haven't answered."""
+    late = {it.identity.market for it in seat.commands.unanswered.values()}
+    late |= {it.identity.market for it in reports.late()}
+    return UNANSWERED.format(seat.comp_id, ", ".join(sorted(late)) or "an instrument")
+
+
+async def ended(connections: Connections, reports: Reports, seat: Seat) -> None:
+    """Waits until a session is off, and what it said last is answered or dropped."""
+    while seat in connections.on:
         await asyncio.sleep(RESET_PAUSE)
+    seat.inbound.drop()
     await seat.idle()
     await reports.until_now()
 

@@ -51,7 +51,8 @@ fields by their tags, and their number. Raises MessageError.
 
 class Inbound:
     """A session's messages in their order, each with its fields in groups, which are taken one
-    after the other, or at once where this can be; `heard` is called when all were taken.
+    after the other, or at once where this can be, and not while they are held; `is_taking` says
+    whether one is being taken, and `heard` is called when all were.
     """
 
     def __init__(
@@ -60,6 +61,7 @@ class Inbound:
         self._take, self._enters = take, enters
         self._came: collections.deque[tuple[Given, Pairs]] = collections.deque()
         self._wakes, self._is_waiting = asyncio.Event(), False
+        self.is_held = self.is_taking = False
         self._fault: Exception | None = None
         self.heard: Callable[[], None] = lambda: None
 
@@ -77,10 +79,21 @@ class Inbound:
         """The session says this; it is taken in its `turn`."""
         self._came.append((given, rows))
 
+    def is_next(self, given: Given) -> bool:
+        """Whether a message is the one whose turn it is."""
+        return bool(self._came) and self._came[0][0] is given
+
+    def drop(self) -> None:
+        """Forgets what waits for its turn; what follows from a lost connection is done."""
+        taken = [self._came[0]] if self.is_taking else []
+        self._came = collections.deque([*taken, *(it for it in self._came if it[0] is LOST)])
+
     def turn(self) -> None:
         """Takes what came: new orders at once where nothing has to be waited for."""
         try:
-            while self._is_waiting and self._came and self._enters(self._came[0][0]):
+            while self._is_waiting and self._came and not self.is_held:
+                if not self._enters(self._came[0][0]):
+                    break
                 self._came.popleft()
         except Exception as fault:  # which ends what serves it
             self._fault = fault
@@ -93,8 +106,11 @@ class Inbound:
         """Takes all messages, one after the other."""
         while self._fault is None:
             while self._came:
-                await self._take(*self._came[0])
-                self._came.popleft()
+                given, rows = self._came[0]
+                await self._take(given, rows)
+                self.is_taking = False
+                if self.is_next(given):
+                    self._came.popleft()
             self.heard()
             self._wakes.clear()
             self._is_waiting = True
@@ -252,6 +268,7 @@ class Seat:
         self.epoch.lost.pop(number, None)  # it has come again
         if event in self.epoch.told or await self.is_done(given, number):
             return
+        self.inbound.is_taking = True
         SOURCE.set(self.address)
         try:
             if (act := self.acts.get(kind)) is None:
@@ -281,20 +298,20 @@ class Seat:
     def refuse_type(self, given: Given, event: str) -> None:
         """Says that it may not do this: a member may do all that the dictionary has."""
 
-    async def allowed(self, bucket: Bucket) -> None:
-        """Waits until a member may speak again."""
-        while not bucket.takes():
+    async def is_dropped(self, given: Given, bucket: Bucket) -> bool:
+        """Whether a message is dropped before it may be taken, for which it waits."""
+        is_next, commands = self.inbound.is_next, self.commands
+        while is_next(given):
+            if not self.inbound.is_held and not commands.is_full(given) and bucket.takes():
+                return False
             await asyncio.sleep(TOO_FAST_SECONDS)
+        return True
 
     async def is_done(self, given: Given, number: int) -> bool:
-        """Whether a message was executed before; one that wasn't waits until it may be."""
+        """Whether a message was executed before, or is dropped; another waits until it may be."""
         member = self.member
-        if -key_of(number, 0, self.epoch.number) in member.done:
-            return True
-        await self.allowed(member.bucket)
-        while self.commands.is_full(given):
-            await asyncio.sleep(HALT_PAUSE)
-        return False
+        is_known = -key_of(number, 0, self.epoch.number) in member.done
+        return is_known or await self.is_dropped(given, member.bucket)
 
     def _gap(self, end: int) -> None:
         """What wasn't executed before this number won't come again: says so."""
@@ -377,9 +394,8 @@ class CopySeat(Seat):
         """Its connection has ended, and with it no order."""
 
     async def is_done(self, given: Given, number: int) -> bool:
-        """Waits until it may speak again."""
-        await self.allowed(self._bucket)
-        return False
+        """Whether a message is dropped; another waits until it may be taken."""
+        return await self.is_dropped(given, self._bucket)
 
     def refuse_type(self, given: Given, event: str) -> None:
         """Says that it may not do this."""
