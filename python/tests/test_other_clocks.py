@@ -50,13 +50,16 @@ def early(gaps: list[int]) -> Rows:
 EARLY = "trades and fills timed before an order of theirs was entered, by {} at most"
 
 
-def test_trades_timed_before_their_orders_are_said_and_change_no_verdict(
+def test_trades_timed_before_their_orders_are_in_doubt_once_an_auction(
     tmp_path: Path, capsys: Printed
 ) -> None:
     note = f"{EARLY.format('5 s')} (do clocks differ?): 2"
-    assert audited(text_of(early([2, 5])), [], tmp_path) == 0
-    assert f"callauction: {note}\n" in capsys.readouterr().err
-    assert audited(text_of(early([2, 5])), ["--json"], tmp_path) == 0
+    assert audited(text_of(early([2, 5])), [], tmp_path) == 5
+    printed = capsys.readouterr()
+    assert f"callauction: {note}\n" in printed.err
+    [line] = [it for it in printed.out.splitlines() if it.startswith("doubtful: ")]
+    assert "(as 1 more are), and timed 5 s before it: do clocks differ?" in line
+    assert audited(text_of(early([2, 5])), ["--json"], tmp_path) == 5
     assert note in json.loads(capsys.readouterr().out)["remarks"]
     verdict = verdict_of(early([2, 5]), reference=base_day().reference)
     assert EARLY.format("5 s") in page.html_of(verdict, "Day")
@@ -69,8 +72,10 @@ def test_a_trade_in_a_coarser_time_than_its_order_is_not_before_it() -> None:
     for place, time in ((4, "08:59:59"), (5, "08:59:59.700")):
         rows[place] |= {"auction": "opening", "time": time}
     verdict = verdict_of(rows)
-    assert verdict.word == "lawful"
+    assert verdict.word == "incomplete" and len(verdict.doubtful) == 1
     assert verdict.notes[f"{EARLY.format('0.05 s')} (do clocks differ?)"] == 1
+    rows[5]["time"] = "08:59:59"
+    assert verdict_of(rows).word == "lawful"
 
 
 # ---- what became of an order that is cancelled once more

@@ -1,9 +1,9 @@
 """The audit of an extract's events, and that of a journal."""
 import dataclasses
+import functools
 import os
 import re
 from collections.abc import Sequence
-from decimal import Decimal
 from typing import BinaryIO
 
 import numpy
@@ -12,7 +12,7 @@ import pandas
 from callauction.course import Watch
 from callauction.prices import argument, tick_size_of
 from callauction.program import Day
-from callauction.verdict import clocks, times
+from callauction.verdict.early import Early, in_doubt
 from callauction.verdict.events import read_zeros, refuse_limits, rows_of
 from callauction.verdict.findings import (
     INCOMPLETE, LAWFUL, STATUSES, UNLAWFUL, Verdict, verdict_of,
@@ -24,12 +24,11 @@ from callauction.verdict.mixed import (
     corrected, has_more, refuse_days, refuse_sums, with_late_results,
 )  # fmt: skip
 from callauction.verdict.reading import Reading, Table, read_table
-from callauction.verdict.readings import judged_day
-from callauction.verdict.rows import FILL, NEW, TRADE, BadRow, Doubt, Rows
+from callauction.verdict.readings import all_times, judged_day
+from callauction.verdict.rows import NEW, BadRow, Doubt, Rows
 from callauction.verdict.units import without_noise
 from callauction.words import AUCTIONS
 
-EARLY = "trades and fills timed before an order of theirs was entered, by {:f} s at most"
 UNRESTRICTED = "orders of which no column restriction says whether they are for one auction alone"
 _COUNT = re.compile(r"(entries|compared|unlawful) (\d+)")
 _CUT = f"{INCOMPLETE}: "
@@ -95,32 +94,19 @@ def judge_rows(rows: Rows, rules: Rules, watch: Watch = iter) -> Verdict:
     if other is not None and Judge(rows, rules).judge().unlawful:
         rows = whole = other
     found = judged_day(rows, rules, whole, watch)
-    found.notes.update(early_trades(rows))
+    found.notes.update(Early(rows).note())
     if found.unlawful:
         refuse_sums(whole, rules.due)
         if "restriction" not in rows.names.theirs and len(rules.due) > 1:
             found.notes[UNRESTRICTED] += len(rows.of(NEW))
+    found = in_doubt(found, rows, functools.partial(_is_lawful, rows, rules))
     return verdict_of(found, rows, rules)
 
 
-def early_trades(rows: Rows) -> dict[str, int]:
-    """How many trades and fills are timed before an entry of their orders, as far as their clock
-    says it, and by how much at most; empty for none.
-    """
-    made, day = rows.of(TRADE, FILL), clocks.DAY
-    entered = rows.entered(len(rows.names.ids) + 1)
-    due, steps = numpy.full(len(made), clocks.NONE), dict[int, int]()
-    for keys in (rows.bid[made], rows.ask[made], rows.key[made]):
-        at = numpy.where(entered[keys] >= 0, rows.time[entered[keys]], clocks.NONE)
-        due = numpy.maximum(due, numpy.where(keys >= 0, at, clocks.NONE))
-    own = rows.time[made]
-    is_early = (clocks.NONE < own) & (own < due) & ((own < day) == (due < day))
-    for place, time in zip(made[is_early].tolist(), own[is_early].tolist()):
-        steps[time] = steps.get(time) or times.step_of(rows.names.time(place))
-    gaps = [gap for time, last in zip(own[is_early].tolist(), due[is_early].tolist())
-            if (gap := last - last % max(1, steps[time]) - time) > 0]  # fmt: skip
-    seconds = (Decimal(max(gaps, default=0)) / clocks.SECOND).normalize()
-    return {f"{EARLY.format(seconds)} (do clocks differ?)": len(gaps)} if gaps else {}
+def _is_lawful(rows: Rows, rules: Rules, step: int) -> bool:
+    """Whether nothing differs by the times of a day, of which so many nanoseconds are one."""
+    found = Judge(rows.ordered(all_times(rows, step)), rules).judge()
+    return not any(each.differences for each in found.uncrosses)
 
 
 def short_rows(table: Table, rows: Rows, reading: Reading) -> list[BadRow]:

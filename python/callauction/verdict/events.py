@@ -50,6 +50,7 @@ def rows_of(
     lead = numpy.zeros(len(order), "i4") if instrument is None else instrument[order]
     sequence = columns.sequence()
     rows, is_market = _read(columns, table, given, time, _groups(time, sequence, lead), lead)
+    rows.spots = order
     kind = rows.kind.copy()
     if reading.sort and "time" in columns.names:
         rows.slack = _slack(columns, kind)
@@ -163,7 +164,7 @@ def _ordered(
         _refuse_forms(columns, lead[order])
         known = numpy.where(time != clocks.NONE, numpy.arange(len(time)), 0)
         sequence = columns.sequence()
-        time = _over_midnight(time, sequence, lead[order])
+        time = over_midnight(time, sequence, lead[order])
         keys = (time[numpy.maximum.accumulate(known)], lead[order])
         again = numpy.lexsort(keys if sequence is None else (sequence, *keys))
         if (again[1:] < again[:-1]).any():
@@ -173,7 +174,7 @@ def _ordered(
     return columns, order, time
 
 
-def _over_midnight(time: Ints, sequence: Ints | None, lead: Codes) -> Ints:
+def over_midnight(time: Ints, sequence: Ints | None, lead: Codes) -> Ints:
     """The times, those of an instrument a day later that go on in its sequence, or among its rows,
     behind one that is later by more than LONGEST: once, as a session goes on over midnight. Dates
     say it themselves.

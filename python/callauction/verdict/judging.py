@@ -19,6 +19,7 @@ from callauction.verdict.comparing import (
     doubted,
 )  # fmt: skip
 from callauction.verdict.doubts import Doubts, Reason
+from callauction.verdict.early import Early
 from callauction.verdict.judged import NONE, Judged, Judgement, Moment, Path, Rules, State
 from callauction.verdict.orders import notes_of
 from callauction.verdict.phases import (
@@ -70,6 +71,7 @@ class Judge:
         self.traded, self.filled = self._by_uncross(traded), self._by_uncross(filled)
         self.doubts = Doubts(rows, self.uncrosses, self.orders, self.due, self.entered)
         self.contradictions = Certain(rows, self.doubts, len(self.due), self.entered)
+        self.early = Early(rows)
         self.left_out: set[int] = set()
         """The places of uncrosses for which no other moment could be tried."""
 
@@ -236,11 +238,12 @@ class Judge:
         many.
         """
         differences = found[0].judged[-1].differences
-        certain, left = {marked(it) for it in found[0].judged[-1].certain}, set[Mark]()
+        certain, left = {marked(it, self.rows) for it in found[0].judged[-1].certain}, set[Mark]()
         try:
             other = [*self._variants(dataclasses.replace(moment, these=before))]
             left = self.left_in(other[0].judged[-1]) & certain
-            if {marked(it) for it in other[0].judged[-1].certain} - certain or left == certain:
+            new = {marked(it, self.rows) for it in other[0].judged[-1].certain} - certain
+            if new or left == certain:
                 return []
         except BeyondError:
             other = found
@@ -252,7 +255,7 @@ class Judge:
         """
         unknown = self.doubts.unknown
         return {
-            marked(it)
+            marked(it, self.rows)
             for it in other.differences
             if not it.doubt or unknown and it.doubt == unknown.text
         }
@@ -266,8 +269,8 @@ class Judge:
         """
         last, above = path.judged[-1], path.judged[:-1]
         certain = self.contradictions.of(last.place, last.auction, last.traded, last.filled)
-        kept = [it for it in differences if marked(it) in left]
-        others = tuple(it for it in differences if marked(it) not in left)
+        kept = [it for it in differences if marked(it, self.rows) in left]
+        others = tuple(it for it in differences if marked(it, self.rows) not in left)
         found = (*kept, *self._doubted(others, why, last.place, above))
         found = with_certain(found, certain)
         return dataclasses.replace(path.with_last(differences=found), doubt=path.doubt or why)
@@ -585,7 +588,9 @@ class Judge:
                     above = f"behind row {labels[moment.these[-1]]}"
                 row = (moment.place,)
                 wrong = Difference("auction", above, f"behind row {labels[place]}", row)
-                found = doubted([wrong], self._why(moment.path, moment.place))
+                own = dataclasses.replace(courses[0].judged[-1], place=moment.place)
+                why = self._why(moment.path, moment.place) or self.early.of_auction(own)[0]
+                found = doubted([wrong], why)
                 return [course.with_last(differences=found) for course in courses]
         return []
 
@@ -656,6 +661,7 @@ class Judge:
         return Judgement(judged, due, tuple(bad), +notes, self.has_trades, self.has_fills)
 
 
-def marked(each: Difference) -> Mark:
-    """What is recorded in a difference, or else lawful, and the rule of its own."""
-    return each.item, each.places, each.recorded or each.lawful, each.rule
+def marked(each: Difference, rows: Rows) -> Mark:
+    """What is recorded in a difference, or else lawful, where in the table, and its own rule."""
+    places = frozenset(rows.spots[[*each.places]].tolist())
+    return each.item, places, each.recorded or each.lawful, each.rule

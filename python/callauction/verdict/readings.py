@@ -12,6 +12,7 @@ from callauction.verdict import clocks
 from callauction.verdict.again import amended, copies, second_trades
 from callauction.verdict.cells import Codes, Ints
 from callauction.verdict.comparing import Difference, Fill, Trade, doubted
+from callauction.verdict.early import Early
 from callauction.verdict.judged import Judged, Judgement, Rules
 from callauction.verdict.judging import SUMS, Judge, Mark, marked
 from callauction.verdict.mixed import (
@@ -59,8 +60,8 @@ def judged_day(rows: Rows, rules: Rules, whole: Rows, watch: Watch = iter) -> Ju
     refuse_markets(whole, rules.due)
     ways = [*_changes(found, rows, rules), _orders_of_ties(judge), *_over_uncrosses(judge, found)]
     falls, across = falls or _falls(rows, True), _across(rows)
-    moves = ((_by_time, falls), (lambda it: it.ordered(_all_times(it)), across))
-    ways.append([_rows(move, why) for move, why in moves if why])
+    moves = ((_by_time, falls), (lambda it: it.ordered(all_times(it)), across))
+    ways.append([_rows(move, why) for move, why in (*moves, _by_table(rows, found)) if why])
     combined = itertools.product(*([None, *those] for those in ways if those))
     readings = ([each for each in it if each is not None] for it in combined)
     first = found
@@ -75,29 +76,32 @@ def _without(found: Judgement, first: Judgement, day: Day, those: list[Change]) 
     """
     if not found.unlawful:
         return found
+    rows = day[0]
     for change, _ in those:
         day = change(day)
-    judge = Judge(*day)
-    other = judge.judged_within(first.unlawful)
+    judge, spots = Judge(*day), rows.spots
+    unlawful = numpy.flatnonzero(numpy.isin(day[0].spots, spots[[*first.unlawful]]))
+    other = judge.judged_within({*unlawful.tolist()})
     if other is None:
         return found
-    before = {each.place: each for each in first.uncrosses}
+    before = {spots[each.place]: each for each in first.uncrosses}
     left = dict[int, set[Mark]]()
     for each in other.uncrosses:
-        above = before.get(each.place)
-        marks = {marked(it) for it in each.certain}
-        if marks - {marked(it) for it in (above.certain if above else ())}:
+        spot = int(day[0].spots[each.place])
+        above = before.get(spot)
+        marks = {marked(it, day[0]) for it in each.certain}
+        if marks - {marked(it, rows) for it in (above.certain if above else ())}:
             return found
-        left[each.place] = judge.left_in(each)
-    return _cleared(found, left, "; ".join(why for _, why in those))
+        left[spot] = judge.left_in(each)
+    return _cleared(found, rows, left, "; ".join(why for _, why in those))
 
 
-def _cleared(found: Judgement, left: dict[int, set[Mark]], why: str) -> Judgement:
-    """The judgement with what isn't left of an uncross at a place in doubt."""
-    those = {
-        place: [it if marked(it) in left.get(place, ()) else doubted([it], why)[0] for it in own]
-        for place, own in _by_place(found).items()
-    }
+def _cleared(found: Judgement, rows: Rows, left: dict[int, set[Mark]], why: str) -> Judgement:
+    """The judgement with what isn't left of an uncross, by where it is in the table, in doubt."""
+    those = {}
+    for place, own in _by_place(found).items():
+        kept = left.get(int(rows.spots[place]), ())
+        those[place] = [it if marked(it, rows) in kept else doubted([it], why)[0] for it in own]
     return _with_differences(found, those)
 
 
@@ -313,9 +317,9 @@ def _by_time(rows: Rows) -> Rows:
     return rows.moved(moved)
 
 
-def _all_times(rows: Rows) -> Ints:
-    """The places of all rows by time, of the day where only some have a date; one without a time
-    stays below the one above it.
+def all_times(rows: Rows, step: int = 1) -> Ints:
+    """The places of all rows by time, of the day where only some have a date, and where times of
+    one step in nanoseconds are one; one without a time stays below the one above it.
     """
     is_timed = rows.time != clocks.NONE
     is_dated = rows.time[is_timed] >= clocks.DAY
@@ -323,12 +327,12 @@ def _all_times(rows: Rows) -> Ints:
     if is_dated.any() and not is_dated.all():
         at = numpy.where(is_timed, at % clocks.DAY, clocks.NONE)
     known = numpy.where(is_timed, numpy.arange(len(at)), 0)
-    return numpy.argsort(at[numpy.maximum.accumulate(known)], kind="stable")
+    return numpy.argsort(at[numpy.maximum.accumulate(known)] // step, kind="stable")
 
 
 def _across(rows: Rows) -> str:
     """That by its time a row of an order is on another side of an uncross; empty where none is."""
-    orders, ends, place = rows.of(*OF_ORDERS), rows.of(UNCROSS), numpy.argsort(_all_times(rows))
+    orders, ends, place = rows.of(*OF_ORDERS), rows.of(UNCROSS), numpy.argsort(all_times(rows))
     phases = (numpy.searchsorted(it[ends], it[orders]) for it in (numpy.arange(len(place)), place))
     own, due = (numpy.asarray(each) for each in phases)
     odd = numpy.flatnonzero(own != due)
@@ -338,6 +342,17 @@ def _across(rows: Rows) -> str:
     end = rows.labels[ends[min(own[first], due[first])]]
     side = "below" if own[first] < due[first] else "above"
     return f"by its time row {rows.labels[orders[first]]} is {side} row {end}"
+
+
+def _by_table(rows: Rows, found: Judgement) -> tuple[Callable[[Rows], Rows], str]:
+    """What puts sorted rows in their order in the table, and why: by it an uncross is below an
+    order that by its time is later. Empty where none is.
+    """
+    early, orders = Early(rows), rows.of(*OF_ORDERS)
+    told = (*map(early.of_auction, found.uncrosses),
+            *(early.of_uncross(each.place, orders) for each in found.uncrosses))  # fmt: skip
+    why = next((why for why, *_ in told if why and rows.is_sorted), "")
+    return lambda it: it.ordered(numpy.argsort(it.spots, kind="stable")), why
 
 
 # ---- what stands in two readings
@@ -380,14 +395,15 @@ def _both(one: Judged, other: Judged, rows: Rows, why: str) -> Judged:
     """An uncross in another reading, whose differences are certain where the first one has them, or
     has the same orders' shares too many or too few; with those of the first in doubt.
     """
-    signs, own = _signs(one, rows), {marked(it) for it in one.certain}
+    signs, mark = _signs(one, rows), functools.partial(marked, rows=rows)
+    own = {*map(mark, one.certain)}
     same = {key for key, sign in _signs(other, rows).items() if signs.get(key) == sign}
     kept = [
-        it if marked(it) in own or _is_made(it) and same & {*it.keys} else doubted([it], why)[0]
+        it if mark(it) in own or _is_made(it) and same & {*it.keys} else doubted([it], why)[0]
         for it in other.differences
     ]
-    shown = {marked(it) for it in kept}
-    rest = [it for it in doubted(one.differences, why) if marked(it) not in shown]
+    shown = {*map(mark, kept)}
+    rest = [it for it in doubted(one.differences, why) if mark(it) not in shown]
     return dataclasses.replace(other, differences=(*kept, *rest))
 
 

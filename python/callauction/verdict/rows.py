@@ -223,6 +223,8 @@ class Rows:
     """The number of each row in a sequence, below 0 for none."""
     is_half: Mask = dataclasses.field(default_factory=lambda: numpy.zeros(0, bool))
     """Which rows are one side of a trade whose other side has no row, as those of others have."""
+    spots: Ints = dataclasses.field(default_factory=lambda: numpy.zeros(0, "i8"))
+    """Where each row is in the table, before any sorting."""
     is_ordered: bool = False
     """Whether an order's own rows of one time are in their right order."""
     is_cut: bool = False
@@ -247,6 +249,11 @@ class Rows:
     """Whether auctions that trades name alone have their price."""
     end: End | None = None
     """The end of the file, where it is one, without a time where rows are sorted."""
+
+    @property
+    def is_sorted(self) -> bool:
+        """Whether rows are in another order than in the table."""
+        return bool((numpy.diff(self.spots) < 0).any())
 
     def of(self, *kinds: int) -> Ints:
         """The places of the rows of these kinds."""
