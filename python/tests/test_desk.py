@@ -444,6 +444,68 @@ def test_days_as_spreadsheets_write_them(separator: str, tmp_path: Path) -> None
     assert main(["audit", str(path), "--by", "isin", "--days", str(days)]) == 0
 
 
+@pytest.mark.parametrize("other, status", [("{}0", 0), ("21.00", 1), ("", 1)])
+@pytest.mark.parametrize("is_book", [False, True])
+def test_an_instrument_that_days_have_twice_has_one_row_or_is_refused(
+    other: str, status: int, is_book: bool, tmp_path: Path, capsys: pytest.CaptureFixture[str]
+) -> None:
+    """With the same terms it is one, whatever zeros they have, and else which holds isn't known."""
+    reference, days, book = base_day().reference, tmp_path / "days.csv", tmp_path / "book.csv"
+    lines = ["isin,reference,tick_size", f"DE1,{reference},0.01", "", "DE2,5,0.01",
+             f"DE1,{other.format(reference)},0.01"]  # fmt: skip
+    first = places(base_day().rows, UNCROSS)[0]
+    rows = [dict(row, isin=name) for row in base_day().rows for name in ("DE1", "DE2")]
+    if is_book:
+        book.write_text("isin,order,side,price,quantity\nDE1,A,bid,10,5\nDE2,A,bid,10,5\n")
+        rows = [dict(row, price="none") for row in rows[2 * first : 2 * first + 2]]
+        lines[3] = lines[3].replace("DE2,5", f"DE2,{reference}")
+    else:
+        rows = [row for row in rows if row["isin"] == "DE1"]
+        lines[3] = ""
+    (tmp_path / "day.csv").write_text(text_of(rows))
+    asked = ["audit-auction", str(book), "--published"] if is_book else ["audit"]
+    given = [*asked, str(tmp_path / "day.csv"), "--by", "isin", "--days", str(days)]
+    days.write_text("\n".join([*lines[:4], ""]))
+    alone = main(given)
+    capsys.readouterr()
+    days.write_text("\n".join([*lines, ""]))
+    assert main(given) == (status or alone)
+    said = "the days have DE1 twice, in rows 2 and 5, with other terms: leave one out"
+    assert (said in capsys.readouterr().err) == bool(status)
+    days.write_text(f"ISIN,reference,tick_size\nDE1,{reference},0.01\n")
+    assert main(given) == 1
+    assert "the days have no column 'isin' (is it 'ISIN'?)" in capsys.readouterr().err
+
+
+@pytest.mark.parametrize("fault", ["", "7"])
+def test_a_file_of_lines_that_end_in_a_return_is_read(
+    fault: str, tmp_path: Path, capsys: pytest.CaptureFixture[str]
+) -> None:
+    """As a spreadsheet of old writes it: the same is printed as of others."""
+    rows = [dict(row) for row in base_day().rows]
+    rows[places(rows, UNCROSS)[0]]["surplus"] += fault
+    status = 4 if fault else 0
+    assert audited(text_of(rows), [], tmp_path) == status
+    plain = capsys.readouterr()
+    path, text = tmp_path / "day.csv", text_of(rows).replace("\n", "\r").encode()
+    words = ["--reference", base_day().reference, *LINE]
+    for title in (b"", b"sep=,\r", b"\r\r"):
+        path.write_bytes(title + text)
+        assert main(["audit", str(path), *words]) == status
+        assert capsys.readouterr().out == plain.out or title
+    path.write_bytes(text)
+    assert main(["audit", str(path), *words, "--check"]) == 0
+    assert f"rows uncross {len(places(rows, UNCROSS))}\n" in capsys.readouterr().out
+    assert main(["report", str(path), *words, "-o", str(tmp_path / "day.html")]) == 0
+    first = places(rows, UNCROSS)[0]
+    book = tmp_path / "book.csv"
+    book.write_bytes(b"order,side,price,quantity\rA,bid,10,5\r")
+    path.write_bytes(text_of([dict(rows[first], price="none")]).replace("\n", "\r").encode())
+    assert main(["audit-auction", str(book), "--published", str(path), *words]) in (0, 4, 5)
+    path.write_bytes(text + b"Total,,,,12\r\nnew,A")  # of ends of both kinds
+    assert main(["audit", str(path), *words]) in (4, 5)
+
+
 def test_findings_in_files_have_numbers_without_commas(tmp_path: Path) -> None:
     rows = [dict(row) for row in base_day().rows]
     rows[places(rows, UNCROSS)[0]]["quantity"] = "1234567"

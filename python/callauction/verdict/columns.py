@@ -107,6 +107,12 @@ def likely(name: object, known: Collection[str]) -> str | None:
     return alike[near[0]] if near else None
 
 
+def hint_of(name: str, known: Iterable[object]) -> str:
+    """Which of the known columns a missing one is likely to be, as a question; empty for none."""
+    guess = likely(name, [str(column) for column in known])
+    return f" (is it {guess!r}?)" if guess else ""
+
+
 def refuse_unknown(
     found: Iterable[object], known: Collection[str], ignore: Collection[str] = ()
 ) -> None:
@@ -154,8 +160,7 @@ def _refuse_unmapped(names: Collection[object], columns: Mapping[str, str]) -> N
         if theirs not in names and not (kind and not theirs):
             parts = (it.strip() for it in theirs.split("+"))
             missing = next((it for it in parts if it not in names), theirs)
-            guess = likely(missing, [str(name) for name in names])
-            hint = f" (is it {guess!r}?)" if guess else ""
+            hint = hint_of(missing, names)
             raise ColumnError(f"columns: the table has no column {missing!r}{hint}")
 
 

@@ -11,11 +11,14 @@ import numpy
 import pandas
 
 from callauction.course import Watch
+from callauction.prices import number_of
 from callauction.program import ProgramError
 from callauction.verdict.again import Gap, find_holes, gaps_of, remark_of
 from callauction.verdict.audits import before, judge_rows, rules_of, short_rows
 from callauction.verdict.cells import Codes, Ints, Source
-from callauction.verdict.columns import KINDS, ColumnError, ExtractError, refuse_unknown
+from callauction.verdict.columns import (
+    KINDS, ColumnError, ExtractError, hint_of, refuse_unknown,
+)  # fmt: skip
 from callauction.verdict.events import dropped_numbers, rows_of
 from callauction.verdict.findings import INCOMPLETE, STATUSES, Finding, Verdict
 from callauction.verdict.judged import PLURALS, Coverage, Rules
@@ -361,7 +364,8 @@ def market_of(
 
 def days_of(source: pandas.DataFrame | str | os.PathLike[str] | None, by: str) -> Days:
     """What the day of each instrument was opened with, of a frame or a CSV file, which may have
-    some of several columns `by` alone. Raises ColumnError and OSError.
+    some of several columns `by` alone. Raises ColumnError, OSError, and ExtractError for one that
+    is there twice with other terms.
     """
     if source is None:
         return Days((), {})
@@ -370,18 +374,30 @@ def days_of(source: pandas.DataFrame | str | os.PathLike[str] | None, by: str) -
     if not is_frame:
         with open(source, encoding="utf-8-sig", newline="") as file:
             separator = max(",;\t", key=file.readline().count)
-        frame = pandas.read_csv(source, sep=separator, dtype="str", keep_default_na=False)
+        frame = pandas.read_csv(
+            source, sep=separator, dtype="str", keep_default_na=False, skip_blank_lines=False
+        ).fillna("")
+        frame = frame.set_axis(range(2, 2 + len(frame)))[frame.ne("").any(axis=1).to_numpy()]
     columns = tuple(name for name in dict.fromkeys([by, *by.split(",")]) if name in frame)
     if not columns:
-        raise ColumnError(f"the days have no column {by!r}")
+        raise ColumnError(f"the days have no column {by!r}{hint_of(by, frame)}")
     refuse_unknown(frame.columns, (*columns, *TERMS))
-    terms = {
-        tuple(str(row[name]) for name in columns): {
-            name: it for name, it in row.items() if name in TERMS and it != "" and it == it
-        }
-        for row in frame.to_dict("records")
-    }
+    terms, labels = dict[Name, Mapping[str, object]](), dict[Name, object]()
+    for label, row in zip(frame.index, frame.to_dict("records")):
+        key = tuple(str(row[name]) for name in columns)
+        own = {str(name): it for name, it in row.items() if name in TERMS and it != "" and it == it}
+        if _numbered(terms.setdefault(key, own)) != _numbered(own):
+            raise ExtractError(
+                f"the days have {','.join(key)} twice, in rows {labels[key]} and {label}, with "
+                "other terms: leave one out"
+            )
+        labels.setdefault(key, label)
     return Days(columns, terms)
+
+
+def _numbered(terms: Mapping[str, object]) -> dict[str, object]:
+    """Terms with numbers as such, so that 20 is 20.00."""
+    return {name: number_of(it) if number_of(it) is not None else it for name, it in terms.items()}
 
 
 def terms_of(given: Mapping[str, object], reading: Reading) -> Terms:

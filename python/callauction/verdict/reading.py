@@ -20,8 +20,8 @@ from callauction.verdict.cells import (
     Codes, Ints, Mask, Short, Source, by_kind, frame_source, joined, text_source,
 )  # fmt: skip
 from callauction.verdict.columns import (
-    EVENT_COLUMNS, EVENTS, KINDS, NEEDED, ColumnError, ExtractError, joins_of, kinds_of, plain,
-    refuse_unknown, renamed,
+    EVENT_COLUMNS, EVENTS, KINDS, NEEDED, ColumnError, ExtractError, hint_of, joins_of, kinds_of,
+    plain, refuse_unknown, renamed,
 )  # fmt: skip
 
 GZIP = b"\x1f\x8b"
@@ -249,7 +249,7 @@ def columns_of(by: str | None, columns: Collection[str]) -> tuple[str, ...]:
     found = tuple(name for name in names if name is not None)
     missing = [name for name in found if name not in columns]
     if missing:
-        raise ColumnError(f"the table has no column {missing[0]!r}")
+        raise ColumnError(f"the table has no column {missing[0]!r}{hint_of(missing[0], columns)}")
     return found
 
 
@@ -363,7 +363,7 @@ def file_of(source: str | os.PathLike[str] | BinaryIO, reading: Reading) -> Tabl
 
 def _has_totals(content: bytes, separator: str, found: Source) -> bool:
     """Whether a file's last line has a word for totals, as no other row there, and figures."""
-    line = content[-_HEAD:].rstrip().rpartition(b"\n")[2].decode(errors="replace")
+    line = content[-_HEAD:].rstrip().splitlines()[-1].decode(errors="replace")
     fields = [it.strip() for it in next(csv.reader([line], delimiter=separator))]
     place = next((at for at, field in enumerate(fields) if field), len(fields))
     figures = all(map(_FIGURES.fullmatch, fields[place + 1 :]))
@@ -398,6 +398,7 @@ def _plain(content: bytes, encoding: str) -> bytes:
             plain = plain.decode(encoding).encode()
         elif not plain.isascii():
             plain.decode()
+        plain = plain if b"\n" in plain else plain.replace(b"\r", b"\n")
         return plain.removeprefix(_MARK).replace(b"\n" + _MARK, b"\n")
     except LookupError:
         raise ExtractError(f"there is no encoding {encoding!r}") from None
