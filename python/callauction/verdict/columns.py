@@ -67,6 +67,13 @@ _TRADE_ID = re.compile(r"(trade|trd|exec|match|deal).*(id|no|nr|nummer|number|re
 
 EMPTY = ("null", "n/a", "#n/a", "nan", "-", "--")
 """Words for an empty cell, in small letters."""
+UNKNOWN = (
+    *EMPTY, "n.a.", "none", "nil", "tbd", "#ref!", "#value!", "#name?", "#div/0!", "#num!",
+    "#null!",
+)  # fmt: skip
+"""Words for an id or a member that isn't known, as a spreadsheet's errors are."""
+_UNKNOWN_SIGNS = re.compile("[?\\-\u2010-\u2015\u2212]+")
+"""Question marks and dashes."""
 
 
 class ColumnError(ValueError):
@@ -80,6 +87,11 @@ class ExtractError(ValueError):
 def plain(name: str) -> str:
     """A name in small letters, without blanks and signs."""
     return re.sub(r"[^a-z0-9]", "", name.casefold())
+
+
+def is_unknown(text: str) -> bool:
+    """Whether a text stands for an id or a member that isn't known."""
+    return text.casefold() in UNKNOWN or bool(_UNKNOWN_SIGNS.fullmatch(text))
 
 
 def is_id(name: str) -> bool:

@@ -11,7 +11,7 @@ import numpy
 import pandas
 
 from callauction.verdict.cells import Codes, Ints
-from callauction.verdict.columns import EMPTY
+from callauction.verdict.columns import UNKNOWN
 from callauction.verdict.judged import Judged, Judgement
 from callauction.verdict.phases import recorded_sums, sums
 from callauction.verdict.rows import (
@@ -20,7 +20,7 @@ from callauction.verdict.rows import (
 
 QUOTES = "ids of a bid and an ask, read as two orders"
 FOREIGN = "cancels by others than the order's member"
-_ANYONE = ("anon", "anonymous", "hidden", "masked", "none", "unknown", "n.a.", "na", *EMPTY)
+_ANYONE = ("anon", "anonymous", "hidden", "masked", "unknown", "na", *UNKNOWN)
 _ONE_SIGN = re.compile(r"(.)\1\1+|\W+")
 _QUOTES = "'\"`"
 """What a sheet may write before a number that is to stay a text."""

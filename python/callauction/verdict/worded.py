@@ -9,15 +9,18 @@ import numpy
 from callauction.prices import BadCellError, number_of, whole_of
 from callauction.verdict import times
 from callauction.verdict.cells import Cells, Codes, Ints, Mask, Source, paired_codes
-from callauction.verdict.columns import EMPTY, ExtractError
+from callauction.verdict.columns import EMPTY, ExtractError, is_unknown
 from callauction.verdict.reading import Reading
 from callauction.verdict.rows import BAD, MARKET, MISSING, NO_PRICE, Bytes
 
 _NO_PRICE = ("none", "no price")
 _WORDED = ("event", "price", "bid_member", "ask_member")
 """Columns whose words for an empty cell mean something else in some rows."""
-_NONE = (*b"-#nN",)
-"""How such a word begins."""
+_NAMES = ("order", "new_order", "bid", "ask", "member")
+"""Columns of names, where more words are of one that isn't known."""
+_NONE, _SIGNS = (*b"-#nNtT",), (*b"#-?\xe2",)
+"""How such a word begins; how one that may be longer does."""
+_LONGEST = 24
 _COUNTED = re.compile(r"(\D*)(\d{1,18})", re.ASCII)
 _OF_TIMES = ":"
 """What sequences that are times count by."""
@@ -43,11 +46,15 @@ class Columns:
 
     def _without_words(self, name: str, cells: Cells) -> Cells:
         """The cells without words for an empty one, but for those that mean something else."""
-        may_be = (cells.length > 0) & (cells.length <= max(map(len, EMPTY)))
-        these = numpy.flatnonzero(may_be & numpy.isin(cells.buffer[cells.start], _NONE))
+        first, most = cells.buffer[cells.start], max(map(len, EMPTY))
+        may_be = (cells.length <= most) & numpy.isin(first, _NONE)
+        if name in _NAMES:
+            may_be |= (cells.length <= _LONGEST) & numpy.isin(first, _SIGNS)
+        these = numpy.flatnonzero(may_be & (cells.length > 0))
         codes, texts = cells.take(these).texts()
         length, others = cells.length.copy(), self.reading.values.get(name, {})
-        are = [text.casefold() in EMPTY and text not in others for text in texts]
+        is_none = is_unknown if name in _NAMES else lambda text: text.casefold() in EMPTY
+        are = [text not in others and is_none(text) for text in texts]
         length[these[numpy.array([*are, False])[codes]]] = 0
         return Cells(cells.buffer, cells.start, length)
 
