@@ -280,7 +280,7 @@ def test_a_session_over_midnight_is_one_day(
 ) -> None:  # fmt: skip
     """Its dates or its sequence say so; else it is what its rows may be."""
     rows = over_midnight(is_wrong)
-    for number, row in enumerate(rows, 100):
+    for number, row in enumerate(rows, 1):
         row["time"] = row.pop("moment").strftime(form)
         row |= {"sequence": str(number)} if has_sequence else {}
     found = audited(text_of(rows), words, tmp_path)

@@ -20,8 +20,9 @@ from callauction.verdict.worded import Columns
 _NO_RESULT = -100
 AGAIN = "rows that were sent again, read once"
 GAPS = "numbers of the sequence that no row has (are rows missing?)"
+BEGINS = "the sequence begins above 1 (are rows cut off?), with"
 RARE = 20
-"""Of so many numbers one is missing at most where none but a row's may be."""
+"""Of so many numbers one is missing at most, or one of less, where none but a row's may be."""
 _MADE = (TRADE, FILL)
 
 
@@ -192,16 +193,20 @@ def _is_of_orders(rows: Rows, these: Ints, name: str) -> bool:
 
 
 class Gap(NamedTuple):
-    """Numbers that no row has, the first and last, and whether few enough that each was a row's."""
+    """Numbers that no row has, the first and last, whether few enough that each was a row's, and
+    whether they are those below the first, as where rows were cut off.
+    """
 
     first: int
     last: int
     is_rare: bool = False
+    is_begin: bool = False
 
 
 def gaps_of(*numbers: Ints) -> list[Gap]:
     """The gaps in the numbers of rows, which are below 0 for none; none where as many are missing
-    as there are, or more, as where others' rows have a part of them.
+    as there are, or more, as where others' rows have a part of them. Numbers without a gap that
+    begin above 1 have one below.
     """
     known = numpy.unique(numpy.concatenate(numbers))
     known = known[known >= 0]
@@ -209,14 +214,19 @@ def gaps_of(*numbers: Ints) -> list[Gap]:
     missing = int((steps - 1).sum())
     if missing >= len(known):
         return []
+    if not missing:
+        first = int(known[0])
+        return [Gap(1, first - 1, is_begin=True)] * (first > 1)
     ends = numpy.flatnonzero(steps > 1).tolist()
-    is_rare = missing * RARE <= len(known)
+    is_rare = missing * RARE <= max(RARE, len(known))
     return [Gap(int(known[at]) + 1, int(known[at + 1]) - 1, is_rare) for at in ends]
 
 
 def remark_of(gaps: Sequence[Gap]) -> dict[str, int]:
     """How many numbers are missing, in words."""
     many = sum(it.last - it.first + 1 for it in gaps)
+    if gaps and gaps[0].is_begin:
+        return {BEGINS: many + 1}
     return {f"{GAPS}, such as {gaps[0].first}": many} if gaps else {}
 
 
@@ -237,6 +247,7 @@ def find_holes(rows: Rows, gaps: Sequence[Gap]) -> None:
         if at < len(own):
             above = int(own[at - 1]) if at else -1
             doubt = _doubt_between(rows, above, int(own[at]), is_above)
+            doubt = Doubt.ORDER if gaps[number].is_begin else doubt
             since = int(first_below[at]) - 1
         rows.holes.append(Hole.of(doubt, since, gaps[number].first, gaps[number].last))
 
