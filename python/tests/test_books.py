@@ -101,7 +101,8 @@ def test_an_auction_without_its_result_is_a_fault(
     frame = pandas.read_csv(path, dtype="str")
     frame[(frame["id"] != "1-0") | (frame["event"] != "uncross")].to_csv(path, index=False)
     assert main(words) == 5
-    assert "1-0, it has 0 rows uncross, and not one\n" in capsys.readouterr().err
+    said = "1-0, it has 0 rows uncross, and not one: --published FILE says what was published of it"
+    assert said in capsys.readouterr().err
 
 
 def test_an_order_of_one_auction_alone_needs_the_auction(

@@ -25,7 +25,7 @@ from callauction.verdict.mixed import (
 )  # fmt: skip
 from callauction.verdict.reading import Reading, Table, read_table
 from callauction.verdict.readings import all_times, judged_day
-from callauction.verdict.rows import NEW, BadRow, Doubt, Rows
+from callauction.verdict.rows import NEW, REPLACE, BadRow, Doubt, Rows
 from callauction.verdict.units import without_noise
 from callauction.words import AUCTIONS
 
@@ -86,6 +86,7 @@ def judge_rows(rows: Rows, rules: Rules, watch: Watch = iter) -> Verdict:
     rows, rules = without_noise(with_results(rows), rules)
     whole = rows
     refuse_days(rows)
+    _refuse_zero(rows, rules)
     if not rules.has_range and has_more(rows, rules.due):
         rows = corrected(rows, rules.due)
     read_zeros(rows, rules.prices)
@@ -101,6 +102,14 @@ def judge_rows(rows: Rows, rules: Rules, watch: Watch = iter) -> Verdict:
             found.notes[UNRESTRICTED] += len(rows.of(NEW))
     found = in_doubt(found, rows, functools.partial(_is_lawful, rows, rules))
     return verdict_of(found, rows, rules)
+
+
+def _refuse_zero(rows: Rows, rules: Rules) -> None:
+    """Raises ValueError for a reference of 0, as systems write none, where all limits are above."""
+    limits = rows.price[rows.of(NEW, REPLACE)]
+    limits = limits[limits >= 0]
+    if rules.reference == 0 and len(limits) and min(rows.prices[it] for it in limits) > 0:
+        raise ValueError("the reference is 0, and no limit: say --reference, the last price before")
 
 
 def _is_lawful(rows: Rows, rules: Rules, step: int) -> bool:

@@ -180,7 +180,8 @@ def auction_of(states: list[int], said: str | None, is_restricted: bool) -> str:
     alone, as it decides nothing. Raises ValueError.
     """
     if len(states) != 1:
-        raise ValueError(f"it has {len(states)} rows uncross, and not one")
+        how = "" if states else ": --published FILE says what was published of it"
+        raise ValueError(f"it has {len(states)} rows uncross, and not one{how}")
     if said is not None or 0 < states[0] <= len(AUCTIONS):
         return said or AUCTIONS[states[0] - 1]
     if is_restricted:

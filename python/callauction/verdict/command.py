@@ -20,6 +20,8 @@ import pandas
 import callauction
 from callauction import finder
 from callauction.course import Watch
+from callauction.market.names import guarded
+from callauction.prices import number_of
 from callauction.program import NO_JOURNAL, BadFileError, Day
 from callauction.statuses import DONE
 from callauction.verdict import books, shapes
@@ -347,7 +349,17 @@ def _files_of(options: Mapping[str, str | None]) -> Iterator[pathlib.Path]:
 
 def write_rows(found: Iterable[Audited], path: str, facts: Mapping[str, str]) -> None:
     """Writes a row for each instrument, as CSV."""
-    frame_of(each.row() for each in found).assign(**facts).to_csv(path, index=False)
+    _write(frame_of(each.row() for each in found).assign(**facts), path)
+
+
+def _write(frame: pandas.DataFrame, path: str) -> None:
+    """Writes a frame as CSV, of which no spreadsheet runs a text; numbers stay as they are."""
+
+    def plain(cell: object) -> object:
+        return guarded(cell) if isinstance(cell, str) and number_of(cell) is None else cell
+
+    texts = frame.select_dtypes("object")
+    frame.assign(**{name: texts[name].map(plain) for name in texts}).to_csv(path, index=False)
 
 
 def write_findings(found: Iterable[Audited], path: str, facts: Mapping[str, str]) -> None:
@@ -357,4 +369,4 @@ def write_findings(found: Iterable[Audited], path: str, facts: Mapping[str, str]
     if path.endswith(".json"):
         frame.to_json(path, orient="records", indent=1)
     else:
-        frame.to_csv(path, index=False)
+        _write(frame, path)
