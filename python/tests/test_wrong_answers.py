@@ -148,9 +148,10 @@ def test_a_surplus_on_the_wrong_side_is_unlawful_without_its_size() -> None:
 def test_trades_without_any_uncross_are_incomplete_and_told() -> None:
     verdict = verdict_of([row for row in small_day() if row["event"] != "uncross"])
     assert verdict.word == "incomplete" and verdict.coverage["prices"] == (0, 3)
-    assert verdict.notes == {
-        "trades and fills without any row uncross, which aren't compared": 88
-    }
+    [(note, count)] = verdict.notes.items()
+    assert note.startswith("trades and fills without any row uncross, which aren't compared (")
+    assert "--shape FILE judges them, with the line results = \"trades\" in FILE" in note
+    assert count == 88
 
 
 # ---- condemned though lawful

@@ -69,9 +69,9 @@ class Certain:
         if len(own) == len(these) and len(own):
             found += [*self._volume(place, traded, filled)]
         own = own[~self.doubts.taken(own)]
-        return [*found, *self._prices(place, own)] if len(own) else found
+        return [*found, *self.prices(place, own)] if len(own) else found
 
-    def _prices(self, place: int, these: Ints) -> Iterator[Difference]:
+    def prices(self, place: int, these: Ints) -> Iterator[Difference]:
         """Trades of one auction at two prices, or at another one than the published."""
         rows, published = self.rows, int(self.rows.price[place])
         at = rows.price[these]

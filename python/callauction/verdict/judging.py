@@ -13,10 +13,10 @@ import numpy
 from callauction.course import Watch
 from callauction.verdict import clocks, comparing
 from callauction.verdict.cells import Ints
-from callauction.verdict.certain import Certain, with_certain
+from callauction.verdict.certain import ONE_PRICE, Certain, with_certain
 from callauction.verdict.comparing import (
-    NAMED, PRIORITY, Compared, Difference, compared_fills, compared_items, compared_trades,
-    doubted,
+    NAMED, PRIORITY, Compared, Difference, Fill, Trade, compared_fills, compared_items,
+    compared_trades, doubted,
 )  # fmt: skip
 from callauction.verdict.doubts import Doubts, Reason
 from callauction.verdict.early import Early
@@ -34,7 +34,10 @@ from callauction.words import AUCTIONS
 
 FALLING = "times that come before that of the row above (sort reads rows by time)"
 LATE_CANCELS = "cancels after the last auction"
-NO_UNCROSS = "trades and fills without any row uncross, which aren't compared"
+NO_UNCROSS = (
+    "trades and fills without any row uncross, which aren't compared (--shape FILE judges them, "
+    "with the line results = \"trades\" in FILE)"
+)
 LATE_ORDERS = "orders and replaces after the last auction"
 BEYOND = "auctions beyond what this program holds"
 NO_STOPS = "no row can say that an uncross was interrupted before, as it may have been"
@@ -46,6 +49,10 @@ MOST_PATHS = 12
 """How many courses of a day are followed at a time."""
 Mark = tuple[object, ...]
 """By what a difference is known in another judgement."""
+CANCELLED = (
+    "{} is cancelled in row {}{}, above the uncross, and executed in row {}. What was published is "
+    "the result of the book behind row {}, before that cancel, and not of the book {}."
+)
 SUMS = ("price", "volume", "surplus", "side")
 """The items that fix the sums of both sides at the price."""
 
@@ -586,13 +593,38 @@ class Judge:
                 labels, above = self.rows.labels, "before all orders"
                 if len(moment.these):
                     above = f"behind row {labels[moment.these[-1]]}"
-                row = (moment.place,)
-                wrong = Difference("auction", above, f"behind row {labels[place]}", row)
+                wrong = self._of_cancelled(moment, place, above) or Difference(
+                    "auction", above, f"behind row {labels[place]}", (moment.place,)
+                )
                 own = dataclasses.replace(courses[0].judged[-1], place=moment.place)
                 why = self._why(moment.path, moment.place) or self.early.of_auction(own)[0]
                 found = doubted([wrong], why)
                 return [course.with_last(differences=found) for course in courses]
         return []
+
+    def _of_cancelled(self, moment: Moment, place: int, above: str) -> Difference | None:
+        """The first trade or fill of an order that is cancelled behind the lawful moment of an
+        uncross and above its row; None without one.
+        """
+        rows, both = self.rows, self._with_named(moment)
+        made = numpy.sort(numpy.concatenate([both.traded, both.filled]))
+        gone = moment.these[(rows.kind[moment.these] == CANCEL) & (moment.these > place)]
+        for cancel in gone[rows.quantity[gone] <= 0].tolist():
+            key = int(rows.key[cancel])
+            own = [it[made] == key for it in (rows.bid, rows.ask, rows.key)]
+            these = made[numpy.any(own, axis=0)]
+            if not len(these):
+                continue
+            at, labels = int(these[0]), rows.labels
+            bid, of = int(rows.bid[at]), (int(rows.quantity[at]), int(rows.price[at]))
+            one: Trade | Fill = Fill(key, *of)
+            one = Trade(bid, int(rows.ask[at]), *of) if bid >= 0 else one
+            time, name = rows.names.legible_time(cancel), rows.names.order(key)
+            rule = CANCELLED.format(name, labels[cancel], f", {time}" * bool(time), labels[at],
+                                    labels[place], above)  # fmt: skip
+            item = "trade" if bid >= 0 else comparing.FILL
+            return Difference(item, one, None, (at,), (key,), rule=rule)
+        return None
 
     def _other_moments(self, moment: Moment, later: list[int]) -> Iterator[tuple[int, Ints]]:
         """Rows behind which price, volume and surplus are lawful, with the phase before each."""
@@ -646,7 +678,9 @@ class Judge:
         notes[FALLING] += self.doubts.falls
         notes.update(notes_of(self.rows, path))
         if path.state.ended >= len(self.due):
-            late = self.rows.kind[self.orders[path.taken :]] == CANCEL
+            below = self.orders[path.taken :]
+            below = below[self.rows.are_behind(below, path.judged[-1].place)]
+            late = self.rows.kind[below] == CANCEL
             notes[LATE_CANCELS] += int(late.sum())
             notes[LATE_ORDERS] += int((~late).sum())
         if not judged:
@@ -658,7 +692,19 @@ class Judge:
         over = sum(each.result is None for each in judged)
         stops = len(judged) - over - path.state.ended
         due = len(self.due) + max(0, stops)
+        judged = (*judged, *self._at_two_prices(judged))
         return Judgement(judged, due, tuple(bad), +notes, self.has_trades, self.has_fills)
+
+    def _at_two_prices(self, judged: Sequence[Judged]) -> Iterator[Judged]:
+        """Auctions without a row uncross whose trades, which name them, are at two prices."""
+        made, state = self.rows.of(TRADE, FILL), self.rows.state
+        made = made[~self.doubts.taken(made)]
+        for auction in sorted({*self.due} - {each.auction for each in judged}):
+            own = made[state[made] == 1 + auction]
+            found = [*self.contradictions.prices(int(own[0]), own)] if len(own) else []
+            found = [each for each in found if each.rule == ONE_PRICE]
+            if found:
+                yield Judged(int(own[0]), auction, tuple(found))
 
 
 def marked(each: Difference, rows: Rows) -> Mark:

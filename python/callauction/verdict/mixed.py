@@ -140,7 +140,7 @@ def refuse_parts(rows: Rows, due: Sequence[int]) -> None:
     if len(names) > 1 and names.tolist() == [*due][::-1]:
         raise ExtractError("results are in reverse order (is the newest row first?): say --sort")
     timed = orders[rows.time[orders] != clocks.NONE]
-    is_timed = len(timed) > 0 and (rows.time[ends] != clocks.NONE).all()
+    is_timed = len(timed) > 0 and len(ends) > 0 and (rows.time[ends] != clocks.NONE).all()
     falls = numpy.flatnonzero(rows.time[ends[1:]] < rows.time[ends[:-1]])
     if is_timed and len(falls):
         one, other = rows.labels[ends[falls[0] : falls[0] + 2]]
@@ -249,9 +249,12 @@ def with_last(rows: Rows, those: Ints, auction: int) -> Rows:
         bad.append(BadRow(place, rows.labels[place], why, Doubt.ITEM, place))
     kind[those] = BAD
     kind[at] = UNCROSS
-    labels = rows.labels.copy()
-    labels[at] = labels[last]
-    return dataclasses.replace(rows.with_said(at, last), kind=kind, bad=bad, labels=labels)
+    labels, where = rows.labels.copy(), numpy.arange(len(kind))
+    labels[at], where[at] = labels[last], last
+    names = rows.names.moved(where)
+    return dataclasses.replace(
+        rows.with_said(at, last), kind=kind, bad=bad, labels=labels, names=names
+    )
 
 
 # ---- results that don't say which auction they are of

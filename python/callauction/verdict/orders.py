@@ -173,7 +173,7 @@ _GONE = (
 
 def notes_of(rows: Rows, path: Path) -> Counter[str]:
     """How many rows of a course cancel an order that isn't open, by what became of it."""
-    gone = numpy.zeros(len(rows.names.ids) + 1, "i1")
+    gone, ends = (numpy.zeros(len(rows.names.ids) + 1, kind) for kind in ("i1", "i8"))
     cancels = numpy.setdiff1d(rows.of(*OF_ORDERS)[: path.taken], path.closed)
     cancels = cancels[rows.kind[cancels] == CANCEL]
     gone[rows.key[cancels]] = 3
@@ -181,10 +181,12 @@ def notes_of(rows: Rows, path: Path) -> Counter[str]:
         book, room = each.book, numpy.zeros(len(gone), "i8")
         room[each.fills.keys] = each.fills.shares
         is_whole = room[book.key] >= book.quantity
-        gone[book.key[is_whole]] = 1
+        gone[book.key[is_whole]], ends[book.key[is_whole]] = 1, each.place
         gone[book.key[~is_whole & (book.only > 0) & (book.only == OWN[each.auction])]] = 2
     gone[rows.key[cancels[rows.quantity[cancels] <= 0]]] = 3
     entries = [row.place for row in path.refused if rows.kind[row.place] == NEW]
     gone[rows.key[entries]] = 4
-    counts = numpy.bincount(gone[rows.key[path.closed]], minlength=len(_GONE)).tolist()
+    keys = rows.key[path.closed]
+    keys = keys[(gone[keys] != 1) | rows.are_behind(path.closed, ends[keys])]
+    counts = numpy.bincount(gone[keys], minlength=len(_GONE)).tolist()
     return +Counter({CLOSED.format(why): count for why, count in zip(_GONE, counts)})

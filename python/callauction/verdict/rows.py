@@ -10,7 +10,7 @@ from typing import Any
 import numpy
 from numpy.typing import NDArray
 
-from callauction.verdict import times
+from callauction.verdict import clocks, times
 from callauction.verdict.cells import Array, Codes, Ints, Mask, Source
 from callauction.verdict.columns import EMPTY
 from callauction.verdict.reading import End
@@ -265,6 +265,13 @@ class Rows:
         kind = int(self.kind[place])
         self.bad.append(BadRow(int(place), self.labels[place], why, doubt, begin, kind))
         self.kind[place] = BAD
+
+    def are_behind(self, those: Ints, places: Ints | int) -> Mask:
+        """Which of these rows are below others and not timed before them."""
+        own, due = self.time[those], self.time[places]
+        is_early = (clocks.NONE < own) & (own < due)
+        found: Mask = (those > places) & ~is_early
+        return found
 
     def entered(self, many: int) -> Ints:
         """By its key the first row that enters an order, MISSING where none does."""
