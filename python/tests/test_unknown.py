@@ -1,4 +1,5 @@
-"""What an extract hasn't, or has in a cell that says nothing: it is said, and excuses what it may."""
+"""What an extract hasn't, or has in a cell that says nothing: it is said, and excuses what it may.
+"""
 import csv
 import json
 from pathlib import Path
@@ -154,8 +155,8 @@ def test_a_reference_of_0_is_none_where_limits_are_above(tmp_path: Path, capsys:
     assert main(["audit", str(day), "--by", "isin", "--days", str(days)]) != 4
     assert "DE1, the reference is 0, and no limit: say --reference" in capsys.readouterr().err
     assert audited(text_of(base_rows()), ["--reference", "0"], tmp_path) == 2
-    assert verdict_of([row | {"price": "0"} if row["event"] == "new" else row
-                       for row in small_day()], reference="0", low="0").word != "lawful"  # fmt: skip
+    rows = [row | {"price": "0"} if row["event"] == "new" else row for row in small_day()]
+    assert verdict_of(rows, reference="0", low="0").word != "lawful"
 
 
 def test_no_spreadsheet_runs_a_text_of_a_file(tmp_path: Path) -> None:
