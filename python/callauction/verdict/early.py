@@ -24,6 +24,7 @@ BEFORE = "An auction executes orders that were entered before it."
 
 
 def _seconds(gap: int) -> Decimal:
+    """Nanoseconds as seconds."""
     return (Decimal(gap) / clocks.SECOND).normalize()
 
 
@@ -112,7 +113,6 @@ class Early:
         entries = self.entries(made)
         is_above = (entries >= 0) & (rows.spots[entries] < rows.spots[judged.place])
         return found if found[0] else self.told(made[is_above], entries[is_above])
-
 
     def difference(self, why: str, one: int, other: int) -> list[Difference]:
         """The doubtful difference of a row that is timed before another; none without a reason."""
