@@ -1016,7 +1016,9 @@ trade,09:00:18,,,10.02,1000,,opening,,A,S
 
 @pytest.mark.parametrize("more", [0, 100])
 def test_a_result_whose_time_is_coarser_than_those_of_orders(more: int, tmp_path: Path) -> None:
-    """Sorted it is above orders that were before it in its second."""
+    """Sorted it is above orders that were before it in its second. By two seconds before an order
+    that it executed it disagrees with the rows, unless that is below it there too.
+    """
     many = "".join(f"new,09:00:18.{it},B{it},bid,9.99,1,,,,,\n" for it in range(100, 100 + more))
     text, held = COARSE.format(more=many), ["--auctions", "opening", "--sort"]
     assert audited(text, held, tmp_path) == 5
@@ -1024,7 +1026,9 @@ def test_a_result_whose_time_is_coarser_than_those_of_orders(more: int, tmp_path
     assert audited(late, held, tmp_path) == 0
     assert audited(late.replace("1000,0,opening", "1000,7,opening"), held, tmp_path) == 4
     early = text.replace(",09:00:18,", ",09:00:16,")
-    assert audited(early, held, tmp_path) == 4
+    assert audited(early, held, tmp_path) == 5
+    *lines, order, result, made = early.splitlines()
+    assert audited("\n".join([*lines, result, order, made]), held, tmp_path) == 4
 
 
 @pytest.mark.parametrize("form, shown", [
