@@ -104,21 +104,21 @@ def said_at_end(venue: Served) -> str:
 def test_a_script_that_takes_places(tmp_path: pathlib.Path) -> None:
     """After forty it is slowed, and others come; who has a code of its own isn't counted."""
     with served.served(tmp_path, "sync = false\n") as venue:
-        found = [asked(venue, "127.0.0.9", f"Bot{it}")[:2] for it in range(60)]
-        came_in = [it for it in found if it == (200, None)]
-        assert 40 <= len(came_in) < 55 and {*found} == {(200, None), (429, "3")}
-        status, _, refused = asked(venue, "127.0.0.9", "One more")
-        assert (status, refused["error"]) == (429, "join_later")
+        count = 0
+        while (answer := asked(venue, "127.0.0.9", f"Bot{count}"))[0] == 200:
+            count += 1
+        status, later, refused = answer
+        assert (status, later, refused["error"]) == (429, "3", "join_later") and count >= 40
         assert asked(venue, "127.0.0.1", "Anna")[0] == 200
         code = venue.do("code", member="Bot0")["code"]
         assert asked(venue, "127.0.0.9", "", code)[0] == 200
         shown = sees(venue, "members")
         [slowed] = shown["slowed"]
         assert (slowed["address"], shown["most"]) == ("127.0.0.9", 200)
-        assert slowed["count"] == len(came_in) and slowed["last"].startswith("Bot")
+        last = ", ".join(f"Bot{place}" for place in range(count - 5, count))
+        assert (slowed["count"], slowed["last"]) == (count, last)
         [line] = said_at_end(venue).splitlines()
-        said = "joins from 127.0.0.9 are slowed: 40 members came from there, lastly "
-        said += ", ".join(f"Bot{place}" for place in range(35, 40))
+        said = f"joins from 127.0.0.9 are slowed: {count} members came from there, lastly {last}"
         assert line == f"venue: {said}; {DO}"
 
 

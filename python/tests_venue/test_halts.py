@@ -6,7 +6,6 @@ import pytest
 import served
 from browsing import SCREEN, Page, joined, opened
 from callauction.venue import Client, VenueError
-from test_robots import until
 from test_rounds import sees
 
 DAY = """
@@ -103,7 +102,9 @@ def test_who_joins_in_a_halt_joins_once_it_is_over(tmp_path: pathlib.Path) -> No
         token = venue.join("Bert")
         log, other = tmp_path / "venue/venue.log", tmp_path / "moved"
         log.rename(other)
-        until(lambda: bool(venue.call("api/look/state?instrument=PEARS", token=token)[1]["halted"]))
+        look = "api/look/state?instrument=PEARS"
+        while not venue.call(look, token=token)[1]["halted"]:
+            time.sleep(0.2)
         anna.waits(lambda it: it.shows("join"))
         anna.types(code=venue.code, name="Anna")
         anna.clicks("#join button")

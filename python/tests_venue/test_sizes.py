@@ -18,6 +18,7 @@ sync = false
 [phases]
 call = 0
 [members]
+joins = 0
 rate = 100000
 burst = 100000
 [[instrument]]
