@@ -208,8 +208,7 @@ def gaps_of(*numbers: Ints) -> list[Gap]:
     as there are, or more, as where others' rows have a part of them. Numbers without a gap that
     begin above 1 have one below.
     """
-    known = numpy.unique(numpy.concatenate(numbers))
-    known = known[known >= 0]
+    known = numpy.unique(numpy.concatenate([it[it >= 0] for it in numbers]))
     steps = numpy.diff(known)
     missing = int((steps - 1).sum())
     if missing >= len(known):

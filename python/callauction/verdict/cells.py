@@ -354,9 +354,6 @@ def _filled(buffer: Bytes, starts: Ints, ends: Ints, separator: int) -> Ints:
 
 def _places(buffer: Bytes, used: int, sign: int) -> NDArray[numpy.uint32]:
     """Where a byte is in the first bytes of a buffer."""
-    parts = [
-        numpy.flatnonzero(buffer[begin : min(used, begin + _AT_ONCE)] == sign) + begin
-        for begin in range(0, used, _AT_ONCE)
-    ]
-    found: NDArray[numpy.uint32] = numpy.concatenate(parts).astype("u4")
-    return found
+    parts = ((begin, min(used, begin + _AT_ONCE)) for begin in range(0, used, _AT_ONCE))
+    found = [(numpy.flatnonzero(buffer[it:end] == sign) + it).astype("u4") for it, end in parts]
+    return numpy.concatenate(found)

@@ -21,6 +21,8 @@ _NAMES = ("order", "new_order", "bid", "ask", "member")
 _NONE, _SIGNS = (*b"-#nNtT",), (*b"#-?\xe2",)
 """How such a word begins; how one that may be longer does."""
 _LONGEST = 24
+_MOST_KEPT = 4
+"""Of how many columns the cells are kept, those that were asked for last: 16 bytes a cell."""
 _COUNTED = re.compile(r"(\D*)(\d{1,18})", re.ASCII)
 _OF_TIMES = ":"
 """What sequences that are times count by."""
@@ -39,10 +41,14 @@ class Columns:
 
     def cells(self, name: str) -> Cells:
         """The cells of a column that the table has, empty where they have a word for that."""
-        if name not in self._cells:
+        found = self._cells.pop(name, None)
+        if found is None:
             own = self.source.cells(self.names[name])
-            self._cells[name] = own if name in _WORDED else self._without_words(name, own)
-        return self._cells[name]
+            found = own if name in _WORDED else self._without_words(name, own)
+            if len(self._cells) == _MOST_KEPT:
+                del self._cells[next(iter(self._cells))]
+        self._cells[name] = found
+        return found
 
     def _without_words(self, name: str, cells: Cells) -> Cells:
         """The cells without words for an empty one, but for those that mean something else."""
