@@ -119,7 +119,8 @@ def test_tags_that_change_nothing(tmp_path: pathlib.Path) -> None:
 
 
 OF_ALL = [(48, "XYZ"), (22, "8"), (167, "CS")]
-PARTIES = [(453, "2"), (448, "DESK"), (447, "D"), (452, "1"), (448, "TRADER"), (452, "11")]
+SUB_IDS = [(802, "2"), (523, "FLOOR"), (803, "2"), (523, "X"), (803, "4000")]
+PARTIES = [(453, "2"), (448, "DESK"), (447, "D"), (452, "1"), *SUB_IDS, (448, "T"), (452, "11")]
 OF_ORDERS = [*OF_ALL, (15, "EUR"), (18, "1 5"), (126, "20991231-17:00:00")]
 FROM = [(115, "CLIENT"), (142, "FLOOR")]
 """What clients send with orders beside what these are."""
@@ -134,7 +135,7 @@ def test_what_is_sent_with_orders(tmp_path: pathlib.Path) -> None:
         beside = [*OF_ORDERS, *PARTIES]
         found = answer(peer, "D", [*order("a1", "1", "10", *limit), *beside], FROM)
         assert picked(found, 150, 37, 38, 44, 59) == ("0", "XYZ.1", "10", "2.00", "0")
-        assert not {*found} & {15, 18, 22, 48, 115, 126, 142, 167, 447, 448, 452, 453}
+        assert not {*found} & {15, 18, 22, 48, 115, 126, 142, 167, 447, 448, 452, 453, 802}
         replace = [(41, "a1"), *order("a2", "1", "12", *limit), *beside]
         assert picked(answer(peer, "G", replace, FROM), 150, 37, 38) == ("5", "XYZ.1", "12")
         asked = [(11, "a2"), (55, "XYZ"), (54, "1"), *OF_ALL, *PARTIES]

@@ -66,7 +66,7 @@ const std::set<std::string> taken_types = {"D", "F", "G", "H", "V", "g", "q", "x
 const std::set<std::string> venue_types = {"8", "9", "r", "W", "X", "Y", "h", "y", "AE", "j"};  // what it says itself
 const std::set<std::string> commands = {"D", "F", "G", "q"};  // of these, those that change orders
 const std::set<std::string> passing_types = {"W", "X", "h"};  // what isn't sent again
-const std::set<int> of_parties = {447, 448, 452};  // the tags of a row of NoPartyIDs
+const std::set<int> of_parties = {447, 448, 452, 523, 802, 803};  // the tags of a row of NoPartyIDs
 const FIX::ApplVerID version("9");  // that of FIX.5.0SP2, of which messages over FIXT are
 const char* const reject = "3";
 const char* const reject_again = "U3";  // it is sent again, which QuickFIX does with no message of the session
