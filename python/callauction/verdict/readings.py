@@ -149,7 +149,8 @@ def _changes(found: Judgement, rows: Rows, rules: Rules) -> Iterator[list[Change
         yield [_without_rows(rows, rows.of(TRADE, FILL), OTHER_IDS)]
     price = _filled_prices(rows)
     if price is not None:
-        yield [_rows(functools.partial(_priced, price), UNCHANGED)]
+        unchanged = functools.partial(_priced, price)
+        yield [_rows(unchanged, UNCHANGED), _rows(_without_prices, UNCHANGED)]
     if rules.range is not None and rules.range.whole is None and rules.reference:
         span = dataclasses.replace(rules.range, whole=rules.reference)
         yield [(lambda day: (day[0], dataclasses.replace(day[1], range=span)), PERCENT)]
@@ -279,6 +280,15 @@ def _filled_prices(rows: Rows) -> Codes | None:
     says_again = is_replace[1:] & (at[1:] != MARKET) & (at[1:] == at[last[:-1]])
     is_other = rows.has_market or says_again.any() or (price == rows.price).all()
     return None if is_other else price
+
+
+def _without_prices(rows: Rows) -> Rows:
+    """The rows, of which replaces without a price aren't read, as each may have another one."""
+    found = dataclasses.replace(rows, kind=rows.kind.copy(), bad=[*rows.bad])
+    these = rows.of(REPLACE)
+    for place in these[rows.price[these] == MARKET].tolist():
+        found.refuse(place, UNCHANGED, Doubt.BOOKS)
+    return found
 
 
 # ---- the order of times
