@@ -283,10 +283,12 @@ def _filled_prices(rows: Rows) -> Codes | None:
 
 
 def _without_prices(rows: Rows) -> Rows:
-    """The rows, of which replaces without a price aren't read, as each may have another one."""
+    """The rows, of which replaces without a price aren't read, as each may have another one, but
+    for those that kept their place, which another limit would lose.
+    """
     found = dataclasses.replace(rows, kind=rows.kind.copy(), bad=[*rows.bad])
     these = rows.of(REPLACE)
-    for place in these[rows.price[these] == MARKET].tolist():
+    for place in these[(rows.price[these] == MARKET) & (rows.kept[these] != 1)].tolist():
         found.refuse(place, UNCHANGED, Doubt.BOOKS)
     return found
 
