@@ -95,12 +95,13 @@ def judge_rows(rows: Rows, rules: Rules, watch: Watch = iter) -> Verdict:
     if other is not None and Judge(rows, rules).judge().unlawful:
         rows = whole = other
     found = judged_day(rows, rules, whole, watch)
-    found.notes.update(Early(rows).note())
+    early = Early(rows)
+    found.notes.update(early.note())
     if found.unlawful:
         refuse_sums(whole, rules.due)
         if "restriction" not in rows.names.theirs and len(rules.due) > 1:
             found.notes[UNRESTRICTED] += len(rows.of(NEW))
-    found = in_doubt(found, rows, functools.partial(_is_lawful, rows, rules))
+    found = in_doubt(found, early, functools.partial(_is_lawful, rows, rules))
     return verdict_of(found, rows, rules)
 
 

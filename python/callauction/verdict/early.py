@@ -2,6 +2,7 @@
 and where they disagree so, one of both isn't lawful.
 """
 import dataclasses
+import functools
 from collections.abc import Callable
 from decimal import Decimal
 
@@ -35,11 +36,16 @@ class Early:
         self.rows, self.entered = rows, rows.entered(len(rows.names.ids) + 1)
         self.time = over_midnight(rows.time, None, numpy.zeros(len(rows.time), "i4"))
         self.steps = dict[int, int]()
-        orders = rows.of(*OF_ORDERS)
-        at = self.time[orders[numpy.argsort(rows.spots[orders])]]
-        at = at[at != clocks.NONE]
-        self.is_no_order = rows.is_sorted and 10 * (at[1:] < at[:-1]).sum() > len(at)
+
+    @functools.cached_property
+    def is_no_order(self) -> bool:
         """Whether the table has its rows in no order of their times."""
+        if not self.rows.is_sorted:
+            return False
+        orders = self.rows.of(*OF_ORDERS)
+        at = self.time[orders[numpy.argsort(self.rows.spots[orders])]]
+        at = at[at != clocks.NONE]
+        return bool(10 * (at[1:] < at[:-1]).sum() > len(at))
 
     def step(self, place: int) -> int:
         """How many nanoseconds a row's time is of, by its last digit."""
@@ -121,13 +127,12 @@ class Early:
         return [Difference("time", *both, (one, other), (key,), doubt=why, rule=BEFORE)] * bool(why)
 
 
-def in_doubt(found: Judgement, rows: Rows, is_lawful: Callable[[int], bool]) -> Judgement:
+def in_doubt(found: Judgement, early: Early, is_lawful: Callable[[int], bool]) -> Judgement:
     """The judgement with a doubtful difference for each auction whose row, or a trade of which, is
     timed before an order that it executed; or before a row of an order above it, where the day
     isn't lawful by its times, which `is_lawful` says of times of so many nanoseconds.
     """
-    early = Early(rows)
-    told = [early.of_auction(each) for each in found.uncrosses]
+    rows, told = early.rows, [early.of_auction(each) for each in found.uncrosses]
     is_same = not any(why for why, *_ in told) and not rows.is_sorted
     if is_same and not any(each.differences for each in found.uncrosses):
         orders = rows.of(*OF_ORDERS)

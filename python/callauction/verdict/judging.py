@@ -5,6 +5,7 @@ engine goes on from what it did, a fault of the record alone changes nothing. Bo
 the day with the fewest differences is taken, so one fault is one finding.
 """
 import dataclasses
+import functools
 from collections import Counter
 from collections.abc import Collection, Iterator, Sequence
 
@@ -78,9 +79,13 @@ class Judge:
         self.traded, self.filled = self._by_uncross(traded), self._by_uncross(filled)
         self.doubts = Doubts(rows, self.uncrosses, self.orders, self.due, self.entered)
         self.contradictions = Certain(rows, self.doubts, len(self.due), self.entered)
-        self.early = Early(rows)
         self.left_out: set[int] = set()
         """The places of uncrosses for which no other moment could be tried."""
+
+    @functools.cached_property
+    def early(self) -> Early:
+        """What of the day is timed before its orders."""
+        return Early(self.rows)
 
     def judge(self, watch: Watch = iter) -> Judgement:
         """All uncrosses of the day, which `watch` is given. Raises ProgramError."""
