@@ -39,12 +39,12 @@ opened_board identity config members book = record {
 }
 
 -- what the lock keeps: the opening, and the history
-pub record FloorView : Type 0 where
+pub record BoardHistory : Type 0 where
   pub board : OpenedBoard
   pub history : List Entry
 
-abbrev pub floor_view : OpenedBoard → List Entry → FloorView
-floor_view p history = record { board = p; history = history }
+abbrev pub board_history : OpenedBoard → List Entry → BoardHistory
+board_history p history = record { board = p; history = history }
 
 -- a member of an opening
 pub record BoardMember : Type 0 where

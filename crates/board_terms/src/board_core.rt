@@ -35,13 +35,13 @@ pub struct BoardCore {
 
 impl Model for BoardCore {
     ghost use Rattle.std.specs.Prelude.{◌≡◌, vec_capacity};
-    ghost use Rattle.board_terms.specs.BoardViews.{FloorView, floor_view, opened_board};
+    ghost use Rattle.board_terms.specs.BoardViews.{BoardHistory, board_history, opened_board};
     ghost use Rattle.board_terms.specs.CoreInvariant.{CoreInvariant};
 
-    ghost Value = { FloorView };
+    ghost Value = { BoardHistory };
 
     ghost view = { λ f.
-        floor_view (opened_board f.identity f.auction.config f.members f.front.book) f.history.items };
+        board_history (opened_board f.identity f.auction.config f.members f.front.book) f.history.items };
 
     ghost invariant = { λ f.
         CoreInvariant f.auction.config f.members f.auction f.history.items f.front.log f.counted.items

@@ -4,7 +4,7 @@ ghost use Rattle.auction_terms.specs.Auxiliary.RunningAuction.{opened_auction};
 ghost use Rattle.auction_terms.specs.declared.limits.TheConstants.{MAX_CALLS};
 ghost use Rattle.board_terms.specs.BoardOpening.{IsWithinCapacity, board_fault, fault_with_bad_members};
 ghost use Rattle.board_terms.specs.BoardOpening.{has_bad_members};
-ghost use Rattle.board_terms.specs.BoardViews.{IsSnapshotOf, board_member, floor_view, opened_board};
+ghost use Rattle.board_terms.specs.BoardViews.{IsSnapshotOf, board_member, board_history, opened_board};
 ghost use Rattle.board_terms.specs.MemberView.{newcomer};
 
 use crate::account::Account;
@@ -127,7 +127,7 @@ fn board_around(
 ) -> Result<(BoardCore, Day), AllocError>
     requires auction { auction ≡ opened_auction config }
     requires small { config.max_calls ≤ MAX_CALLS }
-    ensures core { IfOk result (λ r. r.0 ≡ floor_view r.1 []) }
+    ensures core { IfOk result (λ r. r.0 ≡ board_history r.1 []) }
     ensures day { IfOk result (λ r. r.1 ≡ opened_board identity config members r.1.book) }
 {
     let (head, front) = new_evidence();
@@ -164,7 +164,7 @@ pub fn open_board(
     config: Config,
     members: u8,
 ) -> Result<(BoardCore, Day), OpenFault>
-    ensures core { IfOk result (λ r. r.0 ≡ floor_view r.1 []) }
+    ensures core { IfOk result (λ r. r.0 ≡ board_history r.1 []) }
     ensures day { IfOk result (λ r. r.1 ≡ opened_board identity config members r.1.book) }
     ensures refused { IfSome (board_fault config members) (λ fault. result ≡ Err fault) }
     ensures memory { board_fault config members ≡ None → IfErr result (λ fault. fault ≡ OpenFault.NoMemory) }

@@ -1,1 +1,3 @@
 pub mod FreshBoard
+pub mod PlaysScript
+pub mod RecordedReceipts

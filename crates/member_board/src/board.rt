@@ -1,8 +1,8 @@
-//! The board: one lock round the floor.
+//! The board: a lock, and what it keeps.
 ghost use Rattle.auction_terms.specs.Day.{IsLegal};
 
-use crate::floor::Floor;
 use crate::identity::BoardIdentity;
+use crate::locked::LockedBoard;
 use crate::versions::{Update, Version};
 use auction_terms::Entry;
 use board_terms::Closing;
@@ -36,7 +36,7 @@ pub struct Board<K: BoardIdentity>
 where
     Version<K>: Absorb<Update<K>, State = ()>,
 {
-    pub(crate) floor: Mutex<Floor<K>>,
+    pub(crate) locked: Mutex<LockedBoard<K>>,
     pub(crate) members: u8,
 }
 
@@ -57,23 +57,23 @@ impl<K: BoardIdentity> Board<K>
 where
     Version<K>: Absorb<Update<K>, State = ()>,
 {
-    /// The floor under its lock.
-    pub fn floor(&self) -> &Mutex<Floor<K>> {
-        &self.floor
+    /// The lock, and what it keeps.
+    pub fn locked(&self) -> &Mutex<LockedBoard<K>> {
+        &self.locked
     }
 
-    // The floor, once its lock is free. A call is far shorter than the sleep of a thread, so the lock is tried for a
-    // while, with longer and longer pauses, in which the one that has it may call again: what a call touches stays
-    // where it is.
-    pub(crate) fn lock<R: Wait>(&self, rt: &R) -> MutexGuard<'_, Floor<K>> {
+    // The locked board, once its lock is free. A call is far shorter than the sleep of a thread, so the lock is tried
+    // for a while, with longer and longer pauses, in which the one that has it may call again: what a call touches
+    // stays where it is.
+    pub(crate) fn lock<R: Wait>(&self, rt: &R) -> MutexGuard<'_, LockedBoard<K>> {
         let backoff = Backoff::new();
         for tries in 1..=TRIES {
-            if let Some(floor) = self.floor.try_lock() {
-                return floor;
+            if let Some(locked) = self.locked.try_lock() {
+                return locked;
             }
             pause(&backoff, tries);
         }
-        self.floor.lock(rt)
+        self.locked.lock(rt)
     }
 
     /// Ends a board whose day can't be closed, as where a member was lost, and hands out the history so far, which is
@@ -82,8 +82,8 @@ where
     pub fn abandon<R: Wait>(self, rt: &R) -> Vec<Entry>
         ensures { IsLegal K.config result.items }
     {
-        let Board { floor, members: _ } = self;
-        let (closing, _book, _joined) = floor.into_inner().end(rt);
+        let Board { locked, members: _ } = self;
+        let (closing, _book, _joined) = locked.into_inner().end(rt);
         let Closing { history, calls: _ } = closing;
         history
     }

@@ -9,8 +9,8 @@ ghost use Rattle.board_terms.specs.Closings.{IsClosing, IsLateFault, HasLate};
 ghost use Rattle.board_terms.specs.Closings.{IsKeptBack, kept_calls, kept_parts};
 
 use crate::board::Board;
-use crate::floor::Floor;
 use crate::identity::BoardIdentity;
+use crate::locked::LockedBoard;
 use crate::member::Member;
 use crate::versions::{Update, Version};
 use board_terms::Closing;
@@ -61,19 +61,19 @@ fn are_complete<K: BoardIdentity>(n: u8, members: &[Member<K>]) -> bool
 }
 
 // The least number of a member that has seen more than the history, if there is one.
-fn first_late<K: BoardIdentity>(n: u8, floor: &Floor<K>, members: &[Member<K>]) -> Option<u8>
+fn first_late<K: BoardIdentity>(n: u8, locked: &LockedBoard<K>, members: &[Member<K>]) -> Option<u8>
 where
     Version<K>: Absorb<Update<K>, State = ()>,
     requires { n ≡ K.parts }
-    ensures none { IfNone result (All (HasSeenBeginning K.parts (calls_of floor.now)) members.now) }
-    ensures some { IfSome result (λ k. HasLate k (length floor.now) members.now) }
-    ensures first { IfSome result (λ k. All (λ m. m.number < k → length m.seen ≤ length floor.now) members.now) }
+    ensures none { IfNone result (All (HasSeenBeginning K.parts (calls_of locked.now)) members.now) }
+    ensures some { IfSome result (λ k. HasLate k (length locked.now) members.now) }
+    ensures first { IfSome result (λ k. All (λ m. m.number < k → length m.seen ≤ length locked.now) members.now) }
 {
     let mut least = n;
     for i in 0..members.len() {
         let member = &members[i];
         let number = member.number();
-        if !member.follows(floor) && number < least {
+        if !member.follows(locked) && number < least {
             least = number;
         }
     }
@@ -159,10 +159,10 @@ where
     if !are_complete(n, &members) {
         return Err(CloseFault::MissingMember { board, members });
     }
-    let Board { floor, members: _ } = board;
-    let floor = floor.into_inner();
-    let late = first_late(n, &floor, &members);
-    let (Closing { history, calls }, mut book, joined) = floor.end(rt);
+    let Board { locked, members: _ } = board;
+    let locked = locked.into_inner();
+    let late = first_late(n, &locked, &members);
+    let (Closing { history, calls }, mut book, joined) = locked.end(rt);
     let Gathering {
         counts: calls,
         mut joined,

@@ -1,11 +1,11 @@
 //! Opening a board, and beginning its day.
 ghost use Rattle.std.specs.Prelude.{◌≡◌, ◌≤◌, [], vec_capacity, IfOk, IfErr, IfSome, Err, None};
 ghost use Rattle.board_terms.specs.BoardOpening.{board_fault, newcomers};
-ghost use Rattle.board_terms.specs.BoardViews.{floor_view, opened_board};
+ghost use Rattle.board_terms.specs.BoardViews.{board_history, opened_board};
 
 use crate::board::Board;
-use crate::floor::Floor;
 use crate::identity::BoardIdentity;
+use crate::locked::LockedBoard;
 use crate::member::Member;
 use crate::versions::{BoardView, Copies, Update, Version};
 use auction::OpenFault;
@@ -30,7 +30,7 @@ pub struct Fresh {
 impl Model for Fresh {
     ghost use Rattle.std.specs.Prelude.{◌≡◌, []};
     ghost use Rattle.board_terms.specs.BoardOpening.{IsWithinCapacity};
-    ghost use Rattle.board_terms.specs.BoardViews.{floor_view};
+    ghost use Rattle.board_terms.specs.BoardViews.{board_history};
     ghost use Rattle.member_board.specs.FreshBoard.{FreshBoard, fresh_board};
 
     ghost Value = { FreshBoard };
@@ -38,7 +38,7 @@ impl Model for Fresh {
     ghost view = { λ f. fresh_board f.day.config f.day.members f.ledger.name f.day.book };
 
     ghost invariant = { λ f.
-        (f.core ≡ floor_view f.day []) × (f.day.identity ≡ 0) × (f.ledger.parts ≡ f.day.members)
+        (f.core ≡ board_history f.day []) × (f.day.identity ≡ 0) × (f.ledger.parts ≡ f.day.members)
         × IsWithinCapacity f.day.config f.day.members };
 }
 
@@ -90,7 +90,7 @@ where
     )?;
     let (book, mut joined) = ledger.open::<K>();
     let members = new_members(room, &day, &mut joined, &copies)?;
-    let floor = Mutex::new(Floor {
+    let locked = Mutex::new(LockedBoard {
         core,
         book,
         joined,
@@ -98,7 +98,7 @@ where
     });
     Ok((
         Board {
-            floor,
+            locked,
             members: day.members,
         },
         members,

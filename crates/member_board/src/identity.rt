@@ -3,9 +3,9 @@
 use std::marker::Brand;
 use std::sync::ledger::Ledger;
 
-/// One opening of a board, as the types `Board`, `Floor` and `Member` name it: its config, its ledger, of which each
-/// member has one part, and the story of its calls. A day is done in a function over `K: BoardIdentity` that is called
-/// with `Brand`.
+/// One opening of a board, as the types `Board`, `LockedBoard` and `Member` name it: its config, its ledger, of which
+/// each member has one part, and the story of its calls. A day is done in a function over `K: BoardIdentity` that is
+/// called with `Brand`.
 pub trait BoardIdentity: Ledger {
     ghost use Rattle.auction_terms.specs.declared.Config.{Config};
     ghost use Rattle.logbook.specs.Pages.{Book};

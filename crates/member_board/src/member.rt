@@ -6,8 +6,8 @@ ghost use Rattle.board_terms.specs.BoardViews.{opened_board};
 ghost use Rattle.board_terms.specs.CallsAndLooks.{CallsOnce, EndsWithCall, SeesFullHistory, IsLook};
 
 use crate::board::Board;
-use crate::floor::Floor;
 use crate::identity::BoardIdentity;
+use crate::locked::LockedBoard;
 use crate::versions::{Update, Version, Viewer};
 use auction_terms::Command;
 use board_terms::{Account, CallFault, Receipt, Shown};
@@ -98,10 +98,10 @@ impl<K: BoardIdentity> Member<K> {
         ensures behind { (h k : ℕ) → result ≡ Err (CallFault.Behind h k) →
             (h < length self.old.seen) ⊎ (self.old.calls ≢ k) }
     {
-        let mut floor = board.lock(rt);
-        let result = floor.record(self, rt, command);
+        let mut locked = board.lock(rt);
+        let result = locked.record(self, rt, command);
         if result == Err(CallFault::HistoryFull) {
-            floor.show_history(self);
+            locked.show_history(self);
         }
         result
     }
@@ -128,13 +128,13 @@ impl<K: BoardIdentity> Member<K> {
     }
 
     // Whether it has seen no more than the history, which it then follows.
-    pub(crate) fn follows(&self, floor: &Floor<K>) -> bool
+    pub(crate) fn follows(&self, locked: &LockedBoard<K>) -> bool
     where
         Version<K>: Absorb<Update<K>, State = ()>,
-        ensures { MatchBool result (HasSeenBeginning K.parts (calls_of floor.now) self.now)
-            (length floor.now < length self.now.seen) }
+        ensures { MatchBool result (HasSeenBeginning K.parts (calls_of locked.now) self.now)
+            (length locked.now < length self.now.seen) }
     {
-        floor.core.is_followed_by(&self.account)
+        locked.core.is_followed_by(&self.account)
     }
 
     // Its count is no more than the total.

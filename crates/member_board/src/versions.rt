@@ -1,5 +1,5 @@
 //! The two copies of what the board shows, which looks read, kept by `left_right`: readers take one with no lock while
-//! the floor changes the other, and then the two are swapped. Each copy is a snapshot of the board.
+//! the locked board changes the other, and then the two are swapped. Each copy is a snapshot of the board.
 ghost use Rattle.std.specs.Prelude.{◌≡◌, ◌^◌, ◌<◌, false, IfOk, IsTrue};
 ghost use Rattle.board_terms.specs.BoardViews.{IsSnapshotOf, opened_board};
 
@@ -138,8 +138,8 @@ impl<K: BoardIdentity> Version<K> {
     }
 }
 
-/// An operation on a copy, of which there is none: the floor writes what a copy shows whole, so nothing has to be kept
-/// until both copies have it.
+/// An operation on a copy, of which there is none: the locked board writes what a copy shows whole, so nothing has to
+/// be kept until both copies have it.
 #[derive(Drop)]
 pub struct Update<K: BoardIdentity> {
     of: PhantomData<K>,
@@ -195,8 +195,8 @@ impl<K: BoardIdentity> Viewer<K> {
     }
 }
 
-/// The two copies, and how many calls they show, as the floor has them. Contracts see the calls after which readers are
-/// shown the display.
+/// The two copies, and how many calls they show, as the locked board has them. Contracts see the calls after which
+/// readers are shown the display.
 pub(crate) struct Copies<K: BoardIdentity>
 where
     Version<K>: Absorb<Update<K>, State = ()>,

@@ -17,7 +17,7 @@ use Rattle.auction_terms.proofs.LadderLaws.{length-tick_values, at_spread}
 use Rattle.tick_ladder.specs.TickLadder.{IsLadderOf}
 use Rattle.std.specs.List.{list_any}
 use Rattle.std.proofs.lemmas.Grind.{common_steps}
-use Rattle.lane_prefix.specs.Meeting.{before}
+use Rattle.lanes.specs.Meeting.{before}
 use Rattle.tick_ladder.proofs.BeforeLaws.{before_next, before_all}
 use Rattle.auction_terms.specs.Auxiliary.BestTicks.{has}
 use Rattle.auction_terms.proofs.TickListLaws.{All_at}

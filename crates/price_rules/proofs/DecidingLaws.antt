@@ -10,7 +10,7 @@ use Rattle.auction_terms.specs.Ladder.{LadderView, tick_values, quantity_at, mar
 use Rattle.auction_terms.proofs.LadderLaws.{length-tick_values, at_spread, ladder_flags}
 use Rattle.tick_ladder.specs.TickLadder.{IsLadderOf}
 use Rattle.auction_terms.specs.Auxiliary.BestTicks.{has, Leaders, AreBest}
-use Rattle.lane_prefix.specs.Meeting.{before}
+use Rattle.lanes.specs.Meeting.{before}
 use Rattle.tick_ladder.specs.OccupiedPlaces.{IsClear, IsCrossingOf, IsLastBefore, IsFirstFrom}
 use Rattle.tick_ladder.proofs.BeforeLaws.{before_next, before_all}
 use Rattle.price_rules.specs.declared.surroundings.Around.{Around}

@@ -8,7 +8,7 @@ use Rattle.std.proofs.lemmas.Grind.{common_steps}
 use Rattle.auction_terms.specs.AuctionPrice.{highest, lowest}
 use Rattle.auction_terms.proofs.TickListLaws.{has-head, has-cases, no_tick, none_empty, has-filter, filter-has}
 use Rattle.auction_terms.proofs.TickListLaws.{highest_agree, lowest_agree}
-use Rattle.lane_select.specs.Selection.{kept_if_equal, kept_if_above, NoFlagIn, IsFirstFlag, IsLastFlag}
+use Rattle.lanes.specs.Selection.{kept_if_equal, kept_if_above, NoFlagIn, IsFirstFlag, IsLastFlag}
 use Rattle.price_rules.specs.Candidates.{AreMarked}
 
 get_or-nil : (k : ℕ) → get_or {A = ℕ} [] k 0 ≡ 0

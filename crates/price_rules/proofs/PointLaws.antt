@@ -8,7 +8,7 @@ use Rattle.auction_terms.specs.Book.{demand, supply, volume, surplus, surplus_si
 use Rattle.auction_terms.specs.Book.{limits}
 use Rattle.auction_terms.specs.AuctionPrice.{priced, price, is_empty}
 use Rattle.auction_terms.specs.Ladder.{LadderView}
-use Rattle.lane_prefix.specs.Meeting.{before}
+use Rattle.lanes.specs.Meeting.{before}
 use Rattle.tick_ladder.proofs.BeforeLaws.{before_all, before_next}
 use Rattle.auction_terms.specs.Auxiliary.BestTicks.{Leaders, AreBest, has}
 use Rattle.auction_terms.proofs.ChoiceLaws.{is_limited, limits_empty, price_scanned}

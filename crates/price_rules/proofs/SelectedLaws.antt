@@ -12,7 +12,7 @@ use Rattle.auction_terms.specs.Auxiliary.BestTicks.{Leaders, keyed, lower_among,
 use Rattle.auction_terms.specs.Auxiliary.BestTicks.{AreLeadersOf}
 use Rattle.auction_terms.proofs.KeptLimitLaws.{amounts, bid_amounts, ask_amounts, key_parts}
 use Rattle.auction_terms.proofs.TickListLaws.{All_from, not_empty}
-use Rattle.lane_select.specs.Selection.{kept_if_equal, kept_if_above, NoFlagIn, IsGreatestFlagged, IsLeastFlagged}
+use Rattle.lanes.specs.Selection.{kept_if_equal, kept_if_above, NoFlagIn, IsGreatestFlagged, IsLeastFlagged}
 use Rattle.price_rules.specs.declared.candidates.Lanes.{Lanes}
 use Rattle.price_rules.specs.Candidates.{AreCandidates, AreMarked, FlagsNoOther}
 use Rattle.price_rules.proofs.MarkLaws.{zip_at, kept_parts, kept_there, above_parts, above_there, flag-inside}

@@ -2,7 +2,7 @@
 use Rattle.std.specs.Prelude.{◌≡◌, ℕ, ◌+◌, if◌then◌else◌, List, [], ◌∷◌, ◌++◌, Option, Some, None, nat_lt, sum}
 use Rattle.std.specs.Prelude.{slice_index}
 use Rattle.auction_terms.specs.Ladder.{LadderView}
-use Rattle.lane_prefix.specs.Meeting.{before}
+use Rattle.lanes.specs.Meeting.{before}
 use Rattle.tick_ladder.specs.OccupiedPlaces.{IsLastBefore, IsFirstFrom, IsCrossingOf}
 use Rattle.price_rules.specs.declared.surroundings.Around.{Around}
 

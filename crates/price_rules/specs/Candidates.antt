@@ -4,7 +4,7 @@ use Rattle.auction_terms.specs.declared.Order.{Order}
 use Rattle.auction_terms.specs.Book.{demand, supply}
 use Rattle.auction_terms.specs.Ladder.{LadderView}
 use Rattle.auction_terms.specs.Auxiliary.BestTicks.{Leaders, has}
-use Rattle.lane_select.specs.Selection.{IsFlagged}
+use Rattle.lanes.specs.Selection.{IsFlagged}
 use Rattle.price_rules.specs.declared.candidates.Candidate.{Candidate}
 use Rattle.price_rules.specs.declared.candidates.Lanes.{Lanes}
 use Rattle.price_rules.specs.declared.choice.Leaders.{Leaders as Found}

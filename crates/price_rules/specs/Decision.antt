@@ -8,7 +8,7 @@ use Rattle.auction_terms.specs.Book.{limits}
 use Rattle.auction_terms.specs.AuctionPrice.{price}
 use Rattle.auction_terms.specs.Ladder.{LadderView, quantity_at, market_quantity, flag_of, AreOpen}
 use Rattle.tick_ladder.specs.TickLadder.{IsLadderOf}
-use Rattle.lane_prefix.specs.Meeting.{before}
+use Rattle.lanes.specs.Meeting.{before}
 use Rattle.price_rules.specs.declared.surroundings.Around.{Around}
 use Rattle.price_rules.specs.declared.Decision.{Decision}
 use Rattle.price_rules.specs.Around.{IsAround}

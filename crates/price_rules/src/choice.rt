@@ -5,9 +5,7 @@ ghost use Rattle.auction_terms.specs.Auxiliary.BestTicks.{AreBest, lower_among, 
 ghost use Rattle.price_rules.specs.Candidates.{IsOfMarkedTicks, lead_of};
 
 use crate::candidates::Lanes;
-use lane_select::{
-    first, gap_size, greatest_where, keep_above, keep_equal, last, least_where, lesser,
-};
+use lanes::{first, gap_size, greatest_where, keep_above, keep_equal, last, least_where, lesser};
 
 /// What the best candidates have in common, and the two of them that the price is held between: with a surplus, the
 /// highest with a bid surplus and the lowest with an ask surplus; with none, the lowest and the highest.

@@ -20,7 +20,7 @@ mod surroundings;
 use auction_terms::{Price, Side};
 use candidates::limits_around;
 use choice::{Leaders, best_of};
-use lane_select::first;
+use lanes::first;
 use surroundings::{Around, look_around};
 use tick_ladder::Ladder;
 
@@ -59,7 +59,7 @@ fn sided_price(leaders: Leaders, tick: u32, side: Side) -> Price
 }
 
 /// The price that the best limits and the reference give.
-fn hold(leaders: Leaders, reference: u32) -> Option<Price>
+fn clamp(leaders: Leaders, reference: u32) -> Option<Price>
     ensures { result ≡ price_from (lead_of leaders) reference }
 {
     match (leaders.lower, leaders.upper) {
@@ -104,7 +104,7 @@ fn price_around(ladder: &Ladder, around: &Around, reference: u32) -> Option<Pric
 {
     let lanes = limits_around(ladder, around);
     match best_of(&lanes) {
-        Some(leaders) => hold(leaders, reference),
+        Some(leaders) => clamp(leaders, reference),
         None => match first(&lanes.flags) {
             Some(_) => None,
             None => market_price(ladder, reference),

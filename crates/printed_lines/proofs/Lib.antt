@@ -2,3 +2,4 @@ pub mod Lists
 pub mod NumberTextLaws
 pub mod PrinterLaws
 pub mod PageLaws
+pub mod ReplyListLaws

@@ -5,3 +5,4 @@ pub mod Printing
 pub mod ReplyLines
 pub mod ReplyWords
 pub mod Tally
+pub mod ReplyList

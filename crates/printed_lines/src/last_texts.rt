@@ -45,7 +45,7 @@ impl LastTexts {
 
     /// Puts the text of a reply on the page, at most 150 bytes.
     #[inline(always)]
-    fn put_reply(&mut self, page: &mut Page, reply: &Reply)
+    pub(crate) fn put_reply(&mut self, page: &mut Page, reply: &Reply)
         requires { length page.old + 150 ≤ ROOM }
         ensures text { page.new ≡ page.old ++ reply_text reply.now }
         ensures longer { length page.new ≤ length page.old + 150 }

@@ -4,7 +4,7 @@
 //! Text goes through a `Printer`, which puts it together on a page, so that a day of many lines is a
 //! few large writes. Each call says exactly what was written and what is still on the page (`Prints`);
 //! it fails exactly where the writer's count of failures rose, and what was written is then a beginning
-//! of the text.
+//! of the text. A `ReplyList` keeps the replies of a day, most in a byte each, until they are printed.
 #![tactic(auto)]
 
 mod display_text;
@@ -15,6 +15,7 @@ mod number_text;
 mod page;
 mod printer;
 mod reply;
+mod reply_list;
 mod same;
 mod tally;
 mod words;
@@ -25,6 +26,7 @@ pub use line::print_line;
 pub use page::{LONGEST_LINE, LONGEST_NUMBER, Page, ROOM};
 pub use printer::Printer;
 pub use reply::put_reply;
-pub use same::is_text_of;
+pub use reply_list::{Replies, ReplyList};
+pub use same::ReplyTexts;
 pub use tally::{print_audit, print_entries, print_history, print_tally};
 pub use words::{kind_word, side_word};

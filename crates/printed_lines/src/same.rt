@@ -1,21 +1,36 @@
-//! A text against a reply.
+//! Texts against replies.
 
-ghost use Rattle.std.specs.Prelude.{◌≡◌, []};
+ghost use Rattle.std.specs.Prelude.{◌≡◌};
 ghost use Rattle.std.specs.Str.{bytes_eq};
 ghost use Rattle.printed_lines.specs.ReplyWords.{reply_text};
 
+use crate::last_texts::LastTexts;
 use crate::page::Page;
-use crate::reply::put_reply;
 use auction_terms::Reply;
 
-/// Whether this is the text of the reply, byte for byte. An empty page is lent for it, and is empty again.
-pub fn is_text_of(page: &mut Page, text: &[u8], reply: Reply) -> bool
-    requires { page.old ≡ [] }
-    ensures same { result ≡ bytes_eq text.now (reply_text reply) }
-    ensures page { page.new ≡ [] }
-{
-    put_reply(page, &reply);
-    let same = page.is_text(text);
-    page.clear();
-    same
+/// The texts of replies, which others are compared with. It takes no memory.
+#[derive(Drop)]
+pub struct ReplyTexts {
+    last: LastTexts,
+    // It is lent.
+    page: Page,
+}
+
+impl ReplyTexts {
+    /// The texts before the first reply.
+    pub fn new() -> ReplyTexts {
+        ReplyTexts {
+            last: LastTexts::new(),
+            page: Page::new(),
+        }
+    }
+
+    /// Whether this is the text of the reply, byte for byte.
+    pub fn is_text_of(&mut self, text: &[u8], reply: &Reply) -> bool
+        ensures { result ≡ bytes_eq text.now (reply_text reply.now) }
+    {
+        self.page.clear();
+        self.last.put_reply(&mut self.page, reply);
+        self.page.is_text(text)
+    }
 }

@@ -1,4 +1,4 @@
-//! The floor taken out of its lock by a member: its calls there, and the closing, at which each member's account is
+//! A board that a member has locked: its calls there, and the closing, at which each member's account is
 //! compared with the history.
 ghost use Rattle.std.specs.Prelude.{◌≡◌, ◌≢◌, ◌<◌, ◌⊎◌, ◌++◌, ◌∷◌, [], ℕ, length, Err, IfErr, IfOk, IsTrue};
 ghost use Rattle.std.specs.Prelude.{MatchBool};
@@ -8,98 +8,99 @@ ghost use Rattle.board_terms.specs.Closings.{IsAccount};
 ghost use Rattle.board_terms.specs.BoardViews.{IsBehindHistory, SeesStory};
 ghost use Rattle.shared_board.specs.Reserves.{LeavesReserve, SeesNoneLeft};
 
-use crate::floor::TakenFloor;
+use crate::locked::TakenBoard;
 use crate::member::{BoardFault, SharedMember};
 use crate::reserves::call_unreserved;
 use auction_terms::Command;
 use board_terms::{CallFault, Receipt};
 
 impl SharedMember {
-    /// Takes the floor out of the lock, if no other call has it. Then `give_floor` gives it back, or `shut` ends the
+    /// Locks the board, if no other call has it. Then `give_locked` gives it back, or `shut` ends the
     /// board.
-    pub fn take_floor(&mut self) -> Result<TakenFloor, BoardFault>
+    pub fn take_locked(&mut self) -> Result<TakenBoard, BoardFault>
         ensures member { self.new ≡ self.old }
-        ensures board { IfOk result (λ floor. floor.board ≡ self.old.board) }
+        ensures board { IfOk result (λ locked. locked.board ≡ self.old.board) }
         ensures fault { IfErr result (λ f. (f ≡ BoardFault.Busy) ⊎ (f ≡ BoardFault.Closed)) }
     {
         self.shared.take()
     }
 
-    /// Gives the floor back.
-    pub fn give_floor(&mut self, floor: TakenFloor)
-        requires { floor.board ≡ self.old.board }
+    /// Gives the locked board back.
+    pub fn give_locked(&mut self, locked: TakenBoard)
+        requires { locked.board ≡ self.old.board }
         ensures { self.new ≡ self.old }
     {
-        self.shared.give(floor);
+        self.shared.give(locked);
     }
 
-    /// Calls a command on the floor that was taken, as `call`: the history goes on by this call alone. It is shown once
-    /// `give_called` gives the floor back.
+    /// Calls a command on the locked board, as `call`: the history goes on by this call alone. It is shown once
+    /// `give_called` gives the board back.
     pub fn call_taken(
         &mut self,
-        floor: &mut TakenFloor,
+        locked: &mut TakenBoard,
         command: Command,
         reserve: u32,
     ) -> Result<Receipt, CallFault>
-        requires { floor.old.board ≡ self.old.board }
-        ensures board { (self.new.board ≡ self.old.board) × (floor.new.board ≡ floor.old.board) }
+        requires { locked.old.board ≡ self.old.board }
+        ensures board { (self.new.board ≡ self.old.board) × (locked.new.board ≡ locked.old.board) }
         ensures history { IfOk result (λ r.
-            floor.new.history ≡ floor.old.history ++ entry self.old.view.number command r.reply ∷ []) }
+            locked.new.history ≡ locked.old.history ++ entry self.old.view.number command r.reply ∷ []) }
         ensures call { IfOk result (λ r. CallsOnce self.old.board.config self.old.view self.new.view command r) }
         ensures by_history { IfOk result (λ r.
-            EndsWithCall self.old.board.config floor.new.history self.old.view.number command r) }
+            EndsWithCall self.old.board.config locked.new.history self.old.view.number command r) }
         ensures place { IfOk result (λ r.
             LeavesReserve reserve self.old.board.config self.old.view.number r.number) }
         ensures full { result ≡ Err CallFault.HistoryFull →
             SeesNoneLeft reserve self.old.board.config self.old.view self.new.view }
         ensures fault { IfErr result (λ e. e ≢ CallFault.HistoryFull → self.new ≡ self.old) }
-        ensures same { IfErr result (λ e. floor.new ≡ floor.old) }
+        ensures same { IfErr result (λ e. locked.new ≡ locked.old) }
         ensures behind { (h k : ℕ) → result ≡ Err (CallFault.Behind h k) →
             IsBehindHistory self.old.board.config self.old.view (CallFault.Behind h k) }
     {
-        call_unreserved(&mut floor.core, &mut self.account, command, reserve)
+        call_unreserved(&mut locked.core, &mut self.account, command, reserve)
     }
 
-    /// Gives the floor back after calls, and shows what is so now, if somebody has looked.
-    pub fn give_called(&mut self, floor: TakenFloor)
-        requires { floor.board ≡ self.old.board }
+    /// Gives the locked board back after calls, and shows what is so now, if somebody has looked.
+    pub fn give_called(&mut self, locked: TakenBoard)
+        requires { locked.board ≡ self.old.board }
         ensures { self.new ≡ self.old }
     {
         if self.shared.is_watched() {
-            self.shared.publish(floor.core.shown());
+            self.shared.publish(locked.core.shown());
         }
-        self.give_floor(floor);
+        self.give_locked(locked);
     }
 
-    /// Ends the board, whose floor was taken: each call finds it closed, and looks show what was last.
-    pub fn shut(&mut self, floor: &TakenFloor)
-        requires { floor.now.board ≡ self.old.board }
+    /// Ends the locked board: each call finds it closed, and looks show what was last.
+    pub fn shut(&mut self, locked: &TakenBoard)
+        requires { locked.now.board ≡ self.old.board }
         ensures { self.new ≡ self.old }
     {
-        self.shared.publish(floor.core.shown());
+        self.shared.publish(locked.core.shown());
         self.shared.shut();
     }
 
-    /// Takes in all calls of the floor, and says whether they are no fewer than the member has seen. Else it is behind.
-    pub fn see(&mut self, floor: &TakenFloor) -> bool
-        requires { floor.now.board ≡ self.old.board }
+    /// Takes in all calls of the locked board, and says whether they are no fewer than the member has seen. Else it is
+    /// behind.
+    pub fn see(&mut self, locked: &TakenBoard) -> bool
+        requires { locked.now.board ≡ self.old.board }
         ensures board { self.new.board ≡ self.old.board }
-        ensures seen { MatchBool result (SeesStory (calls_of floor.now.history) self.old.view self.new.view)
-            ((self.new ≡ self.old) × (length floor.now.history < length self.old.view.seen)) }
-        ensures legal { IsLegal floor.now.board.config floor.now.history }
+        ensures seen { MatchBool result (SeesStory (calls_of locked.now.history) self.old.view self.new.view)
+            ((self.new ≡ self.old) × (length locked.now.history < length self.old.view.seen)) }
+        ensures legal { IsLegal locked.now.board.config locked.now.history }
     {
-        let view = floor.core.shown();
+        let view = locked.core.shown();
         self.account.see(view)
     }
 
     /// Whether all that this member has seen begins the history's calls, and the history's calls of its number are its
     /// own.
-    pub fn is_settled(&self, floor: &TakenFloor) -> bool
-        requires { self.now.board ≡ floor.now.board }
-        ensures account { IsTrue result → IsAccount (calls_of floor.now.history) self.now.view }
-        ensures only { IsAccount (calls_of floor.now.history) self.now.view → IsTrue result }
-        ensures legal { IsLegal floor.now.board.config floor.now.history }
+    pub fn is_settled(&self, locked: &TakenBoard) -> bool
+        requires { self.now.board ≡ locked.now.board }
+        ensures account { IsTrue result → IsAccount (calls_of locked.now.history) self.now.view }
+        ensures only { IsAccount (calls_of locked.now.history) self.now.view → IsTrue result }
+        ensures legal { IsLegal locked.now.board.config locked.now.history }
     {
-        floor.core.is_account(&self.account)
+        locked.core.is_account(&self.account)
     }
 }

@@ -11,18 +11,18 @@
 //! - `opening`: opening a board, with one member for each number.
 //! - `member`: a member's calls and looks.
 //! - `reserves`: the last calls of the day, which are the operator's.
-//! - `floor`: what goes through the lock and the copies.
+//! - `locked`: what goes through the lock and the copies.
 //! - `shared`: the lock, and the copies that looks read.
-//! - `closing`: a member at the floor taken out of its lock, and the end of the day.
+//! - `closing`: a member that has locked the board, and the end of the day.
 #![tactic(auto)]
 
 mod closing;
-mod floor;
+mod locked;
 mod member;
 mod opening;
 mod reserves;
 mod shared;
 
-pub use floor::TakenFloor;
+pub use locked::TakenBoard;
 pub use member::{BoardFault, SharedMember};
 pub use opening::open;

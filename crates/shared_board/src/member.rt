@@ -40,7 +40,7 @@ impl Model for SharedMember {
 
     ghost view = { λ m. m.account };
 
-    ghost invariant = { λ m. (arc_value m.shared).floor ≡ m.account.board };
+    ghost invariant = { λ m. (arc_value m.shared).locked ≡ m.account.board };
 }
 
 impl SharedMember {
@@ -109,15 +109,15 @@ impl SharedMember {
             IsBehindHistory self.old.board.config self.old.view (CallFault.Behind h k) }
     {
         let SharedMember { shared, account } = self;
-        let mut floor = match shared.take() {
-            Ok(floor) => floor,
+        let mut locked = match shared.take() {
+            Ok(locked) => locked,
             Err(fault) => return Err(fault),
         };
-        let answer = call_unreserved(&mut floor.core, account, command, reserve);
+        let answer = call_unreserved(&mut locked.core, account, command, reserve);
         if answer.is_ok() {
             show(shared, account);
         }
-        shared.give(floor);
+        shared.give(locked);
         answer.map_err(BoardFault::Call)
     }
 
@@ -140,22 +140,22 @@ impl SharedMember {
 // The first look: from now on calls show what is so. Where another call has the lock all the while, the next look is
 // the first.
 fn look_first(shared: &Shared, account: &mut Account) -> Shown
-    requires { shared.now.floor ≡ account.old.board }
+    requires { shared.now.locked ≡ account.old.board }
     ensures board { account.new.board ≡ account.old.board }
     ensures look { IsLook account.old.board.config account.old.view account.new.view result }
 {
-    let Ok(floor) = shared.take() else {
+    let Ok(locked) = shared.take() else {
         return account.again();
     };
-    let view = floor.core.shown();
+    let view = locked.core.shown();
     shared.publish(view.again());
-    shared.give(floor);
+    shared.give(locked);
     account.catch_up(view)
 }
 
 // Shows what the account has seen now, if somebody has looked.
 fn show(shared: &Shared, account: &Account)
-    requires { shared.now.floor ≡ account.now.board }
+    requires { shared.now.locked ≡ account.now.board }
 {
     if shared.is_watched() {
         shared.publish(account.snapshot());

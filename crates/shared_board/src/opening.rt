@@ -5,7 +5,7 @@ ghost use Rattle.board_terms.specs.BoardOpening.{board_fault};
 ghost use Rattle.board_terms.specs.BoardViews.{board_member, new_board_members, opened_board};
 ghost use Rattle.board_terms.specs.MemberView.{newcomer};
 
-use crate::floor::{ShownCopy, TakenFloor};
+use crate::locked::{ShownCopy, TakenBoard};
 use crate::member::SharedMember;
 use crate::shared::{Shared, UNWATCHED};
 use auction::OpenFault;
@@ -37,13 +37,13 @@ fn shared_around(
     core: BoardCore,
 ) -> Result<Arc<Shared, Global>, AllocError>
     requires { core.board ≡ day.now }
-    ensures { IfOk result (λ shared. shared.value.floor ≡ day.now) }
+    ensures { IfOk result (λ shared. shared.value.locked ≡ day.now) }
 {
-    let floor = TakenFloor {
+    let locked = TakenBoard {
         core: Box::new(alloc, core)?,
     };
     let shared = Shared {
-        floor: Counted::new(Some(floor), day),
+        locked: Counted::new(Some(locked), day),
         copies: no_copies(alloc, day, usize::from(day.members) + 1)?,
         newest: AtomicU64::new(UNWATCHED),
     };
@@ -51,7 +51,7 @@ fn shared_around(
 }
 
 fn member_with(shared: Arc<Shared, Global>, day: &Day, number: u8) -> SharedMember
-    requires shared { shared.value.floor ≡ day.now }
+    requires shared { shared.value.locked ≡ day.now }
     requires number { number < day.now.members }
     ensures { result ≡ board_member day.now (newcomer number) }
 {
@@ -67,7 +67,7 @@ fn new_members(
     shared: &Arc<Shared, Global>,
     day: &Day,
 ) -> Result<Vec<SharedMember>, AllocError>
-    requires { shared.now.value.floor ≡ day.now }
+    requires { shared.now.value.locked ≡ day.now }
     ensures { IfOk result (λ ms. ms.items ≡ new_board_members day.now day.now.members) }
 {
     let mut members = Vec::with_capacity(alloc, usize::from(day.members))?;

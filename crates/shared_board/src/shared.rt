@@ -1,8 +1,8 @@
-//! What the members of a board share: the lock round the floor, and the copies that looks read.
+//! What the members of a board share: the lock with what it keeps, and the copies that looks read.
 ghost use Rattle.std.specs.Prelude.{◌≡◌, ◌<◌, ◌⊎◌, All, IfSome, IfErr, IfOk, option_map};
 ghost use Rattle.board_terms.specs.BoardViews.{IsSnapshotOf};
 
-use crate::floor::{ShownCopy, TakenFloor};
+use crate::locked::{ShownCopy, TakenBoard};
 use crate::member::BoardFault;
 use board_terms::Snapshot;
 use counted_slot::{Counted, FREE, MARKED, MOST_READERS, ONE_READER, PRESENT, TAKEN};
@@ -19,7 +19,7 @@ const LONGER_RESTS: u32 = 6;
 /// How often a look tries a copy that is just being written.
 const LOOKS: u32 = 100;
 
-/// The word of the lock while a call has the floor.
+/// The word of the lock while a call has the locked board.
 const LENT: u64 = PRESENT;
 
 /// The word of the lock once the board was closed.
@@ -31,36 +31,36 @@ pub(crate) const UNWATCHED: u64 = u64::MAX;
 /// Nobody has looked yet.
 pub(crate) struct Unwatched;
 
-/// The word of the lock is `FREE` while the floor is in it.
+/// The word of the lock is `FREE` while the locked board is in it.
 #[derive(Drop)]
 pub(crate) struct Shared {
-    pub(crate) floor: Counted<Option<TakenFloor>>,
+    pub(crate) locked: Counted<Option<TakenBoard>>,
     pub(crate) copies: Vec<Counted<Option<ShownCopy>>>,
     pub(crate) newest: AtomicU64,
-    ghost same: { All (λ p. p ≡ floor) copies.items },
+    ghost same: { All (λ p. p ≡ locked) copies.items },
 }
 
 // Changes the word of the slot and gets what is in it, where the word is as it was.
-fn swap_floor(
-    slot: &Counted<Option<TakenFloor>>,
+fn swap_locked(
+    slot: &Counted<Option<TakenBoard>>,
     old: u64,
-    floor: Option<TakenFloor>,
+    locked: Option<TakenBoard>,
     new: u64,
-) -> Result<Option<TakenFloor>, Option<TakenFloor>>
+) -> Result<Option<TakenBoard>, Option<TakenBoard>>
     requires words { (old < 2) × (new < 3) }
-    requires fits { IfSome floor (λ f. f.board ≡ slot.now) }
+    requires fits { IfSome locked (λ f. f.board ≡ slot.now) }
     ensures { IfOk result (λ x. IfSome x (λ f. f.board ≡ slot.now)) }
 {
     let (found, claim) = slot.turn(old, TAKEN);
     if found != old {
         claim.done();
-        return Err(floor);
+        return Err(locked);
     }
-    Ok(claim.put(floor, new))
+    Ok(claim.put(locked, new))
 }
 
-// Rests after so many tries, each time twice as long up to 64 times: who has just given the floor back has its memory
-// at hand, and a lock that is asked all the time is slow for who has it.
+// Rests after so many tries, each time twice as long up to 64 times: who has just given the locked board back has its
+// memory at hand, and a lock that is asked all the time is slow for who has it.
 fn rest(tries: u32) {
     for _ in 0..1u32 << tries.min(LONGER_RESTS) {
         spin_loop();
@@ -68,19 +68,19 @@ fn rest(tries: u32) {
 }
 
 impl Shared {
-    /// The floor, if no other call has it, or gives it back soon.
-    pub(crate) fn take(&self) -> Result<TakenFloor, BoardFault>
-        ensures floor { IfOk result (λ floor. floor.board ≡ self.now.floor) }
+    /// The locked board, if no other call has it, or gives it back soon.
+    pub(crate) fn take(&self) -> Result<TakenBoard, BoardFault>
+        ensures locked { IfOk result (λ locked. locked.board ≡ self.now.locked) }
         ensures fault { IfErr result (λ f. (f ≡ BoardFault.Busy) ⊎ (f ≡ BoardFault.Closed)) }
     {
         for tries in 0..TRIES {
-            let word = self.floor.load();
+            let word = self.locked.load();
             if word == CLOSED {
                 return Err(BoardFault::Closed);
             }
             if word == FREE {
-                if let Ok(Some(floor)) = swap_floor(&self.floor, FREE, None, LENT) {
-                    return Ok(floor);
+                if let Ok(Some(locked)) = swap_locked(&self.locked, FREE, None, LENT) {
+                    return Ok(locked);
                 }
             }
             rest(tries);
@@ -88,16 +88,16 @@ impl Shared {
         Err(BoardFault::Busy)
     }
 
-    /// Keeps the floor out for good, once it was taken.
+    /// Keeps the locked board out for good, once it was taken.
     pub(crate) fn shut(&self) {
-        let _ = swap_floor(&self.floor, LENT, None, CLOSED);
+        let _ = swap_locked(&self.locked, LENT, None, CLOSED);
     }
 
-    /// Gives the floor back. It alone changes the word while the floor is lent, so this succeeds always.
-    pub(crate) fn give(&self, floor: TakenFloor)
-        requires { floor.board ≡ self.now.floor }
+    /// Gives the locked board back. It alone changes the word while the locked board is lent, so this succeeds always.
+    pub(crate) fn give(&self, locked: TakenBoard)
+        requires { locked.board ≡ self.now.locked }
     {
-        let _ = swap_floor(&self.floor, LENT, Some(floor), FREE);
+        let _ = swap_locked(&self.locked, LENT, Some(locked), FREE);
     }
 
     /// Whether somebody has looked.
@@ -108,7 +108,7 @@ impl Shared {
     /// Writes what is shown now into a copy that nobody reads, and names it the newest. There are more copies than
     /// members, so there is one.
     pub(crate) fn publish(&self, view: Snapshot)
-        requires { IsSnapshotOf self.now.floor view.front view.shown }
+        requires { IsSnapshotOf self.now.locked view.front view.shown }
     {
         let newest = self.newest.load(SeqCst) % 256;
         let calls = u64::from(view.shown.calls);
@@ -127,7 +127,7 @@ impl Shared {
 
     /// The newest copy, unless it shows just `seen` calls.
     pub(crate) fn newest(&self, seen: u32) -> Result<Option<Snapshot>, Unwatched>
-        ensures { IfOk result (λ found. IfSome found (λ v. IsSnapshotOf self.now.floor v.front v.shown)) }
+        ensures { IfOk result (λ found. IfSome found (λ v. IsSnapshotOf self.now.locked v.front v.shown)) }
     {
         for _ in 0..LOOKS {
             let word = self.newest.load(SeqCst);

@@ -3,7 +3,7 @@ use Rattle.std.proofs.Common.{◌≡◌, ℕ, ◌+◌, ◌*◌, ◌≤◌, ◌<�
 use Rattle.std.proofs.lemmas.Bool.{cases_lt}
 use Rattle.std.proofs.lemmas.List.{length-set}
 use Rattle.std.proofs.lemmas.Grind.{common_steps}
-use Rattle.lane_prefix.specs.Meeting.{before}
+use Rattle.lanes.specs.Meeting.{before}
 use Rattle.tick_ladder.specs.BlockSums.{IsCoarse}
 use Rattle.tick_ladder.proofs.BeforeLaws.{before_next, before_all, before_most, before_rises, before_set}
 use Rattle.tick_ladder.proofs.BeforeLaws.{before_set_later}

@@ -7,7 +7,7 @@ use Rattle.std.proofs.lemmas.Bool.{cases_lt, lt-ltb, le-ltb}
 use Rattle.std.proofs.lemmas.List.Sums.{sum_by-set}
 use Rattle.std.proofs.lemmas.Grind.{common_steps}
 use Rattle.auction_terms.specs.Ladder.{flag_of}
-use Rattle.lane_prefix.specs.Meeting.{before}
+use Rattle.lanes.specs.Meeting.{before}
 use Rattle.tick_ladder.specs.OccupiedPlaces.{IsBlank, FindsLast, FindsFirst, IsClear, IsLast, IsFirst}
 use Rattle.tick_ladder.specs.OccupiedPlaces.{later_of, earlier_of}
 use Rattle.tick_ladder.proofs.BeforeLaws.{before_rises}

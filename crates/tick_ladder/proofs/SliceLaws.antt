@@ -7,9 +7,9 @@ use Rattle.std.proofs.lemmas.List.{take-take, get_or-take, get_or-drop}
 use Rattle.std.proofs.lemmas.List.Sums.{sum_by-append}
 use Rattle.std.proofs.lemmas.Simd.{length-chunk}
 use Rattle.std.proofs.lemmas.Grind.{common_steps}
-use Rattle.lane_prefix.specs.declared.Meeting.{Meeting}
-use Rattle.lane_prefix.specs.Meeting.{before, IsMeeting}
-use Rattle.lane_select.specs.Positive.{NoneIn, IsFirstPositive, IsLastPositive}
+use Rattle.lanes.specs.declared.running_sums.Meeting.{Meeting}
+use Rattle.lanes.specs.Meeting.{before, IsMeeting}
+use Rattle.lanes.specs.Positive.{NoneIn, IsFirstPositive, IsLastPositive}
 use Rattle.tick_ladder.specs.declared.Crossing.{Crossing}
 use Rattle.tick_ladder.specs.OccupiedPlaces.{IsBlank, IsLastIn, IsFirstIn, IsCrossing}
 use Rattle.tick_ladder.proofs.BeforeLaws.{before_next, before_all}

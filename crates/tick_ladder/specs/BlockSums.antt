@@ -1,7 +1,7 @@
 -- Sums of blocks of places, and of groups of blocks.
 use Rattle.std.specs.Prelude.{◌≡◌, ℕ, ◌+◌, ◌*◌, ◌<◌, ◌≤◌, List, length}
 use Rattle.auction_terms.specs.declared.limits.TheConstants.{MAX_TICKS}
-use Rattle.lane_prefix.specs.Meeting.{before}
+use Rattle.lanes.specs.Meeting.{before}
 
 -- block by block of 64, the sums of a list
 pub record IsCoarse (fine coarse : List ℕ) : Type 0 where

@@ -2,7 +2,7 @@
 use Rattle.std.specs.Prelude.{◌≡◌, ℕ, ◌+◌, ◌<◌, ◌≤◌, ◌⊎◌, List, Option, None, Some, MatchOption, length, max, min}
 use Rattle.std.specs.Prelude.{sum, slice_index}
 use Rattle.auction_terms.specs.Ladder.{LadderView}
-use Rattle.lane_prefix.specs.Meeting.{before}
+use Rattle.lanes.specs.Meeting.{before}
 use Rattle.tick_ladder.specs.declared.Crossing.{Crossing}
 
 -- no number from i on and before j is above 0

@@ -6,7 +6,7 @@ ghost use Rattle.tick_ladder.specs.OccupiedPlaces.{FindsLast, FindsFirst, IsCros
 
 use crate::Crossing;
 use crate::walks::{BLOCK, cross, first_from, last_before};
-use lane_prefix::total;
+use lanes::total;
 use std::alloc::{AllocError, Global};
 use std::marker::Model;
 

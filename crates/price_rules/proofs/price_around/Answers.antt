@@ -16,7 +16,7 @@ returns-in-Some c view book other h k flags near =
     let best =
     best_there v view a near is book other c.limits_around-lanes.result (Some (lead_of c.in-Some.leaders))
     (curves-of_ladder v book h c.requires.flags) told lanes.marked (lanes.candidates book h) c.in-Some.ensures in
-    c.hold.ensures
+    c.clamp.ensures
     ∙ sym (price_some view other a c.args.reference (lead_of c.in-Some.leaders) told (around_there v view a near is)
     best)
 

@@ -43,7 +43,7 @@ pub returns-in-None-clause-accounts : goal.returns-in-None-clause-accounts
 returns-in-None-clause-accounts g c =
     let n = g.K.Ledger.parts in
     let ms = c.args.members.items in
-    let floor = c.into_inner-floor.result in
+    let locked = c.into_inner-locked.result in
     let ended = c.end-history.ensures in
     let closing = c.end-history.result.0 in
     let h = c.gather-calls.ensures.counts in
@@ -54,14 +54,14 @@ returns-in-None-clause-accounts g c =
     (c.are_complete.ensures.0 c.if-not-are_complete.false) in
     let parts : c.gather-calls.result.joined.parts ≡ n =
     omega (arith, c.gather-calls.ensures.parts, no_parts, once.0) in
-    let end : c.len.result ≡ length floor = omega (arith, c.len.ensures, ap length ended.history, closing.history.ok.0)
+    let end : c.len.result ≡ length locked = omega (arith, c.len.ensures, ap length ended.history, closing.history.ok.0)
     in
     let none =
     subst (λ (k : Option MemberView). IsKeptBack c.first_late-late.result c.len.result ms k) c.in-None.is
     c.gather-calls.ensures.kept in
     let follow : All (HasSeenBeginning n (calls_of closing.history.items)) ms =
     subst (λ (h : List Entry). All (HasSeenBeginning n (calls_of h)) ms) (sym ended.history)
-    (all_follow n c.len.result (length floor) (calls_of floor) ms c.deref-2.result.now c.first_late-late.result end
+    (all_follow n c.len.result (length locked) (calls_of locked) ms c.deref-2.result.now c.first_late-late.result end
     c.deref-2.ensures.value none c.first_late-late.ensures.none c.first_late-late.ensures.some) in
     let same : sum c.gather-calls.result.counts.items ≡ sum closing.calls.items =
     omega (
@@ -90,7 +90,7 @@ returns-clause-fault g c =
     let n = g.K.Ledger.parts in
     let config = g.K.BoardIdentity.config in
     let ms = c.args.members.items in
-    let floor = c.into_inner-floor.result in
+    let locked = c.into_inner-locked.result in
     let ended = c.end-history.ensures in
     let history = c.end-history.result.0.history in
     let closing : Closing = record { history = history; calls = c.gather-calls.result.counts } in
@@ -105,13 +105,13 @@ returns-clause-fault g c =
     let back =
     subst (λ (k : Option MemberView). IsKeptBack c.first_late-late.result c.len.result ms k) c.in-Some.is
     c.gather-calls.ensures.kept in
-    let end : c.len.result ≡ length floor = omega (arith, c.len.ensures, ap length ended.history, history.ok.0) in
+    let end : c.len.result ≡ length locked = omega (arith, c.len.ensures, ap length ended.history, history.ok.0) in
     inr (
       c.settle.new.self,
       c.seen_len-seen.result,
       closing,
       refl,
-      is_late config n c.len.result (length floor) ms c.deref-2.result.now c.first_late-late.result
+      is_late config n c.len.result (length locked) ms c.deref-2.result.now c.first_late-late.result
           c.in-Some.member c.settle.new.self c.seen_len-seen.result closing closed end c.deref-2.ensures.value back
           c.settle.ensures.same c.seen_len-seen.ensures (ap length (sym ended.history)) c.first_late-late.ensures.first,
     )

@@ -8,8 +8,8 @@ use Rattle.member_board.proofs.closing.first_late.Given as goal
 abbrev pub invariant-loop-i : goal.invariant-loop-i
 invariant-loop-i g l = record {
   least : l.least ≤ l.n;
-  some : l.least < l.n → HasLate l.least (length l.floor) l.members;
+  some : l.least < l.n → HasLate l.least (length l.locked) l.members;
   first : (k : ℕ) (d : MemberView) → k < l.i → (get_or l.members k d).number < l.least
-      → HasSeenBeginning g.K.Ledger.parts (calls_of l.floor) (get_or l.members k d);
+      → HasSeenBeginning g.K.Ledger.parts (calls_of l.locked) (get_or l.members k d);
   numbers : (k : ℕ) (d : MemberView) → k < l.i → (get_or l.members k d).number < l.n;
 }

@@ -1,7 +1,7 @@
 -- Answers of `lower_of` (src/choice.rt): what the prover left open; rt looks here.
 use Rattle.std.proofs.Common.{◌≡◌, ◌∙◌, length, arith}
 use Rattle.std.proofs.lemmas.Bool.{ne_eqb}
-use Rattle.lane_select.specs.Selection.{kept_if_above}
+use Rattle.lanes.specs.Selection.{kept_if_above}
 use Rattle.price_rules.proofs.MarkLaws.{lowest_at, highest_at}
 use Rattle.price_rules.proofs.SelectedLaws.{AreEven, rising_within, rising_bids, bids_marked}
 use Rattle.price_rules.proofs.choice.lower_of.Goals as goal

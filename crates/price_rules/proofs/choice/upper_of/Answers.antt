@@ -1,7 +1,7 @@
 -- Answers of `upper_of` (src/choice.rt): what the prover left open; rt looks here.
 use Rattle.std.proofs.Common.{◌≡◌, ◌∙◌, length, arith}
 use Rattle.std.proofs.lemmas.Bool.{ne_eqb}
-use Rattle.lane_select.specs.Selection.{kept_if_above}
+use Rattle.lanes.specs.Selection.{kept_if_above}
 use Rattle.price_rules.proofs.MarkLaws.{highest_at, lowest_at}
 use Rattle.price_rules.proofs.SelectedLaws.{AreEven, rising_within, rising_asks, asks_marked}
 use Rattle.price_rules.proofs.choice.upper_of.Goals as goal

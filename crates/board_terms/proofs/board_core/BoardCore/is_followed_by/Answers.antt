@@ -6,7 +6,7 @@ use Rattle.auction_terms.specs.Day.{calls_of}
 use Rattle.auction_terms.specs.declared.Call.{Call}
 use Rattle.board_terms.specs.Closings.{HasSeenBeginning}
 use Rattle.board_terms.proofs.HistoryLaws.{HasSeenBeginning-by_length}
-use Rattle.board_terms.specs.BoardViews.{BoardMember, FloorView, OpenedBoard}
+use Rattle.board_terms.specs.BoardViews.{BoardMember, BoardHistory, OpenedBoard}
 use Rattle.board_terms.proofs.board_core.BoardCore.is_followed_by.Goals as goal
 
 pub returns : goal.returns
@@ -23,7 +23,7 @@ returns c =
     subst (λ (p : OpenedBoard). MatchBool found
     (HasSeenBeginning p.members (calls_of c.args.self.now.history) c.args.by.now.view)
     (length c.args.self.now.history < length c.args.by.now.view.seen)) c.requires
-    (subst (λ (v : FloorView). MatchBool found
+    (subst (λ (v : BoardHistory). MatchBool found
     (HasSeenBeginning c.args.by.now.board.members (calls_of v.history) c.args.by.now.view)
     (length v.history < length c.args.by.now.view.seen)) c.self.view_is
     (subst (λ (s : BoardMember). MatchBool found (HasSeenBeginning s.board.members (calls_of f.history.items) s.view)

@@ -13,7 +13,7 @@ use Rattle.board_terms.specs.MemberView.{after_call}
 use Rattle.board_terms.specs.CallsAndLooks.{CallsOnce, ShowsAfter}
 use Rattle.board_terms.proofs.HistoryLaws.{CoreInvariant-push, CallsOnce-recorded, placed_calls-one_more}
 use Rattle.board_terms.proofs.HistoryLaws.{ShowsAfter-call}
-use Rattle.board_terms.specs.BoardViews.{FloorView, BoardMember}
+use Rattle.board_terms.specs.BoardViews.{BoardHistory, BoardMember}
 use Rattle.board_terms.specs.Closings.{HasSeenBeginning}
 use Rattle.board_terms.specs.CoreInvariant.{CoreInvariant}
 use Rattle.board_terms.proofs.board_core.BoardCore.write_down.Goals as goal
@@ -27,7 +27,7 @@ count_call-requires-clause-shows c =
     ∙ (λ i. calls_of ((sym c.self.view_is i).history) ++ call_by (sym c.number-member.ensures.number i)
     c.args.command ∷ []) in
     let config : f.auction.config ≡ c.args.by.now.board.config =
-    ap (λ (v : FloorView). v.board.config) c.self.view_is ∙ sym (ap (λ p. p.config) c.requires.board) in
+    ap (λ (v : BoardHistory). v.board.config) c.self.view_is ∙ sym (ap (λ p. p.config) c.requires.board) in
     subst (λ (k : Config). ShowsAfter k c.again.result.log shown) config
     (ShowsAfter-call f.auction.config f.auction c.apply-reply.new.self (calls_of f.history.items) c.again.result.log
     c.number-member.result c.args.command shown c.self.invariant.0.replayed c.apply-reply.ensures.state
@@ -46,9 +46,9 @@ invariant_of-self c =
     let member = c.number-member.result in
     let config = f.auction.config in
     let room : length f.history.items < config.max_calls =
-    subst (λ (v : FloorView). length v.history < v.board.config.max_calls) (sym c.self.view_is) c.requires.room in
+    subst (λ (v : BoardHistory). length v.history < v.board.config.max_calls) (sym c.self.view_is) c.requires.room in
     let members : c.args.by.now.board.members ≡ f.members =
-    ap (λ p. p.members) c.requires.board ∙ sym (ap (λ (v : FloorView). v.board.members) c.self.view_is) in
+    ap (λ p. p.members) c.requires.board ∙ sym (ap (λ (v : BoardHistory). v.board.members) c.self.view_is) in
     let one_of : member < f.members = omega (arith, c.number-member.ensures.one_of, members) in
     let front : c.args.front.log ≡ calls_of f.history.items ++ call_by member c.args.command ∷ [] =
     c.requires.front
@@ -73,7 +73,7 @@ invariant_of-self c =
       subst (λ (k : Config). CoreInvariant k f.members after c.push_reserved.new.self.items c.args.front.log
           (set f.counted.items c.from.result (c.index_mut.result.now + 1)) (vec_capacity c.push_reserved.new.self))
           (sym same) pushed,
-      c.self.invariant.1 ∙ ap (λ (v : FloorView). v.board.book) c.self.view_is ∙ sym c.requires.book,
+      c.self.invariant.1 ∙ ap (λ (v : BoardHistory). v.board.book) c.self.view_is ∙ sym c.requires.book,
     )
 
 pub returns-clause-legal : goal.returns-clause-legal
@@ -94,7 +94,7 @@ returns-clause-call c =
     c.calls-number.ensures.value
     ∙ ap (λ (r : RunningAuction). r.calls) (c.show-display.ensures.state ∙ c.apply-reply.ensures.state)
     ∙ ap (λ (r : RunningAuction). r.calls + 1) k.replayed
-    ∙ ap (λ (v : FloorView). length (calls_of v.history) + 1) c.self.view_is in
+    ∙ ap (λ (v : BoardHistory). length (calls_of v.history) + 1) c.self.view_is in
     let reply : r.reply ≡ (step config (replay config calls).0 (call_by by.view.number c.args.command)).1 =
     c.apply-reply.ensures.reply
     ∙ ap (λ (r : RunningAuction). (step r.config r.state (call_by c.number-member.result c.args.command)).1)
@@ -104,6 +104,6 @@ returns-clause-call c =
     let follows = subst (λ (p : ℕ). HasSeenBeginning p calls by.view) refl c.requires.follows in
     subst (λ (m : BoardMember). CallsOnce c.args.self.now.board.config by.view m.view c.args.command r)
     (sym c.count_call.ensures)
-    (subst (λ (v : FloorView). CallsOnce v.board.config by.view (after_call by.view seen) c.args.command r)
+    (subst (λ (v : BoardHistory). CallsOnce v.board.config by.view (after_call by.view seen) c.args.command r)
     c.self.view_is (CallsOnce-recorded config c.args.self.now.board.members by.view calls seen c.args.command r
     follows c.requires.counted seen_is number reply))

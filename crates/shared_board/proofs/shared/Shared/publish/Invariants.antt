@@ -3,4 +3,4 @@ use Rattle.board_terms.specs.BoardViews.{IsSnapshotOf}
 use Rattle.shared_board.proofs.shared.Shared.publish.Given as goal
 
 abbrev pub invariant-loop-i : goal.invariant-loop-i
-invariant-loop-i l = IsSnapshotOf l.self.floor l.view.front l.view.shown
+invariant-loop-i l = IsSnapshotOf l.self.locked l.view.front l.view.shown

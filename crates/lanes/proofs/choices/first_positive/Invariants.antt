@@ -1,0 +1,16 @@
+-- Invariants of the loops of `first_positive` (src/lib.rt); rt looks here.
+use Rattle.std.proofs.Common.{◌≤◌, ◌-◌, length}
+use Rattle.lanes.specs.Positive.{NoneIn}
+use Rattle.lanes.proofs.choices.first_positive.Given as goal
+
+abbrev pub invariant-eights : goal.invariant-eights
+invariant-eights l = record { within : l.at ≤ length l.values; none : NoneIn l.values 0 l.at }
+
+abbrev pub invariant-rest : goal.invariant-rest
+invariant-rest l = record { within : l.at ≤ length l.values; none : NoneIn l.values 0 l.at }
+
+abbrev pub decreases-eights : goal.decreases-eights
+decreases-eights l = length l.values - l.at
+
+abbrev pub decreases-rest : goal.decreases-rest
+decreases-rest l = length l.values - l.at

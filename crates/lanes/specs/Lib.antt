@@ -1,0 +1,4 @@
+pub mod RunningSums
+pub mod Meeting
+pub mod Selection
+pub mod Positive

@@ -1,8 +1,0 @@
--- Answers of `ReplyList::len` (src/lib.rt): what the prover left open; rt looks here.
-use Rattle.std.proofs.Common.{arith}
-use Rattle.std.proofs.lemmas.Grind.{common_steps}
-use Rattle.reply_list.proofs.ReplyListLaws.{length-replies}
-use Rattle.reply_list.proofs.ReplyList.len.Goals as goal
-
-pub returns : goal.returns
-returns c = grind (arith, common_steps, length-replies)
