@@ -3,8 +3,8 @@ use Rattle.std.proofs.Common.{◌≡◌, ℕ, ◌+◌, List, [], ◌∷◌, ◌+
 use Rattle.std.proofs.lemmas.List.Elements.{All-append, All-cons, All-nil}
 use Rattle.std.proofs.Math.Seq.{take-suc}
 use Rattle.board_terms.specs.MemberView.{MemberView}
-use Rattle.member_floor.specs.declared.script.Script.{Script}
-use Rattle.member_floor.specs.PlaysScript.{FitsMembers, FitsHistory, HaveSameNumbers}
+use Rattle.member_board.specs.declared.script.Script.{Script}
+use Rattle.member_board.specs.PlaysScript.{FitsMembers, FitsHistory, HaveSameNumbers}
 
 same_next : (ms : List MemberView) (ss : List Script) (m : MemberView) (s : Script) → HaveSameNumbers ms ss
     → m.number ≡ s.member → HaveSameNumbers (ms ++ m ∷ []) (ss ++ s ∷ [])

@@ -9,10 +9,9 @@ ghost use Rattle.clap.specs.Walk.{texts};
 ghost use Rattle.program_runs.specs.Served.{IsAnswer};
 ghost use Rattle.std.specs.Process.{exit_status};
 
-use byte_streams::{Failures, FromRead, ToWrite};
+use byte_streams::{Failures, FromRead, Patient, ToWrite};
 use input_hints::StartKeeper;
 use journal_file::{OpenFileFault, Opened, Syncing, Tracked, open};
-use process_ends::Patient;
 use program_runs::{OpenedJournal, OpensJournal, serve};
 use settings::JournalFile;
 use std::alloc::{AllocError, Global};
@@ -23,12 +22,12 @@ use std::sync::ledger::{Blank, Ledger};
 use std::thread::Threads;
 use std::{env, io};
 
-/// The same words, lent.
-fn lend<'a>(alloc: Global, words: &'a [String]) -> Result<Vec<&'a str>, AllocError>
-    ensures { IfOk result (λ lent. texts lent.items ≡ map string_bytes words.now) }
+/// The same arguments, lent.
+fn lend<'a>(alloc: Global, arguments: &'a [String]) -> Result<Vec<&'a str>, AllocError>
+    ensures { IfOk result (λ lent. texts lent.items ≡ map string_bytes arguments.now) }
 {
     let mut lent = Vec::new(alloc);
-    for word in words {
+    for word in arguments {
         lent.push(word.as_str())?;
     }
     Ok(lent)
@@ -63,9 +62,9 @@ impl<'a> OpensJournal<Tracked<Opened<'a>>> for Files<'a> {
     }
 }
 
-/// Runs the program on the process's words and its ends, each of which is waited for, and counts its failures in a
+/// Runs the program on the process's arguments and its ends, each of which is waited for, and counts its failures in a
 /// ledger of its own. `rt` is the same runtime where the program waits and starts threads. The status is one that
-/// `serve` answers; no clause says of which words and ends, since none says what a process is given.
+/// `serve` answers; no clause says of which arguments and ends, since none says what a process is given.
 fn run_program<I: Ledger, O: Ledger, E: Ledger, T: Wait + Threads + Sync>(
     host: &HostRuntime,
     rt: &T,
@@ -107,12 +106,12 @@ fn run_program<I: Ledger, O: Ledger, E: Ledger, T: Wait + Threads + Sync>(
         failures: Failures::<E>::new(errors),
     };
     let owned: Vec<String> = env::args(host)?.collect(alloc)?;
-    let words = lend(alloc, owned.as_slice())?;
+    let arguments = lend(alloc, owned.as_slice())?;
     let files = Files { host };
     let mut left = None;
     Ok(serve(
         alloc,
-        words.as_slice(),
+        arguments.as_slice(),
         &mut reader,
         &mut out,
         &mut err,
@@ -122,8 +121,8 @@ fn run_program<I: Ledger, O: Ledger, E: Ledger, T: Wait + Threads + Sync>(
     ))
 }
 
-/// Says why the process's words could not be had: memory was refused, or one is not UTF-8.
-fn refuse_words(rt: &HostRuntime, error: &io::Error) -> u8
+/// Says why the process's arguments could not be had: memory was refused, or one is not UTF-8.
+fn refuse_arguments(rt: &HostRuntime, error: &io::Error) -> u8
     ensures { (result ≡ 2) ⊎ (result ≡ 3) }
 {
     if error.kind() == io::ErrorKind::OutOfMemory {
@@ -134,8 +133,8 @@ fn refuse_words(rt: &HostRuntime, error: &io::Error) -> u8
     2
 }
 
-/// What the process ends with: the status that the program answered, which is one that `serve` answers to some words,
-/// or where its words couldn't be had 2 or 3.
+/// What the process ends with: the status that the program answered, which is one that `serve` answers to some
+/// arguments, or where its arguments couldn't be had 2 or 3.
 fn exit_code(rt: &HostRuntime, answered: &io::Result<u8>) -> ExitCode
     requires { IfOk answered.now IsAnswer }
     ensures answered { IfOk answered.now (λ status. exit_status result ≡ status) }
@@ -143,7 +142,7 @@ fn exit_code(rt: &HostRuntime, answered: &io::Result<u8>) -> ExitCode
 {
     match answered {
         Ok(status) => ExitCode::from(*status),
-        Err(error) => ExitCode::from(refuse_words(rt, error)),
+        Err(error) => ExitCode::from(refuse_arguments(rt, error)),
     }
 }
 

@@ -7,7 +7,7 @@ use byte_streams::{Failures, FromMemory, Sink, Source, ToMemory, ToWrite};
 use input_hints::StartKeeper;
 use journal::DayHeader;
 use journal_file::{Device, OpenFileFault, Opened, Tracked};
-use member_floor::Gate;
+use member_board::Gate;
 use program_runs::{Fault, Finish, OpenedJournal, OpensJournal, run_file, run_floor, serve};
 use settings::{FloorForm, Form, JournalFile};
 use std::alloc::Global;
@@ -70,7 +70,7 @@ fn served<
     D: Device + Drop,
     P: OpensJournal<D> + Drop,
     T: AllocGlobal + Wait + Threads + Sync,
->(rt: &T, errors: Blank, words: &[&str], reader: R, out: &mut S, files: P) -> (u8, Vec<u8>)
+>(rt: &T, errors: Blank, arguments: &[&str], reader: R, out: &mut S, files: P) -> (u8, Vec<u8>)
     requires name { errors.name ≡ E.name }
     requires parts { errors.parts ≡ E.parts }
     requires backed { 0 < E.parts }
@@ -83,7 +83,7 @@ fn served<
     let mut left = None;
     let status = serve(
         rt.alloc(),
-        words,
+        arguments,
         &mut reader,
         out,
         &mut err,
@@ -100,7 +100,7 @@ fn run_to_memory<
     D: Device + Drop,
     P: OpensJournal<D> + Drop,
     T: AllocGlobal + Wait + Threads + Sync,
->(rt: &T, output: Blank, words: &[&str], input: &[u8], files: P) -> Printed
+>(rt: &T, output: Blank, arguments: &[&str], input: &[u8], files: P) -> Printed
     requires name { output.name ≡ O.name }
     requires parts { output.parts ≡ O.parts }
     requires backed { 0 < O.parts }
@@ -113,7 +113,7 @@ fn run_to_memory<
     let (status, err) = served::<_, _, Brand, D, P, T>(
         rt,
         Blank::new(1),
-        words,
+        arguments,
         reader,
         &mut out,
         files,
@@ -125,47 +125,51 @@ fn run_to_memory<
     Printed { status, out, err }
 }
 
-/// What a file of these bytes, run with these words, comes to.
-fn run<T: AllocGlobal + Wait + Threads + Sync>(rt: &T, words: &[&str], input: &[u8]) -> Printed {
+/// What a file of these bytes, run with these arguments, comes to.
+fn run<T: AllocGlobal + Wait + Threads + Sync>(
+    rt: &T,
+    arguments: &[&str],
+    input: &[u8],
+) -> Printed {
     run_to_memory::<Brand, Tracked<Opened<'_>>, NoFiles, T>(
         rt,
         Blank::new(1),
-        words,
+        arguments,
         input,
         NoFiles,
     )
 }
 
-/// A file of these bytes, run with these words, gives this output, this error and this status.
+/// A file of these bytes, run with these arguments, gives this output, this error and this status.
 fn gives<T: Abort + AllocGlobal + Wait + Threads + Sync>(
     rt: &T,
-    words: &[&str],
+    arguments: &[&str],
     input: &[u8],
     out: &str,
     err: &str,
     status: u8,
 ) {
-    let printed = run(rt, words, input);
+    let printed = run(rt, arguments, input);
     assert_eq!(rt; from_utf8(printed.out.as_slice()).unwrap_or("?"), out);
     assert_eq!(rt; from_utf8(printed.err.as_slice()).unwrap_or("?"), err);
     assert_eq!(rt; printed.status, status);
 }
 
-/// A file of these bytes, run with these words, has this fault, whatever its likely cause.
+/// A file of these bytes, run with these arguments, has this fault, whatever its likely cause.
 fn gives_fault<T: Abort + AllocGlobal + Wait + Threads + Sync>(
     rt: &T,
-    words: &[&str],
+    arguments: &[&str],
     input: &[u8],
     fault: &str,
 ) {
-    let printed = run(rt, words, input);
+    let printed = run(rt, arguments, input);
     let said = from_utf8(printed.err.as_slice()).unwrap_or("?");
     assert!(rt; printed.out.is_empty());
     assert!(rt; said.starts_with(fault));
     assert_eq!(rt; printed.status, 1);
 }
 
-/// Words and a file, and the output, the error and the status that they give.
+/// Arguments and a file, and the output, the error and the status that they give.
 type Row = (
     &'static [&'static str],
     &'static [u8],
@@ -176,8 +180,8 @@ type Row = (
 
 /// Each of these rows is so.
 fn each_gives<T: Abort + AllocGlobal + Wait + Threads + Sync>(rt: &T, rows: &[Row]) {
-    for &(words, input, out, err, status) in rows {
-        gives(rt, words, input, out, err, status);
+    for &(arguments, input, out, err, status) in rows {
+        gives(rt, arguments, input, out, err, status);
     }
 }
 
@@ -231,11 +235,11 @@ impl Story {
     }
 }
 
-/// A file and what it should print: what it shows, the words that the program is run with, and the
+/// A file and what it should print: what it shows, the arguments that the program is run with, and the
 /// rows of a story.
 struct Example {
     name: &'static str,
-    words: &'static [&'static str],
+    arguments: &'static [&'static str],
     text: &'static str,
 }
 
@@ -247,7 +251,7 @@ fn each_gives_its_lines<T: Abort + AllocGlobal + Wait + Threads + Sync>(
     for example in examples {
         let mut story = Story::new(rt.alloc());
         story.add_all(example.text)?;
-        let printed = run(rt, example.words, story.input.as_str().as_bytes());
+        let printed = run(rt, example.arguments, story.input.as_str().as_bytes());
         let out = from_utf8(printed.out.as_slice()).unwrap_or("?");
         assert_eq!(rt; out, story.lines.as_str(), "{}", example.name);
         let is_done = story.records > 0 && printed.err.is_empty() && printed.status == 0;

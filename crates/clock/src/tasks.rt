@@ -75,7 +75,7 @@ where
 {
     let mut seen: u32 = 0;
     for _ in 0..count {
-        seen = seen.wrapping_add(board.floor().lock(rt).shown().calls);
+        seen = seen.wrapping_add(board.locked().lock(rt).shown().calls);
     }
     seen
 }

@@ -15,18 +15,17 @@ use auction::Auction;
 use auction_terms::{AuctionKind, Call, Reply};
 use byte_streams::{Sink, WriteFailed};
 use day_road::Listener;
-use printed_lines::{KeptText, Page, Printer, is_text_of};
+use printed_lines::{KeptText, Printer, ReplyTexts};
 use std::alloc::{AllocError, Global};
 
-/// What is found of an entry with this recorded text, the lawful reply being this. A page is lent for it.
-fn finding_of(page: &mut Page, text: &[u8], reply: Reply) -> Finding
-    ensures { result ≡ finding_of (record { recorded = text.now; lawful = reply_text reply }) }
+/// What is found of an entry with this recorded text, the lawful reply being this.
+fn finding_of(texts: &mut ReplyTexts, text: &[u8], reply: &Reply) -> Finding
+    ensures { result ≡ finding_of (record { recorded = text.now; lawful = reply_text reply.now }) }
 {
     if text.is_empty() {
         return Finding::Silent;
     }
-    page.clear();
-    if is_text_of(page, text, reply) {
+    if texts.is_text_of(text, reply) {
         return Finding::Lawful;
     }
     Finding::Unlawful
@@ -38,8 +37,7 @@ pub(crate) struct Findings {
     pub counts: Counts,
     lines: KeptText,
     results: KeptText,
-    // It is lent.
-    page: Page,
+    texts: ReplyTexts,
 }
 
 impl Findings {
@@ -51,7 +49,7 @@ impl Findings {
             counts: Counts::none(),
             lines: KeptText::new(alloc),
             results: KeptText::new(alloc),
-            page: Page::new(),
+            texts: ReplyTexts::new(),
         }
     }
 
@@ -125,7 +123,7 @@ impl Listener for Findings {
 
     fn hear(&mut self, _call: &Call, text: &[u8], reply: &Reply) -> Result<(), AllocError> {
         let number = self.counts.entries.saturating_add(1);
-        let finding = finding_of(&mut self.page, text, *reply);
+        let finding = finding_of(&mut self.texts, text, reply);
         record_finding(&mut self.lines, number, text, reply, finding)?;
         record_uncross(&mut self.results, number, reply)?;
         self.counts = self.counts.with(finding);

@@ -6,4 +6,4 @@ pub mod TickTableLaws
 pub mod BookTableLaws
 pub mod FrontTextLaws
 pub mod UncrossLaws
-pub mod KeptBookLaws
+pub mod BookRecorderLaws

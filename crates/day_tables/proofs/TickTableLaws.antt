@@ -18,11 +18,11 @@ use Rattle.auction_terms.proofs.LadderLaws.{length-tick_values, at_spread}
 use Rattle.auction_terms.proofs.TickListLaws.{All_at, filter-has, no_tick, none_empty, not_empty}
 use Rattle.auction_terms.proofs.ChoiceLaws.{best_limits_keyed, best_limits_none}
 use Rattle.auction_terms.proofs.DemandShape.{demand_falls, supply_rises}
-use Rattle.lane_prefix.specs.Meeting.{before}
-use Rattle.lane_prefix.specs.RunningSums.{rising_sums, falling_sums}
-use Rattle.lane_prefix.proofs.RunningSumLaws.{sum-cons}
-use Rattle.lane_select.specs.Selection.{NoFlagIn, IsFirstFlag, IsLastFlag, IsGreatestFlagged, IsLeastFlagged}
-use Rattle.lane_select.specs.Selection.{kept_if_equal}
+use Rattle.lanes.specs.Meeting.{before}
+use Rattle.lanes.specs.RunningSums.{rising_sums, falling_sums}
+use Rattle.lanes.proofs.RunningSumLaws.{sum-cons}
+use Rattle.lanes.specs.Selection.{NoFlagIn, IsFirstFlag, IsLastFlag, IsGreatestFlagged, IsLeastFlagged}
+use Rattle.lanes.specs.Selection.{kept_if_equal}
 use Rattle.price_rules.specs.Candidates.{AreCandidates, AreMarked}
 use Rattle.price_rules.proofs.CurveLaws.{HasCurvesOf, curves-of_ladder}
 use Rattle.tick_ladder.specs.TickLadder.{IsLadder, IsLadderOf}

@@ -18,9 +18,9 @@ use Rattle.auction_terms.specs.declared.Call.{Call}
 use Rattle.auction_terms.specs.declared.Reply.{Reply}
 use Rattle.auction_terms.specs.Auxiliary.RunningAuction.{RunningAuction, auction_after_call, opened_auction}
 use Rattle.auction_terms.proofs.RunLaws.{replies_from-push, state_after-push}
-use Rattle.day_tables.specs.declared.trades.KeptTrades.{KeptTrades}
+use Rattle.day_tables.specs.declared.trades.TradesRecorder.{TradesRecorder}
 use Rattle.day_tables.specs.AnsweredCalls.{entry_of}
-use Rattle.day_tables.specs.KeptTrades.{AreReplayed, HasAllTrades, HasTradesSoFar}
+use Rattle.day_tables.specs.TradesRecorder.{AreReplayed, HasAllTrades, HasTradesSoFar}
 use Rattle.auction_terms.specs.Day.{State, opening_state, step, state_after, replies_from, replay, call_of, calls_of}
 use Rattle.auction_terms.specs.Day.{IsLegal}
 use Rattle.day_tables.specs.TradeTable.{entered_id, has_entered_id, member_who_entered, auctions_of_reply}
@@ -233,7 +233,7 @@ members_by_id config entries replayed (suc n) =
     ∙ ap (λ id. option_map (λ (entry : Entry). entry.member) (find (has_entered_id id) entries)) to
 
 -- the table of what was kept of a day, by the members' places
-pub table_of_trades : (trades : KeptTrades) (config : Config) (entries : List Entry)
+pub table_of_trades : (trades : TradesRecorder) (config : Config) (entries : List Entry)
     → HasAllTrades trades config entries
     → trades_header ++ trade_records (member_of_id trades.members.items) 0 trades.auctions.items trades.tape.items
     ≡ trades_text config entries
@@ -246,7 +246,7 @@ table_of_trades trades config entries has =
 
 -- ---- what is kept, call by call
 
-pub trades-none : (trades : KeptTrades) (auction : RunningAuction) → auction ≡ opened_auction auction.config
+pub trades-none : (trades : TradesRecorder) (auction : RunningAuction) → auction ≡ opened_auction auction.config
     → trades.members.items ≡ [] → trades.auctions.items ≡ [] → trades.tape.items ≡ []
     → HasTradesSoFar trades auction []
 trades-none trades auction fresh members auctions tape = record {
@@ -263,7 +263,7 @@ replies-more : (config : Config) (state : State) (entries : List Entry) (call : 
 replies-more config state entries call reply replayed is answered =
     grind (arith, common_steps, map-append, replies_from-push)
 
-pub trades-more : (old new : KeptTrades) (auction : RunningAuction) (call : Call) (reply : Reply)
+pub trades-more : (old new : TradesRecorder) (auction : RunningAuction) (call : Call) (reply : Reply)
     (entries : List Entry) → reply ≡ (step auction.config auction.state call).1
     → new.members.items ≡ old.members.items ++ entering_members (entry_of call reply ∷ [])
     → new.auctions.items ≡ old.auctions.items ++ auctions_of_reply reply
@@ -289,7 +289,8 @@ trades-more old new auction call reply entries answered members auctions tape is
     }
 
 -- where memory may be refused
-pub trades-kept : {E : Type 0} (r : Result (Unit {0}) E) (old new : KeptTrades) (auction : RunningAuction) (call : Call)
+pub trades-kept : {E : Type 0} (r : Result (Unit {0}) E) (old new : TradesRecorder) (auction : RunningAuction) (call
+    : Call)
     (reply : Reply) (entries : List Entry) → reply ≡ (step auction.config auction.state call).1
     → new.members.items ≡ old.members.items ++ entering_members (entry_of call reply ∷ [])
     → OnOk r (new.auctions.items ≡ old.auctions.items ++ auctions_of_reply reply)

@@ -7,5 +7,5 @@ pub mod TableCurves
 pub mod TableRows
 pub mod AnsweredCalls
 pub mod ShownTable
-pub mod KeptBook
-pub mod KeptTrades
+pub mod BookRecorder
+pub mod TradesRecorder

@@ -7,15 +7,16 @@ ghost use Rattle.auction_terms.specs.declared.Order.{Order};
 ghost use Rattle.auction_terms.specs.Book.{demand, supply};
 ghost use Rattle.auction_terms.specs.AuctionPrice.{best_limits};
 ghost use Rattle.auction_terms.specs.Ladder.{tick_values};
-ghost use Rattle.lane_prefix.specs.RunningSums.{rising_sums, falling_sums};
+ghost use Rattle.lanes.specs.RunningSums.{rising_sums, falling_sums};
 ghost use Rattle.price_rules.specs.Candidates.{AreMarked};
 ghost use Rattle.tick_ladder.specs.TickLadder.{IsLadder, OfEachBook};
 ghost use Rattle.day_tables.specs.TableCurves.{AreCurves, HasRoomForTicks, LeavesBest, IsDecidingRule, ticks_from};
 
 use crate::rule::Rule;
 use auction_terms::Side;
-use lane_prefix::{falling, rising};
-use lane_select::{first, gap_size, greatest_where, keep_equal, last, least_where, lesser};
+use lanes::{
+    falling, first, gap_size, greatest_where, keep_equal, last, least_where, lesser, rising,
+};
 use std::alloc::{AllocError, Global};
 use tick_ladder::Ladder;
 

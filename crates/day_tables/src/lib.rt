@@ -7,13 +7,13 @@
 mod book;
 mod curves;
 mod front_text;
-mod keeping;
 mod laws;
 mod record;
+mod recording;
 mod rule;
 mod trades;
 
-pub use keeping::KeptBook;
 pub use laws::{each_trade_is_printed, rule_decides};
+pub use recording::BookRecorder;
 pub use rule::Rule;
-pub use trades::KeptTrades;
+pub use trades::TradesRecorder;

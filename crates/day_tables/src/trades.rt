@@ -8,7 +8,7 @@ ghost use Rattle.auction_terms.specs.Auxiliary.RunningAuction.{RunningAuction, a
 ghost use Rattle.printed_lines.specs.Printing.{Prints};
 ghost use Rattle.printed_lines.specs.declared.page.TheConstants.{LONGEST_LINE, ROOM};
 ghost use Rattle.day_tables.specs.AnsweredCalls.{entry_of};
-ghost use Rattle.day_tables.specs.KeptTrades.{HasAllTrades, HasTradesSoFar};
+ghost use Rattle.day_tables.specs.TradesRecorder.{HasAllTrades, HasTradesSoFar};
 ghost use Rattle.day_tables.specs.TableMembers.{entering_members, member_of_id};
 ghost use Rattle.day_tables.specs.TradeTable.{entered_id, auctions_of_reply, trades_header};
 ghost use Rattle.day_tables.specs.TradeTable.{trade_record, trade_records, trades_text};
@@ -146,19 +146,19 @@ fn print_trade_table<S: Sink>(
 /// The trades of a day, kept while its calls are applied: the members that entered its orders, id by id; trade by trade
 /// the auctions; and the tape, once all calls have come.
 #[derive(Drop)]
-pub struct KeptTrades {
+pub struct TradesRecorder {
     pub(crate) members: Vec<u8>,
     pub(crate) auctions: Vec<AuctionKind>,
     pub(crate) tape: Vec<Trade>,
 }
 
-impl KeptTrades {
+impl TradesRecorder {
     /// No trade yet of a day that was just opened.
-    pub fn new(alloc: Global) -> KeptTrades
+    pub fn new(alloc: Global) -> TradesRecorder
         ensures { (auction : RunningAuction) → auction ≡ opened_auction auction.config
             → HasTradesSoFar result auction [] }
     {
-        KeptTrades {
+        TradesRecorder {
             members: Vec::new(alloc),
             auctions: Vec::new(alloc),
             tape: Vec::new(alloc),

@@ -1,5 +1,6 @@
 -- Answers to more and more lines.
-use Rattle.std.proofs.Common.{◌≡◌, ◌+◌, ℕ, List, [], ◌∷◌, ◌++◌, Option, Some, None, Bool, true, false, Result, Ok, Err}
+use Rattle.std.proofs.Common.{◌≡◌, ◌≢◌, ◌+◌, ℕ, List, [], ◌∷◌, ◌++◌, Option, Some, None, Bool, true, false, Result}
+use Rattle.std.proofs.Common.{Ok, Err}
 use Rattle.std.proofs.Common.{refl, ap, sym, subst, append_assoc, ◌∙◌}
 use Rattle.std.specs.Prelude.{OnOk}
 use Rattle.std.proofs.lemmas.List.{append-nil}
@@ -27,6 +28,9 @@ use Rattle.live_session.specs.declared.fault.Ending.TheVariants.{SomeBad}
 use Rattle.live_session.specs.declared.responder.Responder.{Responder}
 use Rattle.live_session.specs.declared.terms.SessionTerms.{SessionTerms}
 use Rattle.live_session.proofs.InputLineLaws.{lines-append}
+use Rattle.order_file.proofs.RowLaws.{records_from-done}
+use Rattle.live_session.specs.UnquotedLines.{HasNone, fields_of_line, is_mark}
+use Rattle.live_session.proofs.UnquotedLineLaws.{line-record}
 use Rattle.live_session.proofs.RecordTextLaws.{IsClosed, line-end-first, records-then}
 
 -- ---- records and lines, and then others
@@ -95,6 +99,23 @@ waiting-more terms start lines applied text closed answers good =
     ∙ after-both terms applied (records default_config text) (records default_config (text_of_record lines.at_hand))
     ∙ ap (λ (a : Answered). after_records terms a (records default_config (text_of_record lines.at_hand))) answers
     ∙ sym (line-read terms start lines good)
+
+-- ---- a line without quotes
+
+-- a blank one
+pub blank-answered : (terms : SessionTerms) (a : Answered) (line : List ℕ) → line ≡ []
+    → a ≡ after_records terms a (records default_config (line ++ 10 ∷ []))
+unfolding after_records strip_bom
+blank-answered terms a line blank =
+    sym (ap (λ (x : List ℕ). after_records terms a (records default_config (x ++ 10 ∷ []))) blank
+    ∙ ap (after_records terms a) (line-end-first [] ∙ records_from-done default_config 1))
+
+-- any other one
+pub plain-answered : (terms : SessionTerms) (a : Answered) (line : List ℕ) → line ≢ [] → HasNone is_mark line
+    → after_record terms a (fields_of_line line) ≡ after_records terms a (records default_config (line ++ 10 ∷ []))
+unfolding after_records
+plain-answered terms a [] some none = absurd (some refl)
+plain-answered terms a (b ∷ bs) some none = sym (ap (after_records terms a) (line-record b bs none))
 
 -- ---- some answers come before others
 

@@ -1,14 +1,14 @@
 -- An input that is answered line by line.
 use Rattle.std.proofs.Common.{◌≡◌, ◌≢◌, ◌+◌, ℕ, List, [], ◌∷◌, ◌++◌, take, drop, Some, None, Bool, true, false}
-use Rattle.std.proofs.Common.{refl, ap, sym, subst, append_assoc, ◌∙◌}
-use Rattle.std.specs.Prelude.{slice_index}
+use Rattle.std.proofs.Common.{refl, ap, sym, subst, append_assoc, arith, length, ◌∙◌}
+use Rattle.std.specs.Prelude.{Result, Ok, Err, OnOk, slice_index}
 use Rattle.auction_terms.specs.declared.Entry.{Entry}
 use Rattle.auction_terms.specs.Auxiliary.RunningAuction.{RunningAuction}
-use Rattle.csv.specs.Reading.{default_config, strip_bom}
+use Rattle.csv.specs.Reading.{default_config, records, strip_bom}
 use Rattle.order_file.proofs.RowLaws.{records_from-done}
-use Rattle.live_session.specs.Answered.{Answered, after_input_end, answered_lines, line_fault, refused}
+use Rattle.live_session.specs.Answered.{Answered, after_input_end, after_records, answered_lines, line_fault, refused}
 use Rattle.live_session.specs.Gathered.{Gathers}
-use Rattle.live_session.specs.Hearing.{HasHeard}
+use Rattle.live_session.specs.Hearing.{HasAnsweredAll, HasHeard}
 use Rattle.live_session.specs.InputLines.{IsFirstLineEnd, Lines, is_quote_open, is_too_long, line_ended, line_longer}
 use Rattle.live_session.specs.InputLines.{lines_once_read, text_of_record}
 use Rattle.live_session.specs.declared.fault.BadRecord.{BadRecord}
@@ -79,6 +79,61 @@ whole-line at_hand line none fine =
     let held = held-line line in
     sym (held.whole (not-faulty (take (MAX_RECORD_BYTES + 1) line) (held.fault ∙ fine)).0)
     ∙ ap (λ (x : List ℕ). take (MAX_RECORD_BYTES + 1) (x ++ line)) (sym (held-none at_hand (sym none)))
+
+no-text : (text : List ℕ) → length (10 ∷ text) ≡ 1 → text ≡ []
+no-text [] one = refl
+no-text (b ∷ bs) one = absurd (omega arith)
+
+-- where none waits all are answered
+pub none-waits : (session : Session) (terms : SessionTerms) (start : RunningAuction) (lines : Lines) (given : List ℕ)
+    (committed : List Entry) → HasHeard session terms start lines given committed → length session.waiting.items ≡ 1
+    → HasAnsweredAll session terms start lines given committed
+none-waits session terms start lines given committed h one =
+    let nothing = no-text h.text (ap length (sym h.waiting) ∙ one) in
+    let all : h.applied ≡ answered_lines terms start lines =
+    sym (none-waiting terms h.applied (records_from-done default_config 1))
+    ∙ ap (λ (t : List ℕ). after_records terms h.applied (records default_config t)) (sym nothing) ∙ h.answers in
+    record {
+      gathers = subst (λ (a : Answered). Gathers session.responder terms a given committed) all h.gathers;
+      waiting = h.waiting ∙ ap (λ (t : List ℕ). 10 ∷ t) nothing;
+      line = h.line;
+    }
+
+-- a line that came in one piece was answered, where no other waits
+pub whole-line-answered : {E : Type 0} (result : Result (Unit {0}) E) (old new : Session) (terms : SessionTerms)
+    (start : RunningAuction) (lines : Lines) (given : List ℕ) (committed : List Entry) (line record_text : List ℕ)
+    → (h : HasHeard old terms start lines given committed) → length old.waiting.items ≡ 1 → old.line.items ≡ []
+    → line_fault line ≡ None → record_text ≡ strip_bom line → new.waiting.items ≡ old.waiting.items
+    → new.line.items ≡ old.line.items
+    → OnOk result (Gathers new.responder terms
+    (after_records terms h.applied (records default_config (record_text ++ 10 ∷ []))) given committed)
+    → OnOk result (HasHeard new terms start (line_ended (line_longer line lines)) given committed)
+whole-line-answered (Err e) old new terms start lines given committed line record_text h one empty fine is same none
+    gathers = gathers
+whole-line-answered (Ok x) old new terms start lines given committed line record_text h one empty fine is same none
+    gathers =
+    let now = line_longer line lines in
+    let nothing = no-text h.text (ap length (sym h.waiting) ∙ one) in
+    let line_is = whole-line lines.at_hand line (sym empty ∙ h.line) fine in
+    let held = held-line now.at_hand in
+    let good : line_fault now.at_hand ≡ None = sym held.fault ∙ ap line_fault (sym line_is) ∙ fine in
+    let whole : line ≡ now.at_hand =
+    line_is ∙ held.whole (ap is_too_long (sym line_is) ∙ (not-faulty line fine).0) in
+    let text : record_text ++ 10 ∷ [] ≡ h.text ++ text_of_record now.at_hand =
+    ap (λ (t : List ℕ). t ++ 10 ∷ []) (is ∙ ap strip_bom whole)
+    ∙ ap (λ (t : List ℕ). t ++ text_of_record now.at_hand) (sym nothing) in
+    record {
+      applied = after_records terms h.applied (records default_config (record_text ++ 10 ∷ []));
+      gathers = gathers;
+      text = [];
+      waiting = same ∙ h.waiting ∙ ap (λ (t : List ℕ). 10 ∷ t) nothing;
+      closed = closed-none;
+      answers =
+          none-waiting terms _ (records_from-done default_config 1)
+          ∙ ap (λ (t : List ℕ). after_records terms h.applied (records default_config t)) text
+          ∙ waiting-more terms start now h.applied h.text h.closed h.answers good;
+      line = none ∙ empty;
+    }
 
 -- the next line of what is left
 pub next-line : (now : Lines) (rest line behind more : List ℕ) (place : ℕ) → IsFirstLineEnd rest (Some place)

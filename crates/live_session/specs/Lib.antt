@@ -5,3 +5,11 @@ pub mod Gathered
 pub mod Giving
 pub mod Hearing
 pub mod Talk
+pub mod Begun
+pub mod JournaledTalk
+pub mod JournaledPromises
+pub mod JournaledRun
+pub mod Replayed
+pub mod Resumed
+pub mod Looked
+pub mod UnquotedLines

@@ -47,7 +47,7 @@ fn is_marked(bytes: &[u8]) -> bool
 }
 
 /// A line without the byte order mark before it.
-fn without_mark(line: &[u8]) -> &[u8]
+pub(crate) fn without_mark(line: &[u8]) -> &[u8]
     ensures { result.now ≡ strip_bom line.now }
 {
     if is_marked(line) {

@@ -1,6 +1,6 @@
 //! The answers to records.
 
-ghost use Rattle.std.specs.Prelude.{◌≡◌, ◌<◌, ◌+◌, List, IfOk};
+ghost use Rattle.std.specs.Prelude.{◌≡◌, ◌<◌, ◌+◌, ◌++◌, ◌∷◌, [], List, IfOk};
 ghost use Rattle.auction_terms.specs.declared.Entry.{Entry};
 ghost use Rattle.csv.specs.Reading.{default_config, records, strip_bom};
 ghost use Rattle.csv.specs.Records.{fields_of};
@@ -13,9 +13,12 @@ ghost use Rattle.live_session.specs.Answered.{is_reserved};
 ghost use Rattle.live_session.specs.Answered.{live_call, refused, refused_row, refused_with, replied, answered_by_view};
 ghost use Rattle.live_session.specs.Gathered.{AddsAnswers, IsCommitted};
 ghost use Rattle.live_session.specs.Giving.{GivesGathered, IsGatheredAs, IsNew};
+ghost use Rattle.live_session.specs.UnquotedLines.{HasNone, is_mark};
 
 use crate::conversation::Conversation;
 use crate::fault::{BadRecord, Ending, LiveFault, put_bad_line};
+use crate::line::is_blank;
+use crate::plain::put_fields;
 use crate::terms::SessionTerms;
 use auction::Auction;
 use auction_terms::{Call, Config, Entry, Reply};
@@ -218,6 +221,25 @@ impl Responder {
             return self.answer_view(alloc, row);
         }
         self.answer_call(alloc, row)
+    }
+
+    /// Answers the record of a line without quotes, if it isn't blank. A record is lent for it.
+    pub(crate) fn answer_plain(
+        &mut self,
+        alloc: Global,
+        row: &mut ByteRecord,
+        line: &[u8],
+    ) -> Result<(), AllocError>
+        requires { HasNone is_mark line.now }
+        ensures { AddsAnswers self.old self.new
+            (λ terms so_far. after_records terms so_far (records default_config (line.now ++ 10 ∷ []))) result }
+    {
+        if is_blank(line) {
+            return Ok(());
+        }
+        row.clear();
+        put_fields(row, line)?;
+        self.answer_row(alloc, row)
     }
 
     /// Answers the records that are left.

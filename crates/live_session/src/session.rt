@@ -6,10 +6,12 @@ ghost use Rattle.live_session.specs.Hearing.{KeepsWhole, RefusesLine};
 ghost use Rattle.live_session.specs.InputLines.{line_ended, line_longer, lines_once_read};
 
 use crate::fault::BadRecord;
-use crate::line::{add_to_line, first_line_end, is_blank, line_fault, put_record};
+use crate::line::{add_to_line, first_line_end, is_blank, line_fault, put_record, without_mark};
+use crate::plain::is_plain;
 use crate::responder::Responder;
 use crate::terms::SessionTerms;
 use auction::Auction;
+use csv::ByteRecord;
 use std::alloc::{AllocError, Global};
 
 /// A session that has begun. The error of each method is that memory is refused.
@@ -20,6 +22,8 @@ pub(crate) struct Session {
     waiting: Vec<u8>,
     // The line at hand: as many of its bytes as a record may have, and one more.
     line: Vec<u8>,
+    // It is lent.
+    row: ByteRecord,
 }
 
 impl Session {
@@ -37,6 +41,7 @@ impl Session {
             responder: Responder::new(alloc, auction, terms),
             waiting,
             line: Vec::new(alloc),
+            row: ByteRecord::new(alloc),
         })
     }
 
@@ -44,6 +49,9 @@ impl Session {
     fn answer_waiting(&mut self, alloc: Global) -> Result<(), AllocError>
         ensures { AnswersAll self.old self.new (λ lines. lines) result }
     {
+        if self.waiting.len() == 1 {
+            return Ok(());
+        }
         self.responder.answer_text(alloc, self.waiting.as_slice())?;
         self.waiting.truncate(1);
         Ok(())
@@ -86,12 +94,23 @@ impl Session {
         Ok(())
     }
 
+    /// Answers a line that came in one piece, or has it wait after those before it.
+    fn take_whole(&mut self, alloc: Global, line: &[u8]) -> Result<(), AllocError>
+        ensures { KeepsWhole self.old self.new line.now result }
+    {
+        let record = without_mark(line);
+        if self.waiting.len() == 1 && is_plain(record) {
+            return self.responder.answer_plain(alloc, &mut self.row, record);
+        }
+        self.keep_whole(line)
+    }
+
     /// Takes the bytes of the line at hand up to its end.
     fn take_line(&mut self, alloc: Global, bytes: &[u8]) -> Result<(), AllocError>
         ensures { HearsLines self.old self.new (λ lines. line_ended (line_longer bytes.now lines)) result }
     {
         if self.line.is_empty() && line_fault(bytes).is_none() {
-            return self.keep_whole(bytes);
+            return self.take_whole(alloc, bytes);
         }
         self.take_bytes(bytes)?;
         self.end_line(alloc)

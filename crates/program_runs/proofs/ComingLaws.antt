@@ -26,36 +26,37 @@ use Rattle.order_file.specs.declared.fault.FileFault.{FileFault}
 use Rattle.settings.specs.declared.types.Form.{Form}
 use Rattle.settings.specs.declared.types.Form.TheVariants as forms
 use Rattle.settings.specs.declared.types.Listing.{Listing}
-use Rattle.program_runs.specs.KeptEntries.{IsClosedDay, KeepsDay, KeepsEntries, KeepsHeard, KeepsWholeDay, calls_for}
-use Rattle.program_runs.specs.KeptEntries.{entries_heard, form_kept}
+use Rattle.program_runs.specs.RecordedEntries.{IsClosedDay, RecordsDay, RecordsEntries, RecordsHeard, RecordsWholeDay}
+use Rattle.program_runs.specs.RecordedEntries.{calls_for}
+use Rattle.program_runs.specs.RecordedEntries.{entries_heard, form_of_recorder}
 use Rattle.program_runs.specs.Printed.{IfBegun, IsWideForm, IsWideListing, history_of, listing_text, printed}
 use Rattle.program_runs.proofs.EntriesLaws.{legal-history}
 use Rattle.program_runs.specs.declared.fault.Fault.{Fault}
 use Rattle.program_runs.specs.declared.fault.Fault.TheVariants as fault
-use Rattle.program_runs.specs.declared.kept.Kept.{Kept}
-use Rattle.program_runs.specs.declared.kept_day.KeptDay.{KeptDay}
+use Rattle.program_runs.specs.declared.recorder.Recorder.{Recorder}
+use Rattle.program_runs.specs.declared.recorded_day.PrintableDay.{PrintableDay}
 use Rattle.program_runs.proofs.EntriesHeardLaws.{heard-entries, silent-calls}
-use Rattle.program_runs.proofs.KeptLaws.{said_closed}
+use Rattle.program_runs.proofs.RecorderLaws.{said_closed}
 
 -- a fault of the input
 pub coming-fails : (form : Form) (day : DayHeader) (coming : Result (List RecordedCall) FileFault) (f : FileFault)
-    → FailsAsWanted f coming → KeepsDay form (calls_coming day coming) (Err (fault.File f))
+    → FailsAsWanted f coming → RecordsDay form (calls_coming day coming) (Err (fault.File f))
 coming-fails form day coming f h = fails-alike f coming (calls_coming day coming) (λ e. rw e refl) h
 
 -- a day that can't be opened
 pub coming-refused : (form : Form) (day : DayHeader) (coming : Result (List RecordedCall) FileFault) (f : OpenFault)
     → PassesOver coming (Ok tt) → f ≡ unwrap_or (open_fault day.config) NoMemory
-    → KeepsDay form (calls_coming day coming) (Err (fault.Open f))
+    → RecordsDay form (calls_coming day coming) (Err (fault.Open f))
 coming-refused form day coming f (rs, is) why =
     (record { day = day; calls = map call_part rs }, rw is refl, why)
 
 -- a day whose calls have come
-pub coming-kept : (form : Form) (day : DayHeader) (kept : Kept) (old new : RunningAuction)
-    (coming : Result (List RecordedCall) FileFault) (r : Result KeptDay Fault) → old ≡ opened_auction day.config
-    → form_kept kept ≡ form → open_fault day.config ≡ None → new.calls ≤ old.config.max_calls
-    → HearsAll (KeepsHeard kept new) [] old new coming (Ok tt)
-    → ((entries : List Entry) → KeepsEntries kept new entries → IsClosedDay day kept new.config entries r)
-    → KeepsDay form (calls_coming day coming) r
+pub coming-kept : (form : Form) (day : DayHeader) (kept : Recorder) (old new : RunningAuction)
+    (coming : Result (List RecordedCall) FileFault) (r : Result PrintableDay Fault) → old ≡ opened_auction day.config
+    → form_of_recorder kept ≡ form → open_fault day.config ≡ None → new.calls ≤ old.config.max_calls
+    → HearsAll (RecordsHeard kept new) [] old new coming (Ok tt)
+    → ((entries : List Entry) → RecordsEntries kept new entries → IsClosedDay day kept new.config entries r)
+    → RecordsDay form (calls_coming day coming) r
 coming-kept form day kept old new coming r fresh for opens room (rs, is, came, holds) closes =
     let calls : List Call = map call_part rs in
     let count : new.calls ≡ old.calls + length rs = ap (λ (a : RunningAuction). a.calls) came in
@@ -68,7 +69,7 @@ coming-kept form day kept old new coming r fresh for opens room (rs, is, came, h
     let entries : entries_heard (heard_from old.config old.state rs) ≡ history_of day.config calls =
     rw fresh (heard-entries day.config (opening_state day.config) rs) in
     let closed : IsClosedDay day kept day.config (history_of day.config calls) r =
-    rw config at (closes (history_of day.config calls) (subst (KeepsEntries kept new) entries holds)) in
+    rw config at (closes (history_of day.config calls) (subst (RecordsEntries kept new) entries holds)) in
     rw is (said_closed form day calls kept r for opens few closed)
 
 -- ---- an order file
@@ -80,11 +81,11 @@ coming-orders day (Err f) = refl
 
 -- ---- a journal
 
-pub entries-said : (form : Form) (day : DayHeader) (bytes : List ℕ) (entries : Entries) (r : Result KeptDay Fault)
-    → journal_of bytes ≡ day_left entries → KeepsDay form (calls_coming entries.day (entries_left entries)) r
-    → KeepsDay form (run_input_of day bytes) r
+pub entries-said : (form : Form) (day : DayHeader) (bytes : List ℕ) (entries : Entries) (r : Result PrintableDay Fault)
+    → journal_of bytes ≡ day_left entries → RecordsDay form (calls_coming entries.day (entries_left entries)) r
+    → RecordsDay form (run_input_of day bytes) r
 entries-said form day bytes entries r is =
-    subst (λ (said : Result DayWithCalls FileFault). KeepsDay form said r) (entries-run day bytes entries is)
+    subst (λ (said : Result DayWithCalls FileFault). RecordsDay form said r) (entries-run day bytes entries is)
 
 -- ---- a history
 
@@ -97,44 +98,49 @@ if-begun (Err (fault.File f)) p = tt
 if-begun (Err (fault.Open f)) p = tt
 
 -- what a day is whose calls are those of a legal history
-record IsListed (listing : Listing) (day : DayHeader) (entries : List Entry) (kept_day : KeptDay) : Type 0 where
-  same : kept_day.day ≡ day
-  form : form_kept kept_day.kept ≡ forms.Listing listing
-  keeps : KeepsWholeDay kept_day.kept kept_day.day.config entries
+record IsListed (listing : Listing) (day : DayHeader) (entries : List Entry) (recorded_day : PrintableDay)
+    : Type 0 where
+  same : recorded_day.day ≡ day
+  form : form_of_recorder recorded_day.kept ≡ forms.Listing listing
+  keeps : RecordsWholeDay recorded_day.kept recorded_day.day.config entries
 
-listed : (listing : Listing) (day : DayHeader) (entries : List Entry) (kept_day : KeptDay)
+listed : (listing : Listing) (day : DayHeader) (entries : List Entry) (recorded_day : PrintableDay)
     → IsLegal day.config entries
-    → KeepsDay (forms.Listing listing) (calls_coming day (silent_all (calls_of entries))) (Ok kept_day)
-    → IsListed listing day entries kept_day
-listed listing day entries kept_day legal (calls, is, (form, opens, few, keeps)) =
+    → RecordsDay (forms.Listing listing) (calls_coming day (silent_all (calls_of entries))) (Ok recorded_day)
+    → IsListed listing day entries recorded_day
+listed listing day entries recorded_day legal (calls, is, (form, opens, few, keeps)) =
     let given : ◌≡◌ {A = DayWithCalls} (record { day = day; calls = map call_part (map silent (calls_of entries)) })
-    (record { day = kept_day.day; calls = calls }) = cc (is) in
-    let same : kept_day.day ≡ day = sym (ap (λ (d : DayWithCalls). d.day) given) in
+    (record { day = recorded_day.day; calls = calls }) = cc (is) in
+    let same : recorded_day.day ≡ day = sym (ap (λ (d : DayWithCalls). d.day) given) in
     let came : calls ≡ calls_of entries =
     sym (ap (λ (d : DayWithCalls). d.calls) given) ∙ silent-calls (calls_of entries) in
-    let history : history_of kept_day.day.config calls ≡ entries =
+    let history : history_of recorded_day.day.config calls ≡ entries =
     rw (same, came) (legal-history day.config entries legal) in
-    record { same = same; form = form; keeps = subst (KeepsWholeDay kept_day.kept kept_day.day.config) history keeps }
+    record {
+      same = same;
+      form = form;
+      keeps = subst (RecordsWholeDay recorded_day.kept recorded_day.day.config) history keeps;
+    }
 
 -- what is kept of it
-pub listing-kept : (listing : Listing) (day : DayHeader) (entries : List Entry) (kept_day : KeptDay)
+pub listing-kept : (listing : Listing) (day : DayHeader) (entries : List Entry) (recorded_day : PrintableDay)
     → IsLegal day.config entries
-    → KeepsDay (forms.Listing listing) (calls_coming day (silent_all (calls_of entries))) (Ok kept_day)
-    → KeepsWholeDay kept_day.kept kept_day.day.config entries
-listing-kept listing day entries kept_day legal kept = (listed listing day entries kept_day legal kept).keeps
+    → RecordsDay (forms.Listing listing) (calls_coming day (silent_all (calls_of entries))) (Ok recorded_day)
+    → RecordsWholeDay recorded_day.kept recorded_day.day.config entries
+listing-kept listing day entries recorded_day legal kept = (listed listing day entries recorded_day legal kept).keeps
 
 -- and printed of it
-pub listing-printed : (listing : Listing) (day : DayHeader) (entries : List Entry) (kept_day : KeptDay)
+pub listing-printed : (listing : Listing) (day : DayHeader) (entries : List Entry) (recorded_day : PrintableDay)
     → IsLegal day.config entries
-    → KeepsDay (forms.Listing listing) (calls_coming day (silent_all (calls_of entries))) (Ok kept_day)
-    → printed (form_kept kept_day.kept) kept_day.day entries ≡ listing_text listing day entries
-listing-printed listing day entries kept_day legal kept =
-    let is = listed listing day entries kept_day legal kept in
+    → RecordsDay (forms.Listing listing) (calls_coming day (silent_all (calls_of entries))) (Ok recorded_day)
+    → printed (form_of_recorder recorded_day.kept) recorded_day.day entries ≡ listing_text listing day entries
+listing-printed listing day entries recorded_day legal kept =
+    let is = listed listing day entries recorded_day legal kept in
     rw (is.form, is.same) refl
 
-pub listing-wide : (listing : Listing) (day : DayHeader) (entries : List Entry) (kept_day : KeptDay)
+pub listing-wide : (listing : Listing) (day : DayHeader) (entries : List Entry) (recorded_day : PrintableDay)
     (r : Result (Unit {0}) Fault) → IsLegal day.config entries
-    → KeepsDay (forms.Listing listing) (calls_coming day (silent_all (calls_of entries))) (Ok kept_day)
-    → IsWideForm (form_kept kept_day.kept) entries → IfBegun r (IsWideListing listing entries)
-listing-wide listing day entries kept_day r legal kept wide =
-    if-begun r (rw (listed listing day entries kept_day legal kept).form at wide)
+    → RecordsDay (forms.Listing listing) (calls_coming day (silent_all (calls_of entries))) (Ok recorded_day)
+    → IsWideForm (form_of_recorder recorded_day.kept) entries → IfBegun r (IsWideListing listing entries)
+listing-wide listing day entries recorded_day r legal kept wide =
+    if-begun r (rw (listed listing day entries recorded_day legal kept).form at wide)

@@ -11,7 +11,7 @@ use Rattle.order_file.specs.File.{FailsAsWanted}
 use Rattle.order_file.specs.declared.fault.FileFault.{FileFault}
 use Rattle.day_road.specs.Heard.{HeardEntry, HearsAll, after_all, heard_from}
 use Rattle.day_road.specs.Inputs.{silent, silent_all}
-use Rattle.program_runs.specs.KeptEntries.{entries_heard}
+use Rattle.program_runs.specs.RecordedEntries.{entries_heard}
 use Rattle.day_tables.specs.AnsweredCalls.{entry_of}
 use Rattle.program_runs.specs.Printed.{entries_from}
 

@@ -26,13 +26,14 @@ use Rattle.order_file.proofs.FirstFieldLaws.{BeginsWith, digit-first}
 use Rattle.settings.specs.declared.types.Form.{Form}
 use Rattle.program_runs.specs.declared.fault.Fault.{Fault}
 use Rattle.program_runs.specs.declared.fault.Fault.TheVariants as fault
-use Rattle.program_runs.specs.declared.kept.Kept.{Kept}
-use Rattle.program_runs.specs.declared.kept_day.KeptDay.{KeptDay}
-use Rattle.program_runs.specs.KeptEntries.{IsClosedDay, KeepsCallsOfText, KeepsDay, KeepsDayOfText, KeepsEntries}
-use Rattle.program_runs.specs.KeptEntries.{KeepsHeard, calls_for, form_kept}
+use Rattle.program_runs.specs.declared.recorder.Recorder.{Recorder}
+use Rattle.program_runs.specs.declared.recorded_day.PrintableDay.{PrintableDay}
+use Rattle.program_runs.specs.RecordedEntries.{IsClosedDay, RecordsCallsOfText, RecordsDay, RecordsDayOfText}
+use Rattle.program_runs.specs.RecordedEntries.{RecordsEntries}
+use Rattle.program_runs.specs.RecordedEntries.{RecordsHeard, calls_for, form_of_recorder}
 use Rattle.program_runs.proofs.BlockRunLaws.{fails-then}
 use Rattle.program_runs.proofs.ComingLaws.{coming-fails, coming-kept, coming-orders}
-use Rattle.program_runs.proofs.KeptLaws.{orders-long}
+use Rattle.program_runs.proofs.RecorderLaws.{orders-long}
 
 -- ---- a file of a day
 
@@ -44,10 +45,11 @@ orders-known day wanted None h = tt
 orders-known day wanted (Some bytes) h = ap (calls_for day) h
 
 -- the file was read whole
-pub file-read : (form : Form) (day : DayHeader) (text : Option (List ℕ)) (bytes : List ℕ) (r : Result KeptDay Fault)
+pub file-read : (form : Form) (day : DayHeader) (text : Option (List ℕ)) (bytes : List ℕ)
+    (r : Result PrintableDay Fault)
     → IfSome text (λ t. within_limit MAX_BYTES t ≡ Ok bytes)
-    → KeepsDay form (calls_for day (calls_of_file day.members day.config.max_calls bytes)) r
-    → KeepsDayOfText form r text (orders_for day)
+    → RecordsDay form (calls_for day (calls_of_file day.members day.config.max_calls bytes)) r
+    → RecordsDayOfText form r text (orders_for day)
 unfolding orders_for file
 file-read form day None bytes r read keeps = (_, keeps, tt)
 file-read form day (Some t) bytes r read keeps = (_, keeps, rw read refl)
@@ -55,7 +57,7 @@ file-read form day (Some t) bytes r read keeps = (_, keeps, rw read refl)
 -- it couldn't be read
 pub file-unread : (form : Form) (day : DayHeader) (text : Option (List ℕ)) (f : FileFault)
     → IfSome text (λ t. FailsAsWanted f (within_limit MAX_BYTES t))
-    → KeepsDayOfText form (Err (fault.File f)) text (orders_for day)
+    → RecordsDayOfText form (Err (fault.File f)) text (orders_for day)
 unfolding orders_for file
 file-unread form day None f h = (Err f, fails-at f (Err f) refl, tt)
 file-unread form day (Some t) f h = (
@@ -67,33 +69,33 @@ file-unread form day (Some t) f h = (
 
 -- memory was refused
 pub said-memory : (form : Form) (text : Option (List ℕ)) (says : List ℕ → Result DayWithCalls FileFault)
-    → KeepsDayOfText form (Err (fault.File faults.NoMemory)) text says
+    → RecordsDayOfText form (Err (fault.File faults.NoMemory)) text says
 said-memory form None says = (Err faults.NoMemory, tt, tt)
 said-memory form (Some bytes) says = (says bytes, tt, refl)
 
 -- what a `?` handed on
 pub said-handed : (form : Form) (text : Option (List ℕ)) (says : List ℕ → Result DayWithCalls FileFault)
-    (r : Result KeptDay Fault) (f : Fault) → IsErrAnd r (λ x. x ≡ f) → KeepsDayOfText form (Err f) text says
-    → KeepsDayOfText form r text says
+    (r : Result PrintableDay Fault) (f : Fault) → IsErrAnd r (λ x. x ≡ f) → RecordsDayOfText form (Err f) text says
+    → RecordsDayOfText form r text says
 said-handed form text says (Ok kept) f is keeps = absurd is
 said-handed form text says (Err e) f is keeps =
-    subst (λ (x : Fault). KeepsDayOfText form (Err x) text says) (sym is) keeps
+    subst (λ (x : Fault). RecordsDayOfText form (Err x) text says) (sym is) keeps
 
 -- ---- the start of an input
 
-pub start-said : (form : Form) (start : List ℕ) (a b : Option (List ℕ)) (r : Result KeptDay Fault) (says : List ℕ
+pub start-said : (form : Form) (start : List ℕ) (a b : Option (List ℕ)) (r : Result PrintableDay Fault) (says : List ℕ
     → Result DayWithCalls FileFault) → Consumes a b start
-    → KeepsDayOfText form r (prepend_known start b) says → KeepsDayOfText form r a says
+    → RecordsDayOfText form r (prepend_known start b) says → RecordsDayOfText form r a says
 start-said form start None b r says read (said, keeps, known) = (said, keeps, tt)
 start-said form start (Some xs) None r says read h = absurd read
 start-said form start (Some xs) (Some ys) r says read (said, keeps, known) = (said, keeps, known ∙ ap says (sym read))
 
 pub start-unread : (form : Form) (text : Option (List ℕ)) (f : FileFault) (says : List ℕ
     → Result DayWithCalls FileFault)
-    → (f ≡ faults.ReadFailed) ⊎ (f ≡ faults.NoMemory) → KeepsDayOfText form (Err (fault.File f)) text says
+    → (f ≡ faults.ReadFailed) ⊎ (f ≡ faults.NoMemory) → RecordsDayOfText form (Err (fault.File f)) text says
 start-unread form text f says (inl is) = rw is (by_option text)
   where
-    by_option : (text : Option (List ℕ)) → KeepsDayOfText form (Err (fault.File faults.ReadFailed)) text says
+    by_option : (text : Option (List ℕ)) → RecordsDayOfText form (Err (fault.File faults.ReadFailed)) text says
     by_option None = (Err faults.ReadFailed, tt, tt)
     by_option (Some bytes) = (says bytes, tt, refl)
 start-unread form text f says (inr is) = rw is (said-memory form text says)
@@ -122,10 +124,10 @@ digit-run_input day d rest low high = by_less (nat_lt MAX_JOURNAL_BYTES (length 
         rw e (orders-long day (d ∷ rest) (omega (arith, long)))
     by_less false e = rw (e, digit-journal d rest low high) refl
 
-digit-said : (form : Form) (day : DayHeader) (start : List ℕ) (b : Option (List ℕ)) (r : Result KeptDay Fault)
+digit-said : (form : Form) (day : DayHeader) (start : List ℕ) (b : Option (List ℕ)) (r : Result PrintableDay Fault)
     → ((digit : ℕ) × (rest : List ℕ) × (start ≡ digit ∷ rest) × (48 ≤ digit) × (digit ≤ 57))
-    → KeepsDayOfText form r (prepend_known start b) (orders_for day)
-    → KeepsDayOfText form r (prepend_known start b) (run_input day)
+    → RecordsDayOfText form r (prepend_known start b) (orders_for day)
+    → RecordsDayOfText form r (prepend_known start b) (run_input day)
 digit-said form day start None r digit (said, keeps, known) = (said, keeps, tt)
 digit-said form day start (Some left) r (d, rest, is, low, high) (said, keeps, known) = (
   said,
@@ -138,19 +140,19 @@ digit-said form day start (Some left) r (d, rest, is, low, high) (said, keeps, k
 
 -- what it says is what the input says, which begins with its start
 pub begun-said : (form : Form) (day : DayHeader) (left rest : Option (List ℕ)) (start : List ℕ)
-    (r : Result KeptDay Fault) → Consumes left rest start
+    (r : Result PrintableDay Fault) → Consumes left rest start
     → ((digit : ℕ) × (more : List ℕ) × (start ≡ digit ∷ more) × (48 ≤ digit) × (digit ≤ 57))
-    → KeepsDayOfText form r (prepend_known start rest) (orders_for day) → KeepsDayOfText form r left (run_input day)
+    → RecordsDayOfText form r (prepend_known start rest) (orders_for day) → RecordsDayOfText form r left (run_input day)
 begun-said form day left rest start r read digit keeps =
     start-said form start left rest r (run_input day) read (digit-said form day start rest r digit keeps)
 
 -- ---- what its blocks say
 
 -- a fault of it
-pub blocks-stop : (kept : Kept) (old new : RunningAuction) (r : Result (Unit {0}) FileFault)
+pub blocks-stop : (kept : Recorder) (old new : RunningAuction) (r : Result (Unit {0}) FileFault)
     (f : FileFault) (text : Option (List ℕ)) (members : ℕ) → IsErrAnd r (λ x. x ≡ f)
     → IfSome text (λ bytes. FailsAsWanted f (file bytes members old.config.max_calls))
-    → KeepsCallsOfText (KeepsHeard kept new) old new r text members
+    → RecordsCallsOfText (RecordsHeard kept new) old new r text members
 blocks-stop kept old new (Ok u) f text members is fails = absurd is
 blocks-stop kept old new (Err e) f None members is fails = (Err e, fails-at e (Err e) refl, tt)
 blocks-stop kept old new (Err e) f (Some bytes) members is fails = (
@@ -161,43 +163,45 @@ blocks-stop kept old new (Err e) f (Some bytes) members is fails = (
 )
 
 -- all of its calls
-pub blocks-end : (kept : Kept) (old new : RunningAuction) (calls : List Call)
+pub blocks-end : (kept : Recorder) (old new : RunningAuction) (calls : List Call)
     (text : Option (List ℕ)) (members : ℕ) → IfSome text (λ bytes. file bytes members old.config.max_calls ≡ Ok calls)
-    → new ≡ after_all old (map silent calls) → KeepsHeard kept new (heard_from old.config old.state (map silent calls))
-    → KeepsCallsOfText (KeepsHeard kept new) old new (Ok tt) text members
+    → new ≡ after_all old (map silent calls)
+    → RecordsHeard kept new (heard_from old.config old.state (map silent calls))
+    → RecordsCallsOfText (RecordsHeard kept new) old new (Ok tt) text members
 blocks-end kept old new calls None members says came holds = (Ok calls, (map silent calls, refl, came, holds), tt)
 blocks-end kept old new calls (Some bytes) members says came holds =
     (Ok calls, (map silent calls, refl, came, holds), sym says)
 
 -- its calls came to the auction, and the day was closed
-pub blocks-kept : (form : Form) (day : DayHeader) (kept : Kept) (old new : RunningAuction) (text : Option (List ℕ))
-    (r : Result KeptDay Fault) → old ≡ opened_auction day.config → form_kept kept ≡ form
+pub blocks-kept : (form : Form) (day : DayHeader) (kept : Recorder) (old new : RunningAuction) (text : Option (List ℕ))
+    (r : Result PrintableDay Fault) → old ≡ opened_auction day.config → form_of_recorder kept ≡ form
     → open_fault day.config ≡ None → new.calls ≤ old.config.max_calls
-    → KeepsCallsOfText (KeepsHeard kept new) old new (Ok tt) text day.members
-    → ((entries : List Entry) → KeepsEntries kept new entries → IsClosedDay day kept new.config entries r)
-    → KeepsDayOfText form r text (orders_for day)
+    → RecordsCallsOfText (RecordsHeard kept new) old new (Ok tt) text day.members
+    → ((entries : List Entry) → RecordsEntries kept new entries → IsClosedDay day kept new.config entries r)
+    → RecordsDayOfText form r text (orders_for day)
 blocks-kept form day kept old new text r fresh for opens room (wanted, heard, known) closes = (
   calls_for day wanted,
-  subst (λ (said : Result DayWithCalls FileFault). KeepsDay form said r) (coming-orders day wanted)
+  subst (λ (said : Result DayWithCalls FileFault). RecordsDay form said r) (coming-orders day wanted)
       (coming-kept form day kept old new (wanted >>= silent_all) r fresh for opens room heard closes),
   orders-known day wanted text (rw fresh at known),
 )
 
 -- it has a fault
-pub blocks-failed : (form : Form) (day : DayHeader) (kept : Kept) (old new : RunningAuction)
-    (text : Option (List ℕ)) (f : FileFault) (r : Result KeptDay Fault) → old ≡ opened_auction day.config
-    → IsErrAnd r (λ x. x ≡ fault.File f) → KeepsCallsOfText (KeepsHeard kept new) old new (Err f) text day.members
-    → KeepsDayOfText form r text (orders_for day)
+pub blocks-failed : (form : Form) (day : DayHeader) (kept : Recorder) (old new : RunningAuction)
+    (text : Option (List ℕ)) (f : FileFault) (r : Result PrintableDay Fault) → old ≡ opened_auction day.config
+    → IsErrAnd r (λ x. x ≡ fault.File f) → RecordsCallsOfText (RecordsHeard kept new) old new (Err f) text day.members
+    → RecordsDayOfText form r text (orders_for day)
 blocks-failed form day kept old new text f r fresh is (wanted, fails, known) =
     said-handed form text (orders_for day) r (fault.File f) is (
       calls_for day wanted,
-      subst (λ (said : Result DayWithCalls FileFault). KeepsDay form said (Err (fault.File f)))
+      subst (λ (said : Result DayWithCalls FileFault). RecordsDay form said (Err (fault.File f)))
           (coming-orders day wanted) (coming-fails form day (wanted >>= silent_all) f fails),
       orders-known day wanted text (rw fresh at known),
     )
 
 -- memory that was refused at a day's end is no failed read
-pub closed-read : (day : DayHeader) (kept : Kept) (config : Config) (entries : List Entry) (r : Result KeptDay Fault)
+pub closed-read : (day : DayHeader) (kept : Recorder) (config : Config) (entries : List Entry) (r
+    : Result PrintableDay Fault)
     → IsClosedDay day kept config entries r → IsErrOf r (fault.File faults.ReadFailed) → ⊥
 closed-read day kept config entries (Ok closed) is e = absurd (cc (e))
 closed-read day kept config entries (Err f) is e = absurd (cc (is, e))

@@ -5,9 +5,9 @@ pub mod PlayedDayLaws
 pub mod EntriesLaws
 pub mod OwedLaws
 pub mod PrintedJournalLaws
-pub mod KeptLaws
+pub mod RecorderLaws
 pub mod LiveLaws
-pub mod KeptLiveLaws
+pub mod JournaledLiveLaws
 pub mod ServedLaws
 pub mod BlockRunLaws
 pub mod FileSaidLaws

@@ -5,7 +5,7 @@ use Rattle.auction_terms.specs.Auxiliary.RunningAuction.{RunningAuction, opened_
 use Rattle.auction.specs.ConfigFault.{open_fault}
 use Rattle.auction.specs.declared.OpenFault.{OpenFault}
 use Rattle.journal.specs.declared.day.DayHeader.{DayHeader}
-use Rattle.kept_session.proofs.KeptRunLaws.{as-ends, seen_as}
+use Rattle.live_session.proofs.JournaledRunLaws.{as-ends, seen_as}
 use Rattle.live_session.specs.Talk.{EndsSession}
 use Rattle.live_session.specs.declared.conversation.Conversation.{Ghosts}
 use Rattle.live_session.specs.declared.fault.Ending.{Ending}

@@ -17,10 +17,10 @@ use Rattle.board_terms.specs.Closings.{IsAccount, IsClosing}
 use Rattle.board_terms.specs.BoardOpening.{newcomers}
 use Rattle.board_terms.specs.MemberView.{PlacedCall, MemberView}
 use Rattle.board_terms.specs.declared.closing.Closing.{Closing}
-use Rattle.member_floor.specs.declared.script.Script.{Script}
-use Rattle.member_floor.specs.declared.threads.RunFault.{RunFault}
-use Rattle.member_floor.specs.PlaysScript.{AllPlayScripts, FitsMembers, PlayedScript, PlaysScript, HaveSameNumbers}
-use Rattle.member_floor.specs.PlaysScript.{recorded_calls}
+use Rattle.member_board.specs.declared.script.Script.{Script}
+use Rattle.member_board.specs.declared.threads.RunFault.{RunFault}
+use Rattle.member_board.specs.PlaysScript.{AllPlayScripts, FitsMembers, PlayedScript, PlaysScript, HaveSameNumbers}
+use Rattle.member_board.specs.PlaysScript.{recorded_calls}
 use Rattle.program_runs.specs.declared.fault.Fault.{Fault}
 use Rattle.program_runs.specs.declared.fault.Fault.TheVariants as fault
 use Rattle.program_runs.specs.BoardRun.{IsDayOf, IsSplit, commands_of, calls_of_members}

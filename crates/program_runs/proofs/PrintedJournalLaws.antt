@@ -21,7 +21,7 @@ use Rattle.journal.specs.WideReplies.{AreWide}
 use Rattle.journal.specs.declared.day.DayHeader.{DayHeader}
 use Rattle.journal.proofs.RunInputFitLaws.{run_input-fits}
 use Rattle.journal.proofs.JournalSizeLaws.{reads-history}
-use Rattle.kept_session.proofs.KeptPromiseLaws.{are-whole}
+use Rattle.live_session.proofs.JournaledPromiseLaws.{are-whole}
 use Rattle.program_runs.specs.AuditRun.{finish_of}
 use Rattle.program_runs.specs.BoardRun.{commands_of}
 use Rattle.program_runs.specs.PrintedJournals.{AuctionJournalsAreLawful, BoardJournalsAreLawful, IsAuditedLawful}

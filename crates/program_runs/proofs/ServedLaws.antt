@@ -10,7 +10,7 @@ use Rattle.journal.specs.declared.day.DayHeader.{DayHeader}
 use Rattle.live_session.specs.declared.fault.Ending.TheVariants.{AllGood, SomeBad}
 use Rattle.order_file.specs.declared.fault.FileFault.{FileFault}
 use Rattle.order_file.specs.declared.fault.FileFault.TheVariants as file
-use Rattle.settings.specs.CommandLine.{AcceptsWords}
+use Rattle.settings.specs.CommandLine.{AcceptsArguments}
 use Rattle.settings.specs.Ranges.{IsInRange}
 use Rattle.settings.specs.declared.types.JournalFile.{JournalFile}
 use Rattle.settings.specs.declared.types.Settings.{Settings}
@@ -20,11 +20,11 @@ use Rattle.program_runs.specs.AuctionRun.{auction_job}
 use Rattle.program_runs.specs.AuditRun.{audit_job}
 use Rattle.program_runs.specs.BoardRun.{board_job}
 use Rattle.program_runs.specs.FileRun.{Ends, IsRunOf, Job}
-use Rattle.program_runs.specs.KeptLive.{JournalFiles, RunsKeptSession}
+use Rattle.program_runs.specs.JournaledLive.{JournalFiles, RunsJournaledSession}
 use Rattle.program_runs.specs.LiveRun.{RunsLive, SessionResult, session_status}
-use Rattle.program_runs.specs.Served.{AnswersFault, DoesTask, ServesWords, ServesSettings}
+use Rattle.program_runs.specs.Served.{AnswersFault, DoesTask, ServesArguments, ServesSettings}
 use Rattle.program_runs.specs.Served.{day_of_settings}
-use Rattle.program_runs.specs.Served.{is_session, words_status}
+use Rattle.program_runs.specs.Served.{is_session, arguments_status}
 use Rattle.program_runs.specs.Status.{RunResult, file_status, open_status, run_status}
 use Rattle.program_runs.specs.declared.fault.Fault.TheVariants as fault
 use Rattle.program_runs.specs.declared.fault.Finish.TheVariants.{Incomplete, Lawful, Unlawful}
@@ -160,17 +160,18 @@ does-small files day (Some file) (Live reserve) ends status h = omega (arith, h.
 -- a session with a journal
 pub does-kept : {D : Type 0} (files : JournalFiles D) (day : DayHeader) (journal : Option JournalFile)
     (file : JournalFile) (reserve : ℕ) (ends : Ends) (status : ℕ) → journal ≡ Some file
-    → RunsKeptSession files file day reserve ends status → DoesTask files day journal (Live reserve) ends status
+    → RunsJournaledSession files file day reserve ends status → DoesTask files day journal (Live reserve) ends status
 does-kept files day journal file reserve ends status is h = rw is h
 
--- ---- the words
+-- ---- the arguments
 
 -- settings that were served
-pub serves-settings : {D : Type 0} (files : JournalFiles D) (words : List Text) (s : Settings) (task : Task)
+pub serves-settings : {D : Type 0} (files : JournalFiles D) (arguments : List Text) (s : Settings) (task : Task)
     (ends : Ends) (status : ℕ)
-    → AcceptsWords words s → IsInRange s → s.task ≡ task → DoesTask files (day_of_settings s) s.journal task ends status
-    → ServesWords files words ends status
-serves-settings files words s task ends status accepts ranges is h =
+    → AcceptsArguments arguments s → IsInRange s → s.task ≡ task
+    → DoesTask files (day_of_settings s) s.journal task ends status
+    → ServesArguments files arguments ends status
+serves-settings files arguments s task ends status accepts ranges is h =
     let does : ServesSettings files s ends status =
     subst (λ (t : Task). DoesTask files (day_of_settings s) s.journal t ends status) (sym is) h in
     record {
@@ -190,42 +191,43 @@ not-help n status (inl is) fails kept (inr e) = kept (λ z. omega (arith, is, e,
 not-help n status (inr f) fails kept (inl e) = let late = fails f in absurd (omega (arith, late, e))
 not-help n status (inr f) fails kept (inr e) = let late = fails f in absurd (omega (arith, late, e))
 
-words-small : (kind : ErrorKind) → words_status kind ≤ 5
-words-small kinds.InvalidValue = omega arith
-words-small kinds.UnknownArgument = omega arith
-words-small kinds.InvalidSubcommand = omega arith
-words-small kinds.NoEquals = omega arith
-words-small kinds.ValueValidation = omega arith
-words-small kinds.TooManyValues = omega arith
-words-small kinds.TooFewValues = omega arith
-words-small kinds.WrongNumberOfValues = omega arith
-words-small kinds.ArgumentConflict = omega arith
-words-small kinds.MissingRequiredArgument = omega arith
-words-small kinds.MissingSubcommand = omega arith
-words-small kinds.DisplayHelp = omega arith
-words-small kinds.DisplayHelpOnMissingArgumentOrSubcommand = omega arith
-words-small kinds.DisplayVersion = omega arith
-words-small kinds.Io = omega arith
-words-small kinds.Format = omega arith
-words-small kinds.OutOfMemory = omega arith
+arguments-small : (kind : ErrorKind) → arguments_status kind ≤ 5
+arguments-small kinds.InvalidValue = omega arith
+arguments-small kinds.UnknownArgument = omega arith
+arguments-small kinds.InvalidSubcommand = omega arith
+arguments-small kinds.NoEquals = omega arith
+arguments-small kinds.ValueValidation = omega arith
+arguments-small kinds.TooManyValues = omega arith
+arguments-small kinds.TooFewValues = omega arith
+arguments-small kinds.WrongNumberOfValues = omega arith
+arguments-small kinds.ArgumentConflict = omega arith
+arguments-small kinds.MissingRequiredArgument = omega arith
+arguments-small kinds.MissingSubcommand = omega arith
+arguments-small kinds.DisplayHelp = omega arith
+arguments-small kinds.DisplayHelpOnMissingArgumentOrSubcommand = omega arith
+arguments-small kinds.DisplayVersion = omega arith
+arguments-small kinds.Io = omega arith
+arguments-small kinds.Format = omega arith
+arguments-small kinds.OutOfMemory = omega arith
 
-few-of-words : {W : Type 0} (kind : ErrorKind) (status : ℕ) → (status ≡ words_status kind) ⊎ W → (W → status ≡ 3)
+few-of-arguments : {W : Type 0} (kind : ErrorKind) (status : ℕ) → (status ≡ arguments_status kind) ⊎ W → (W
+    → status ≡ 3)
     → status ≤ 5
-few-of-words kind status (inl is) fails = rw is (words-small kind)
-few-of-words kind status (inr f) fails = let late = fails f in omega (arith, late)
+few-of-arguments kind status (inl is) fails = rw is (arguments-small kind)
+few-of-arguments kind status (inr f) fails = let late = fails f in omega (arith, late)
 
--- words that say none
-pub serves-words : {D : Type 0} (files : JournalFiles D) (words : List Text) (ends : Ends) (status : ℕ)
-    → AnswersFault words ends status
-    → ServesWords files words ends status
-serves-words files words ends status (inl h) = record {
+-- arguments that say none
+pub serves-arguments : {D : Type 0} (files : JournalFiles D) (arguments : List Text) (ends : Ends) (status : ℕ)
+    → AnswersFault arguments ends status
+    → ServesArguments files arguments ends status
+serves-arguments files arguments ends status (inl h) = record {
   answer = inr (inl h);
-  quiet = λ q. not-help (words_status h.kind) status h.status_is h.write_failed h.kept (one-or-two status q refl);
+  quiet = λ q. not-help (arguments_status h.kind) status h.status_is h.write_failed h.kept (one-or-two status q refl);
   read_failed = λ f. absurd (h.none_read f);
   write_failed = h.write_failed;
-  few = few-of-words h.kind status h.status_is h.write_failed;
+  few = few-of-arguments h.kind status h.status_is h.write_failed;
 }
-serves-words files words ends status (inr h) = record {
+serves-arguments files arguments ends status (inr h) = record {
   answer = inr (inr h);
   quiet = λ q. h.kept;
   read_failed = λ f. absurd (h.none_read f);

@@ -14,8 +14,8 @@ use Rattle.auction_terms.specs.declared.limits.TheConstants.{MAX_CALLS}
 use Rattle.board_terms.specs.BoardOpening.{newcomers}
 use Rattle.board_terms.specs.MemberView.{PlacedCall, MemberView, placed_calls_from, placed_call}
 use Rattle.board_terms.specs.declared.calls.Receipt.{Receipt}
-use Rattle.member_floor.specs.declared.script.Script.{Script}
-use Rattle.member_floor.specs.PlaysScript.{FitsMembers, HaveSameNumbers, recorded_calls}
+use Rattle.member_board.specs.declared.script.Script.{Script}
+use Rattle.member_board.specs.PlaysScript.{FitsMembers, HaveSameNumbers, recorded_calls}
 use Rattle.program_runs.specs.BoardRun.{IsSplit, commands_of, calls_of_members}
 
 -- ---- the calls of numbers from some number on

@@ -10,7 +10,7 @@ use Rattle.auction_terms.specs.Day.{IsLegal, calls_of}
 use Rattle.auction.specs.Audits.{IsFirstBad}
 use Rattle.board_terms.specs.BoardOpening.{board_fault}
 use Rattle.board_terms.specs.declared.closing.Closing.{Closing}
-use Rattle.member_floor.specs.declared.script.Script.{Script}
+use Rattle.member_board.specs.declared.script.Script.{Script}
 use Rattle.journal.specs.DayWithCalls.{DayWithCalls, run_input}
 use Rattle.journal.specs.declared.day.DayHeader.{DayHeader}
 use Rattle.printed_lines.specs.Tally.{history_lines, tally}

@@ -1,13 +1,13 @@
 pub mod Status
 pub mod FaultLine
 pub mod FileRun
-pub mod KeptEntries
+pub mod RecordedEntries
 pub mod Printed
 pub mod AuditRun
 pub mod AuctionRun
 pub mod BoardRun
 pub mod PlayedDay
 pub mod LiveRun
-pub mod KeptLive
+pub mod JournaledLive
 pub mod Served
 pub mod PrintedJournals

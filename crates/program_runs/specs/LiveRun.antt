@@ -5,7 +5,7 @@ use Rattle.auction.specs.ConfigFault.{open_fault}
 use Rattle.auction.specs.declared.OpenFault.{OpenFault}
 use Rattle.auction.specs.declared.OpenFault.TheVariants.{NoMemory}
 use Rattle.journal.specs.declared.day.DayHeader.{DayHeader}
-use Rattle.kept_session.specs.KeptRun.{KeptEnds, kept_ends}
+use Rattle.live_session.specs.JournaledRun.{SessionEnds, kept_ends}
 use Rattle.live_session.specs.Talk.{EndsSession}
 use Rattle.live_session.specs.declared.fault.Ending.{Ending}
 use Rattle.live_session.specs.declared.fault.Ending.TheVariants.{AllGood, SomeBad}
@@ -46,8 +46,8 @@ terms_of day reserve = record { members = day.members; reserve = reserve }
 -- A session ran between these ends, on an auction that began so.
 pub record HasRunSession (terms : SessionTerms) (start : RunningAuction) (ends : Ends) (ended : Result Ending LiveFault)
     : Type 0 where
-  pub before : KeptEnds
-  pub after : KeptEnds
+  pub before : SessionEnds
+  pub after : SessionEnds
   pub session : EndsSession kept_ends terms start before after ended
   pub left : ends.left ≡ before.left
   pub rest : ends.rest ≡ after.left

@@ -4,10 +4,10 @@ use Rattle.auction_terms.specs.declared.Config.{Config}
 use Rattle.auction_terms.specs.Day.{IsLegal, calls_of}
 use Rattle.auction.specs.declared.OpenFault.TheVariants.{NoMemory}
 use Rattle.board_terms.specs.declared.closing.Closing.{Closing}
-use Rattle.member_floor.specs.declared.script.Script.{Script}
-use Rattle.member_floor.specs.declared.threads.RunFault.{RunFault}
-use Rattle.member_floor.specs.declared.threads.RunFault.TheVariants as run
-use Rattle.member_floor.specs.PlaysScript.{PlayedScript}
+use Rattle.member_board.specs.declared.script.Script.{Script}
+use Rattle.member_board.specs.declared.threads.RunFault.{RunFault}
+use Rattle.member_board.specs.declared.threads.RunFault.TheVariants as run
+use Rattle.member_board.specs.PlaysScript.{PlayedScript}
 use Rattle.program_runs.specs.declared.fault.Fault.{Fault}
 use Rattle.program_runs.specs.declared.fault.Fault.TheVariants as fault
 use Rattle.program_runs.specs.BoardRun.{commands_of}

@@ -1,4 +1,4 @@
--- What the program answers to its words.
+-- What the program answers to its arguments.
 use Rattle.std.specs.Prelude.{◌≡◌, Option, ◌≤◌, ◌≢◌, ◌⊎◌, ℕ, List, Some, None, Bool, true, false}
 use Rattle.clap.specs.Kinds.{IsAmong}
 use Rattle.clap.specs.Simple.{matches_of}
@@ -10,12 +10,12 @@ use Rattle.journal_file.specs.OpenedFile.{has_syncs, opened_file}
 use Rattle.journal_file.specs.Tracked.{tracked_device}
 use Rattle.journal_file.specs.declared.file.Opened.{Opened}
 use Rattle.journal_file.specs.declared.tracked.Tracked.{Tracked}
-use Rattle.settings.specs.CommandLine.{AcceptsWords, RefusesWords, words_kinds}
+use Rattle.settings.specs.CommandLine.{AcceptsArguments, RefusesArguments, argument_kinds}
 use Rattle.settings.specs.Options.{callboard}
 use Rattle.settings.specs.Ranges.{IsInRange}
 use Rattle.settings.specs.Tasks.{task_at}
-use Rattle.settings.specs.declared.fault.WordsFault.TheVariants.{AuditNotAlone, LiveNotAlone, ResultsWithoutAudit}
-use Rattle.settings.specs.declared.fault.WordsFault.TheVariants.{SyncWithoutJournal, WithoutLive}
+use Rattle.settings.specs.declared.fault.ArgumentsFault.TheVariants.{AuditNotAlone, LiveNotAlone, ResultsWithoutAudit}
+use Rattle.settings.specs.declared.fault.ArgumentsFault.TheVariants.{SyncWithoutJournal, WithoutLive}
 use Rattle.settings.specs.declared.types.JournalFile.{JournalFile}
 use Rattle.settings.specs.declared.types.Settings.{Settings}
 use Rattle.settings.specs.declared.types.Task.{Task}
@@ -24,7 +24,7 @@ use Rattle.program_runs.specs.AuctionRun.{auction_job}
 use Rattle.program_runs.specs.AuditRun.{audit_job}
 use Rattle.program_runs.specs.BoardRun.{board_job}
 use Rattle.program_runs.specs.FileRun.{Ends, Job, IsRunOf, ends_by}
-use Rattle.program_runs.specs.KeptLive.{JournalFiles, RunsKeptSession, files_of}
+use Rattle.program_runs.specs.JournaledLive.{JournalFiles, RunsJournaledSession, files_of}
 use Rattle.program_runs.specs.LiveRun.{SessionResult, RunsLive, session_status}
 use Rattle.program_runs.specs.Status.{RunResult, run_status}
 
@@ -43,7 +43,7 @@ DoesTask files day journal (Run form) = RunsJobForStatus (auction_job day form)
 DoesTask files day journal (Floor form) = RunsJobForStatus (board_job day form)
 DoesTask files day journal (Audit results) = RunsJobForStatus (audit_job results)
 DoesTask files day None (Live reserve) = RunsSession day reserve
-DoesTask files day (Some file) (Live reserve) = RunsKeptSession files file day reserve
+DoesTask files day (Some file) (Live reserve) = RunsJournaledSession files file day reserve
 
 -- the day that the settings say
 abbrev pub day_of_settings : Settings → DayHeader
@@ -53,43 +53,43 @@ day_of_settings s = record { config = s.config; members = s.members }
 abbrev pub ServesSettings : {D : Type 0} → JournalFiles D → Settings → Ends → ℕ → Type 0
 ServesSettings files s = DoesTask files (day_of_settings s) s.journal s.task
 
--- 0 where the words ask for help, 3 for refused memory, and 2 where the words are wrong
-abbrev pub words_status : ErrorKind → ℕ
-words_status DisplayHelp = 0
-words_status DisplayVersion = 0
-words_status OutOfMemory = 3
-words_status kind = 2
+-- 0 where the arguments ask for help, 3 for refused memory, and 2 where the arguments are wrong
+abbrev pub arguments_status : ErrorKind → ℕ
+arguments_status DisplayHelp = 0
+arguments_status DisplayVersion = 0
+arguments_status OutOfMemory = 3
+arguments_status kind = 2
 
--- The words ask for help or are wrong, or memory was wanted to read or to answer them. The status says so, or is 3
+-- The arguments ask for help or are wrong, or memory was wanted to read or to answer them. The status says so, or is 3
 -- where the help couldn't be printed; nothing but help is printed, and nothing is read.
-pub record AnswersWords (words : List Text) (ends : Ends) (status : ℕ) : Type 0 where
+pub record AnswersArguments (arguments : List Text) (ends : Ends) (status : ℕ) : Type 0 where
   pub kind : ErrorKind
-  pub one_of : (kind ≡ OutOfMemory) ⊎ IsAmong kind (words_kinds words)
-  pub status_is : (status ≡ words_status kind) ⊎ ends.WriteFailed
-  pub kept : words_status kind ≢ 0 → ends.new ≡ ends.old
+  pub one_of : (kind ≡ OutOfMemory) ⊎ IsAmong kind (argument_kinds arguments)
+  pub status_is : (status ≡ arguments_status kind) ⊎ ends.WriteFailed
+  pub kept : arguments_status kind ≢ 0 → ends.new ≡ ends.old
   pub none_read : ends.ReadFailed → ⊥
   pub write_failed : ends.WriteFailed → status ≡ 3
 
--- The words ask for an audit that isn't alone, for answers as records come that aren't, or for what goes with either
--- without it. The status is 2; nothing is printed, and nothing is read.
-pub record RefusesMix (words : List Text) (ends : Ends) (status : ℕ) : Type 0 where
-  pub refused : RefusesWords words AuditNotAlone
-      ⊎ (RefusesWords words LiveNotAlone ⊎ (RefusesWords words ResultsWithoutAudit
-      ⊎ (RefusesWords words WithoutLive ⊎ RefusesWords words SyncWithoutJournal)))
+-- The arguments ask for an audit that isn't alone, for answers as records come that aren't, or for what goes with
+-- either without it. The status is 2; nothing is printed, and nothing is read.
+pub record RefusesMix (arguments : List Text) (ends : Ends) (status : ℕ) : Type 0 where
+  pub refused : RefusesArguments arguments AuditNotAlone
+      ⊎ (RefusesArguments arguments LiveNotAlone ⊎ (RefusesArguments arguments ResultsWithoutAudit
+      ⊎ (RefusesArguments arguments WithoutLive ⊎ RefusesArguments arguments SyncWithoutJournal)))
   pub status_is : status ≡ 2
   pub kept : ends.new ≡ ends.old
   pub none_read : ends.ReadFailed → ⊥
   pub none_written : ends.WriteFailed → ⊥
 
--- words that say no settings were answered
+-- arguments that say no settings were answered
 abbrev pub AnswersFault : List Text → Ends → ℕ → Type 0
-AnswersFault words ends status = AnswersWords words ends status ⊎ RefusesMix words ends status
+AnswersFault arguments ends status = AnswersArguments arguments ends status ⊎ RefusesMix arguments ends status
 
--- the words say settings, each in its range, which were served, or they were answered
+-- the arguments say settings, each in its range, which were served, or they were answered
 abbrev pub AnswersCommandLine : {D : Type 0} → JournalFiles D → List Text → Ends → ℕ → Type 0
-AnswersCommandLine files words ends status =
-    ((s : Settings) × AcceptsWords words s × IsInRange s × ServesSettings files s ends status)
-    ⊎ AnswersFault words ends status
+AnswersCommandLine files arguments ends status =
+    ((s : Settings) × AcceptsArguments arguments s × IsInRange s × ServesSettings files s ends status)
+    ⊎ AnswersFault arguments ends status
 
 -- records are answered as they come
 abbrev pub is_session : Option Task → Bool
@@ -98,14 +98,15 @@ is_session task = false
 
 -- a bad command line or bounds, or a bad input but for one whose records are answered as they come
 abbrev pub IsQuiet : List Text → ℕ → Type 0
-IsQuiet words status = (status ≡ 2) ⊎ ((status ≡ 1) × (is_session (task_at (matches_of callboard words)) ≡ false))
+IsQuiet arguments status = (status ≡ 2) ⊎ ((status ≡ 1)
+    × (is_session (task_at (matches_of callboard arguments)) ≡ false))
 
--- What the program does on these words, and what that says of its status: a bad command line or input prints nothing
--- but in a session, and a read or a write that fails is 3.
-pub record ServesWords {D : Type 0} (files : JournalFiles D) (words : List Text) (ends : Ends) (status : ℕ)
+-- What the program does on these arguments, and what that says of its status: a bad command line or input prints
+-- nothing but in a session, and a read or a write that fails is 3.
+pub record ServesArguments {D : Type 0} (files : JournalFiles D) (arguments : List Text) (ends : Ends) (status : ℕ)
     : Type 0 where
-  pub answer : AnswersCommandLine files words ends status
-  pub quiet : IsQuiet words status → ends.new ≡ ends.old
+  pub answer : AnswersCommandLine files arguments ends status
+  pub quiet : IsQuiet arguments status → ends.new ≡ ends.old
   pub read_failed : ends.ReadFailed → status ≡ 3
   pub write_failed : ends.WriteFailed → status ≡ 3
   pub few : status ≤ 5
@@ -118,9 +119,9 @@ OpensAsAsked file device = has_syncs device ≡ file.is_synced
 abbrev pub host_files : Option (Tracked Opened) → JournalFiles (Tracked Opened)
 host_files left = files_of (tracked_device opened_file) OpensAsAsked (λ file fault. Unit {0}) left
 
--- a status that the program answers to some words with some ends
+-- a status that the program answers to some arguments with some ends
 abbrev pub IsAnswer : ℕ → Type 0
-IsAnswer status = (words : List Text) × (left rest old new : Option (List ℕ))
+IsAnswer status = (arguments : List Text) × (left rest old new : Option (List ℕ))
     × (reads reads_after writes writes_after : ℕ) × (file : Option (Tracked Opened))
-    × AnswersCommandLine (host_files file) words (ends_by left rest old new reads reads_after writes writes_after)
+    × AnswersCommandLine (host_files file) arguments (ends_by left rest old new reads reads_after writes writes_after)
     status

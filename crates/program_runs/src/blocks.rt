@@ -9,12 +9,13 @@ ghost use Rattle.day_road.specs.Heard.{HeardEntry, HearsAll};
 ghost use Rattle.journal.specs.DayWithCalls.{orders_for};
 ghost use Rattle.order_file.specs.Blocks.{OpensBlock, block_rows};
 ghost use Rattle.order_file.specs.File.{IsOfRecord, calls_after, calls_of_file};
-ghost use Rattle.program_runs.specs.KeptEntries.{KeepsCallsOfText, KeepsDay, KeepsDayOfText, KeepsHeard, calls_for};
-ghost use Rattle.program_runs.specs.KeptEntries.{form_kept, unanswered};
+ghost use Rattle.program_runs.specs.RecordedEntries.{RecordsCallsOfText, RecordsDay, RecordsDayOfText, RecordsHeard};
+ghost use Rattle.program_runs.specs.RecordedEntries.{calls_for};
+ghost use Rattle.program_runs.specs.RecordedEntries.{form_of_recorder, unanswered};
 
 use crate::fault::Fault;
-use crate::kept::Kept;
-use crate::kept_day::{KeptDay, close_day};
+use crate::recorded_day::{PrintableDay, close_day};
+use crate::recorder::Recorder;
 use crate::whole_input::refused;
 use auction::{Auction, OpenFault};
 use byte_streams::Source;
@@ -26,17 +27,17 @@ use std::alloc::Global;
 
 /// Applies the calls of a block's records, which come after the auction's so far, and keeps their entries; or answers
 /// the first fault, which may be that memory is refused.
-fn keep_block(
+fn record_block(
     alloc: Global,
     blocks: &Blocks,
     auction: &mut Auction,
-    kept: &mut Kept,
+    kept: &mut Recorder,
     members: u8,
 ) -> Result<(), FileFault>
     requires { auction.old.calls ≤ auction.old.config.max_calls }
-    ensures form { form_kept kept.new ≡ form_kept kept.old }
-    ensures kept { (heard : List HeardEntry) → KeepsHeard kept.old auction.old heard
-        → HearsAll (KeepsHeard kept.new auction.new) heard auction.old auction.new
+    ensures form { form_of_recorder kept.new ≡ form_of_recorder kept.old }
+    ensures kept { (heard : List HeardEntry) → RecordsHeard kept.old auction.old heard
+        → HearsAll (RecordsHeard kept.new auction.new) heard auction.old auction.new
         (unanswered (calls_after members auction.old.config.max_calls auction.old.calls (block_rows blocks.now)))
         result }
     ensures room { auction.new.calls ≤ auction.old.config.max_calls }
@@ -49,25 +50,25 @@ fn keep_block(
 
 /// Applies the calls of this block's records, of which none has come, and of those behind it, and keeps their entries;
 /// or answers the first fault, before which one of the reading comes.
-fn keep_blocks<R: Source>(
+fn record_blocks<R: Source>(
     alloc: Global,
     reader: &mut R,
     auction: &mut Auction,
-    kept: &mut Kept,
+    kept: &mut Recorder,
     blocks: &mut Blocks,
     members: u8,
 ) -> Result<(), FileFault>
     requires opened { auction.old ≡ opened_auction auction.old.config }
-    requires none { KeepsHeard kept.old auction.old [] }
+    requires none { RecordsHeard kept.old auction.old [] }
     ensures failed { IsErrOf result FileFault.ReadFailed ↔ (R.failures reader.old < R.failures reader.new) }
-    ensures form { form_kept kept.new ≡ form_kept kept.old }
+    ensures form { form_of_recorder kept.new ≡ form_of_recorder kept.old }
     ensures room { auction.new.calls ≤ auction.old.config.max_calls }
     ensures kept { (text : Option (List ℕ))
         → IfSome text (OpensBlock (Ok blocks.old) MAX_BYTES (R.left reader.old))
-        → KeepsCallsOfText (KeepsHeard kept.new auction.new) auction.old auction.new result text members }
+        → RecordsCallsOfText (RecordsHeard kept.new auction.new) auction.old auction.new result text members }
 {
     'turns: loop {
-        if let Err(fault) = keep_block(alloc, blocks, auction, kept, members) {
+        if let Err(fault) = record_block(alloc, blocks, auction, kept, members) {
             blocks.drain(reader)?;
             return Err(fault);
         }
@@ -81,7 +82,7 @@ fn keep_blocks<R: Source>(
 fn refused_orders(alloc: Global, bytes: &[u8], day: DayHeader, fault: OpenFault) -> Fault
     requires { fault ≡ unwrap_or (open_fault day.config) OpenFault.NoMemory }
     ensures kept { (form : Form)
-        → KeepsDay form (calls_for day (calls_of_file day.members day.config.max_calls bytes.now)) (Err result) }
+        → RecordsDay form (calls_for day (calls_of_file day.members day.config.max_calls bytes.now)) (Err result) }
     ensures read { result ≢ Fault.File FileFault.ReadFailed }
 {
     match Calls::open(alloc, bytes, day.members, day.config.max_calls) {
@@ -103,7 +104,7 @@ fn refused_file<R: Source>(
     requires fault { fault ≡ unwrap_or (open_fault day.config) OpenFault.NoMemory }
     ensures failed { (result ≡ Fault.File FileFault.ReadFailed) ↔ (R.failures reader.old < R.failures reader.new) }
     ensures kept { (form : Form)
-        → KeepsDayOfText form (Err result) (prepend_known start.items (R.left reader.old)) (orders_for day) }
+        → RecordsDayOfText form (Err result) (prepend_known start.items (R.left reader.old)) (orders_for day) }
 {
     match bytes_after(start, reader, MAX_BYTES) {
         Ok(bytes) => refused_orders(alloc, bytes.as_slice(), day, fault),
@@ -114,66 +115,66 @@ fn refused_file<R: Source>(
 /// Applies the calls of an order file, of which these bytes at the start were read, to an auction that was just opened,
 /// and keeps their entries; or answers the file's first fault. The start is dropped once the first block has a copy, as
 /// it may be the whole input.
-fn keep_text<R: Source>(
+fn record_text<R: Source>(
     alloc: Global,
     start: Vec<u8>,
     reader: &mut R,
     auction: &mut Auction,
-    kept: &mut Kept,
+    kept: &mut Recorder,
     members: u8,
 ) -> Result<(), FileFault>
     requires short { length start.items ≤ MAX_BYTES }
     requires opened { auction.old ≡ opened_auction auction.old.config }
-    requires none { KeepsHeard kept.old auction.old [] }
+    requires none { RecordsHeard kept.old auction.old [] }
     ensures failed { IsErrOf result FileFault.ReadFailed ↔ (R.failures reader.old < R.failures reader.new) }
-    ensures form { form_kept kept.new ≡ form_kept kept.old }
+    ensures form { form_of_recorder kept.new ≡ form_of_recorder kept.old }
     ensures room { IfOk result (λ _. auction.new.calls ≤ auction.old.config.max_calls) }
-    ensures kept { KeepsCallsOfText (KeepsHeard kept.new auction.new) auction.old auction.new result
+    ensures kept { RecordsCallsOfText (RecordsHeard kept.new auction.new) auction.old auction.new result
         (prepend_known start.items (R.left reader.old)) members }
 {
     let mut blocks = Blocks::open(alloc, start.as_slice(), reader, MAX_BYTES)?;
     drop(start);
-    keep_blocks(alloc, reader, auction, kept, &mut blocks, members)
+    record_blocks(alloc, reader, auction, kept, &mut blocks, members)
 }
 
-/// Runs the commands of an order file of this day on its auction, as `keep_file`.
-fn keep_opened<R: Source>(
+/// Runs the commands of an order file of this day on its auction, as `record_file`.
+fn record_opened<R: Source>(
     alloc: Global,
     start: Vec<u8>,
     reader: &mut R,
     mut auction: Auction,
     day: DayHeader,
     form: Form,
-) -> Result<KeptDay, Fault>
+) -> Result<PrintableDay, Fault>
     requires short { length start.items ≤ MAX_BYTES }
     requires opened { auction ≡ opened_auction day.config }
     requires opens { open_fault day.config ≡ None }
     ensures failed { IsErrOf result (Fault.File FileFault.ReadFailed)
         ↔ (R.failures reader.old < R.failures reader.new) }
-    ensures kept { KeepsDayOfText form result (prepend_known start.items (R.left reader.old)) (orders_for day) }
+    ensures kept { RecordsDayOfText form result (prepend_known start.items (R.left reader.old)) (orders_for day) }
 {
-    let Ok(mut kept) = Kept::open(alloc, form, &auction) else {
+    let Ok(mut kept) = Recorder::open(alloc, form, &auction) else {
         return Err(Fault::File(FileFault::NoMemory));
     };
-    keep_text(alloc, start, reader, &mut auction, &mut kept, day.members)?;
+    record_text(alloc, start, reader, &mut auction, &mut kept, day.members)?;
     close_day(alloc, day, &mut auction, kept)
 }
 
 /// Runs the commands of an order file of this day, of which these bytes at the start were read, block by block.
-pub fn keep_file<R: Source>(
+pub fn record_file<R: Source>(
     alloc: Global,
     start: Vec<u8>,
     reader: &mut R,
     day: DayHeader,
     form: Form,
-) -> Result<KeptDay, Fault>
+) -> Result<PrintableDay, Fault>
     requires { length start.items ≤ MAX_BYTES }
     ensures failed { IsErrOf result (Fault.File FileFault.ReadFailed)
         ↔ (R.failures reader.old < R.failures reader.new) }
-    ensures kept { KeepsDayOfText form result (prepend_known start.items (R.left reader.old)) (orders_for day) }
+    ensures kept { RecordsDayOfText form result (prepend_known start.items (R.left reader.old)) (orders_for day) }
 {
     match Auction::open(alloc, day.config) {
-        Ok(auction) => keep_opened(alloc, start, reader, auction, day, form),
+        Ok(auction) => record_opened(alloc, start, reader, auction, day, form),
         Err(fault) => Err(refused_file(alloc, start, reader, day, fault)),
     }
 }

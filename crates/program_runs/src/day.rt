@@ -4,15 +4,15 @@ ghost use Rattle.std.specs.Prelude.{◌≡◌, ◌≤◌, [], All, length, map, 
 ghost use Rattle.auction_terms.specs.Day.{calls_of};
 ghost use Rattle.board_terms.specs.Closings.{IsAccount, IsClosing};
 ghost use Rattle.board_terms.specs.BoardOpening.{newcomers};
-ghost use Rattle.member_floor.specs.PlaysScript.{FitsMembers};
+ghost use Rattle.member_board.specs.PlaysScript.{FitsMembers};
 ghost use Rattle.program_runs.specs.PlayedDay.{IsFaultAfter, IsOfBoard, IsOfDay, IsPlayedOut, IsUnclosedFault};
 
 use crate::fault::Fault;
 use left_right::Absorb;
 use member_board::{
-    Board, BoardIdentity, CloseFault, Closing, Fresh, Member, Update, Version, close,
+    Board, BoardIdentity, CloseFault, Closing, FloorOutcome, Fresh, Gate, Member, RunFault, Script,
+    ScriptRun, Update, Version, close, run,
 };
-use member_floor::{FloorOutcome, Gate, RunFault, Script, ScriptRun, run};
 use std::alloc::Global;
 use std::sync::Wait;
 use std::thread::Threads;

@@ -12,7 +12,7 @@ use input_hints::{Bounds, DayTerms, bounds_hint, hint_of, hint_of_bounds, is_lik
 use journal::DayHeader;
 use live_session::{Ending, LiveFault};
 use order_file::FileFault;
-use settings::WordsFault;
+use settings::ArgumentsFault;
 use std::alloc::Global;
 use std::fmt::InlineText;
 
@@ -114,14 +114,14 @@ pub(crate) fn write_run_fault<E: Sink>(
 }
 
 /// Where an argument that there isn't looks like a file, says how the program is given one.
-pub(crate) fn write_file_hint<E: Sink>(err: &mut E, error: &Error, words: &[&str]) {
-    let [_, words @ ..] = words else {
+pub(crate) fn write_file_hint<E: Sink>(err: &mut E, error: &Error, arguments: &[&str]) {
+    let [_, arguments @ ..] = arguments else {
         return;
     };
     if error.kind() != ErrorKind::UnknownArgument {
         return;
     }
-    for word in words {
+    for word in arguments {
         if is_like_file(word) {
             let _ = write_all(err, b"reads standard input: callboard < ".as_slice());
             write_line(err, word);
@@ -131,7 +131,7 @@ pub(crate) fn write_file_hint<E: Sink>(err: &mut E, error: &Error, words: &[&str
 }
 
 /// Writes what doesn't go together, and answers the status of a bad command line.
-pub(crate) fn refuse_mix<E: Sink>(err: &mut E, fault: &WordsFault) -> u8
+pub(crate) fn refuse_mix<E: Sink>(err: &mut E, fault: &ArgumentsFault) -> u8
     ensures { result ≡ 2 }
 {
     write_line(err, InlineText::<64>::of(fault).as_str());

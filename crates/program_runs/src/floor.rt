@@ -12,16 +12,15 @@ ghost use Rattle.program_runs.specs.Printed.{IfBegun, IsOfListing, IsWideListing
 
 use crate::day::closing_of_day;
 use crate::fault::{Fault, Finish};
-use crate::printing::{ClosingForm, write_closing, write_kept};
+use crate::printing::{ClosingForm, write_closing, write_recorded};
 use crate::scripts::split;
-use crate::whole_input::keep_calls;
+use crate::whole_input::record_calls;
 use auction::{AuditFinding, audit};
 use auction_terms::{Call, Config, Entry};
 use byte_streams::{Sink, Source};
 use day_road::History;
 use journal::{DayHeader, read_run_input};
-use member_board::{Closing, Fresh};
-use member_floor::Gate;
+use member_board::{Closing, Fresh, Gate};
 use settings::{FloorForm, Form, Listing};
 use std::alloc::Global;
 use std::marker::Brand;
@@ -107,8 +106,8 @@ fn write_listing<S: Sink>(
     ensures wide { IfBegun result (IsWideListing listing entries.now) }
 {
     let mut history = History::new(entries);
-    match keep_calls(alloc, &mut history, day, Form::Listing(listing)) {
-        Ok(mut kept_day) => write_kept(writer, kept_day.day, &mut kept_day.kept),
+    match record_calls(alloc, &mut history, day, Form::Listing(listing)) {
+        Ok(mut recorded_day) => write_recorded(writer, recorded_day.day, &mut recorded_day.kept),
         Err(_) => Err(Fault::NoMemory),
     }
 }

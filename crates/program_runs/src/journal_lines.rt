@@ -1,19 +1,18 @@
 //! What a session with a journal says of its journal on standard error, line by line.
 
 ghost use Rattle.std.specs.Prelude.{◌≡◌};
-ghost use Rattle.program_runs.specs.KeptLive.{EndsWithStatus, begin_status, kept_status, resume_status};
+ghost use Rattle.program_runs.specs.JournaledLive.{EndsWithStatus, begin_status, journaled_status, resume_status};
 
 use crate::fault::Fault;
 use crate::fault_lines::{
     ending_status, write_fault, write_line, write_live_fault, write_open_fault,
 };
-use crate::keeping::KeptFault;
+use crate::journaling::JournaledFault;
 use auction_terms::Config;
 use byte_streams::{Sink, write_all};
 use journal::DayHeader;
 use journal_file::{DeviceError, OpenFileFault};
-use kept_session::{BeginFault, CutOff, ResumeFault, UnlawfulEntry};
-use live_session::{Ending, LiveFault};
+use live_session::{BeginFault, CutOff, Ending, LiveFault, ResumeFault, UnlawfulEntry};
 use order_file::FileFault;
 use printed_lines::{Page, put_reply};
 
@@ -154,25 +153,25 @@ fn opening_line(fault: &OpenFileFault) -> &'static str {
 }
 
 /// Writes why a session with a journal doesn't begin, and answers the status.
-pub(crate) fn write_kept_fault<E: Sink>(
+pub(crate) fn write_journaled_fault<E: Sink>(
     err: &mut E,
-    fault: &KeptFault,
+    fault: &JournaledFault,
     name: &str,
     day: DayHeader,
 ) -> u8
-    ensures { result ≡ kept_status fault.now }
+    ensures { result ≡ journaled_status fault.now }
 {
     match fault {
-        KeptFault::Day(fault) => write_open_fault(err, *fault, day),
-        KeptFault::Opening(OpenFileFault::Busy) => {
+        JournaledFault::Day(fault) => write_open_fault(err, *fault, day),
+        JournaledFault::Opening(OpenFileFault::Busy) => {
             write_line(err, "journal in use");
             2
         }
-        KeptFault::Opening(fault) => {
+        JournaledFault::Opening(fault) => {
             write_line(err, opening_line(fault));
             3
         }
-        KeptFault::Begin(fault) => write_begin_fault(err, fault, name, day),
+        JournaledFault::Begin(fault) => write_begin_fault(err, fault, name, day),
     }
 }
 

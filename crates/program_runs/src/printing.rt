@@ -7,17 +7,16 @@ ghost use Rattle.printed_lines.specs.Printing.{Prints};
 ghost use Rattle.printed_lines.specs.ReplyLines.{lines};
 ghost use Rattle.program_runs.specs.BoardRun.{closing_text};
 ghost use Rattle.program_runs.specs.FileRun.{WritesText};
-ghost use Rattle.program_runs.specs.KeptEntries.{KeepsWholeDay, form_kept};
+ghost use Rattle.program_runs.specs.RecordedEntries.{RecordsWholeDay, form_of_recorder};
 ghost use Rattle.program_runs.specs.Printed.{IsWideForm, printed};
 
 use crate::fault::Fault;
-use crate::kept::Kept;
+use crate::recorder::Recorder;
 use auction_terms::Reply;
 use byte_streams::{Sink, WriteFailed};
 use journal::{DayHeader, print_kept_journal};
 use member_board::Closing;
-use printed_lines::{Printer, print_history, print_line, print_tally};
-use reply_list::ReplyList;
+use printed_lines::{Printer, ReplyList, print_history, print_line, print_tally};
 
 /// Prints the line of each reply.
 fn print_replies<S: Sink>(
@@ -76,47 +75,52 @@ pub fn write_closing<S: Sink>(
 }
 
 /// Prints a day in the form that its entries are kept for.
-fn print_kept<S: Sink>(
+fn print_recorded<S: Sink>(
     printer: &mut Printer<'_, S>,
     day: DayHeader,
-    kept: &mut Kept,
+    kept: &mut Recorder,
 ) -> Result<(), WriteFailed>
-    requires { (entries : List Entry) × KeepsWholeDay kept.old day.config entries }
-    ensures { (entries : List Entry) → KeepsWholeDay kept.old day.config entries
-        → Prints S.Sink printer.old printer.new result (printed (form_kept kept.old) day entries) }
+    requires { (entries : List Entry) × RecordsWholeDay kept.old day.config entries }
+    ensures { (entries : List Entry) → RecordsWholeDay kept.old day.config entries
+        → Prints S.Sink printer.old printer.new result (printed (form_of_recorder kept.old) day entries) }
 {
     match kept {
-        Kept::Lines(replies) => print_replies(printer, replies),
-        Kept::Journal(lines) => print_kept_journal(printer, day, lines),
-        Kept::Trades(trades) => trades.print(printer),
-        Kept::Book(book) => book.print(printer),
+        Recorder::Lines(replies) => print_replies(printer, replies),
+        Recorder::Journal(lines) => print_kept_journal(printer, day, lines),
+        Recorder::Trades(trades) => trades.print(printer),
+        Recorder::Book(book) => book.print(printer),
     }
 }
 
 fn write_printed<S: Sink>(
     writer: &mut S,
     day: DayHeader,
-    kept: &mut Kept,
+    kept: &mut Recorder,
 ) -> Result<(), WriteFailed>
-    requires { (entries : List Entry) × KeepsWholeDay kept.old day.config entries }
-    ensures { (entries : List Entry) → KeepsWholeDay kept.old day.config entries
-        → WritesAll S.Sink writer.old writer.new result (printed (form_kept kept.old) day entries) }
+    requires { (entries : List Entry) × RecordsWholeDay kept.old day.config entries }
+    ensures { (entries : List Entry) → RecordsWholeDay kept.old day.config entries
+        → WritesAll S.Sink writer.old writer.new result (printed (form_of_recorder kept.old) day entries) }
 {
     let mut printer = Printer::new(writer);
-    print_kept(&mut printer, day, kept)?;
+    print_recorded(&mut printer, day, kept)?;
     printer.flush()
 }
 
 /// Writes what is printed of a day in the form that its entries are kept for. It takes no memory, and a write that
 /// fails leaves a beginning of the text.
-pub fn write_kept<S: Sink>(writer: &mut S, day: DayHeader, kept: &mut Kept) -> Result<(), Fault>
-    requires { (entries : List Entry) × KeepsWholeDay kept.old day.config entries }
-    ensures text { (entries : List Entry) → KeepsWholeDay kept.old day.config entries
-        → WritesText (S.written writer.old) (S.written writer.new) (printed (form_kept kept.old) day entries) result }
+pub fn write_recorded<S: Sink>(
+    writer: &mut S,
+    day: DayHeader,
+    kept: &mut Recorder,
+) -> Result<(), Fault>
+    requires { (entries : List Entry) × RecordsWholeDay kept.old day.config entries }
+    ensures text { (entries : List Entry) → RecordsWholeDay kept.old day.config entries
+        → WritesText (S.written writer.old) (S.written writer.new) (printed (form_of_recorder kept.old) day entries)
+        result }
     ensures failed { IsErrOf result Fault.WriteFailed ↔ (S.failures writer.old < S.failures writer.new) }
     ensures fault { IfErr result (λ f. f ≡ Fault.WriteFailed) }
-    ensures wide { (entries : List Entry) → KeepsWholeDay kept.old day.config entries
-        → IsWideForm (form_kept kept.old) entries }
+    ensures wide { (entries : List Entry) → RecordsWholeDay kept.old day.config entries
+        → IsWideForm (form_of_recorder kept.old) entries }
 {
     let Ok(()) = write_printed(writer, day, kept) else {
         return Err(Fault::WriteFailed);

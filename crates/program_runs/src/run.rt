@@ -3,14 +3,14 @@
 ghost use Rattle.std.specs.Prelude.{◌≡◌, ◌<◌, ◌≤◌, ◌↔◌, ◌∷◌, ℕ, List, Option, Result, true, IsErrOf};
 ghost use Rattle.program_runs.specs.AuctionRun.{RunsOnAuction};
 ghost use Rattle.program_runs.specs.FileRun.{ends_by, ends_of};
-ghost use Rattle.program_runs.specs.KeptEntries.{KeepsDay, KeepsDayOfText};
+ghost use Rattle.program_runs.specs.RecordedEntries.{RecordsDay, RecordsDayOfText};
 ghost use Rattle.journal.specs.DayWithCalls.{DayWithCalls, run_input};
 
-use crate::blocks::keep_file;
+use crate::blocks::record_file;
 use crate::fault::{Fault, Finish};
-use crate::kept_day::KeptDay;
-use crate::printing::write_kept;
-use crate::whole_input::keep_input;
+use crate::printing::write_recorded;
+use crate::recorded_day::PrintableDay;
+use crate::whole_input::record_input;
 use byte_streams::{Sink, Source};
 use journal::{DayHeader, MAX_JOURNAL_BYTES};
 use order_file::{FileFault, bytes_after, read_start};
@@ -18,19 +18,19 @@ use settings::Form;
 use std::alloc::Global;
 
 /// Writes what is printed of a day that was kept, or hands on why it wasn't.
-fn write_run<S: Sink>(writer: &mut S, run: Result<KeptDay, Fault>) -> Result<Finish, Fault>
-    requires { (form : Form) × (said : Result DayWithCalls FileFault) × KeepsDay form said run }
+fn write_run<S: Sink>(writer: &mut S, run: Result<PrintableDay, Fault>) -> Result<Finish, Fault>
+    requires { (form : Form) × (said : Result DayWithCalls FileFault) × RecordsDay form said run }
     ensures { (day : DayHeader) (form : Form) (left rest : Option (List ℕ)) (reads reads_after : ℕ)
-        → KeepsDayOfText form run left (run_input day)
+        → RecordsDayOfText form run left (run_input day)
         → (IsErrOf run (Fault.File FileFault.ReadFailed) ↔ (reads < reads_after))
         → RunsOnAuction day form (ends_by left rest (S.written writer.old) (S.written writer.new) reads reads_after
         (S.failures writer.old) (S.failures writer.new)) result }
 {
-    let mut kept_day = match run {
-        Ok(kept_day) => kept_day,
+    let mut recorded_day = match run {
+        Ok(recorded_day) => recorded_day,
         Err(fault) => return Err(fault),
     };
-    write_kept(writer, kept_day.day, &mut kept_day.kept)?;
+    write_recorded(writer, recorded_day.day, &mut recorded_day.kept)?;
     Ok(Finish::Lawful)
 }
 
@@ -47,22 +47,22 @@ fn begins_with_digit(start: &[u8]) -> bool
 
 /// Runs the commands of an input, a journal or an order file of this day; of one that begins with a digit block by
 /// block.
-fn keep_run<R: Source>(
+fn record_run<R: Source>(
     alloc: Global,
     reader: &mut R,
     day: DayHeader,
     form: Form,
-) -> Result<KeptDay, Fault>
+) -> Result<PrintableDay, Fault>
     ensures failed { IsErrOf result (Fault.File FileFault.ReadFailed)
         ↔ (R.failures reader.old < R.failures reader.new) }
-    ensures kept { KeepsDayOfText form result (R.left reader.old) (run_input day) }
+    ensures kept { RecordsDayOfText form result (R.left reader.old) (run_input day) }
 {
     let start = read_start(alloc, reader)?;
     if begins_with_digit(start.as_slice()) {
-        return keep_file(alloc, start, reader, day, form);
+        return record_file(alloc, start, reader, day, form);
     }
     let bytes = bytes_after(start, reader, MAX_JOURNAL_BYTES)?;
-    keep_input(alloc, bytes.as_slice(), day, form)
+    record_input(alloc, bytes.as_slice(), day, form)
 }
 
 /// Reads and checks a whole input, an order file or a journal, applies its commands to an auction, and then writes
@@ -81,6 +81,6 @@ pub fn run_file<R: Source, S: Sink>(
     ensures { RunsOnAuction day form
         (ends_of R.Source S.Sink reader.old reader.new writer.old writer.new) result }
 {
-    let run = keep_run(alloc, reader, day, form);
+    let run = record_run(alloc, reader, day, form);
     write_run(writer, run)
 }

@@ -4,7 +4,7 @@ ghost use Rattle.std.specs.Prelude.{◌≡◌, IfOk};
 ghost use Rattle.program_runs.specs.BoardRun.{IsSplit, commands_of};
 
 use auction_terms::{Call, Command};
-use member_floor::Script;
+use member_board::Script;
 use std::alloc::{AllocError, Global};
 
 /// The commands of one member, in the order of the calls.

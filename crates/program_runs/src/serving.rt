@@ -5,9 +5,9 @@ ghost use Rattle.clap.specs.Values.{kind_of};
 ghost use Rattle.clap.specs.Walk.{texts};
 ghost use Rattle.clap.specs.declared.error.kind.ErrorKind.TheVariants.{OutOfMemory};
 ghost use Rattle.program_runs.specs.FileRun.{ends_by, ends_of};
-ghost use Rattle.program_runs.specs.KeptLive.{files_of};
-ghost use Rattle.program_runs.specs.Served.{AnswersFault, RunsSession, ServesWords, words_status};
-ghost use Rattle.settings.specs.CommandLine.{RefusesWords};
+ghost use Rattle.program_runs.specs.JournaledLive.{files_of};
+ghost use Rattle.program_runs.specs.Served.{AnswersFault, RunsSession, ServesArguments, arguments_status};
+ghost use Rattle.settings.specs.CommandLine.{RefusesArguments};
 
 use crate::audit::run_audit;
 use crate::fault::Fault;
@@ -16,7 +16,7 @@ use crate::fault_lines::{
     write_run_fault,
 };
 use crate::floor::run_floor;
-use crate::keeping::{OpensJournal, serve_kept};
+use crate::journaling::{OpensJournal, serve_journaled};
 use crate::live::{SessionFault, run_session};
 use crate::run::run_file;
 use byte_streams::{Sink, Source, write_all};
@@ -25,14 +25,14 @@ use clap::error::ErrorKind;
 use input_hints::KeepsStart;
 use journal::DayHeader;
 use journal_file::Device;
-use member_floor::OpenGate;
-use settings::{Settings, Task, WordsFault, settings};
+use member_board::OpenGate;
+use settings::{ArgumentsFault, Settings, Task, settings};
 use std::alloc::Global;
 use std::sync::Wait;
 use std::thread::Threads;
 
 /// The text of a command line that was refused, or of the help that was asked for, unless memory was
-/// refused to read the words or to make the text.
+/// refused to read the arguments or to make the text.
 fn text_of(alloc: Global, error: &Error) -> Option<String>
     ensures { kind_of error.now ≡ OutOfMemory → result ≡ None }
 {
@@ -45,8 +45,8 @@ fn text_of(alloc: Global, error: &Error) -> Option<String>
 /// Prints the text of a command line that was refused, or the help that was asked for.
 fn print_text<O: Sink, E: Sink>(out: &mut O, err: &mut E, error: &Error, text: &str) -> u8
     requires { kind_of error.now ≢ OutOfMemory }
-    ensures status { (result ≡ words_status (kind_of error.now)) ⊎ (O.failures out.old < O.failures out.new) }
-    ensures kept { words_status (kind_of error.now) ≢ 0 → O.written out.new ≡ O.written out.old }
+    ensures status { (result ≡ arguments_status (kind_of error.now)) ⊎ (O.failures out.old < O.failures out.new) }
+    ensures kept { arguments_status (kind_of error.now) ≢ 0 → O.written out.new ≡ O.written out.old }
     ensures failed { O.failures out.old < O.failures out.new → result ≡ 3 }
 {
     if error.use_stderr() {
@@ -59,27 +59,27 @@ fn print_text<O: Sink, E: Sink>(out: &mut O, err: &mut E, error: &Error, text: &
     0
 }
 
-/// Prints the help that these words ask for, or writes why they say no settings, and answers the status.
-fn answer_words<O: Sink, E: Sink>(
+/// Prints the help that these arguments ask for, or writes why they say no settings, and answers the status.
+fn answer_arguments<O: Sink, E: Sink>(
     alloc: Global,
     out: &mut O,
     err: &mut E,
-    words: &[&str],
-    fault: &WordsFault,
+    arguments: &[&str],
+    fault: &ArgumentsFault,
 ) -> u8
-    requires { RefusesWords (texts words.now) fault.now }
-    ensures { (left : Option (List ℕ)) (reads : ℕ) → AnswersFault (texts words.now)
+    requires { RefusesArguments (texts arguments.now) fault.now }
+    ensures { (left : Option (List ℕ)) (reads : ℕ) → AnswersFault (texts arguments.now)
         (ends_by left left (O.written out.old) (O.written out.new) reads reads (O.failures out.old)
         (O.failures out.new)) result }
 {
-    let WordsFault::Parse(error) = fault else {
+    let ArgumentsFault::Parse(error) = fault else {
         return refuse_mix(err, fault);
     };
     let Some(text) = text_of(alloc, error) else {
         return write_fault(err, Fault::NoMemory);
     };
     let status = print_text(out, err, error, text.as_str());
-    write_file_hint(err, error, words);
+    write_file_hint(err, error, arguments);
     status
 }
 
@@ -101,14 +101,14 @@ fn serve_live<R: Source, O: Sink, E: Sink>(
     }
 }
 
-/// Runs the program on these words, the first being its name, and answers its status: 0 done, or the help that was
+/// Runs the program on these arguments, the first being its name, and answers its status: 0 done, or the help that was
 /// asked for, 1 a bad input, 2 a bad command line or bounds, a reference or limits that no auction has, 3 refused
 /// memory, a read or a write that failed, or a floor that couldn't be closed, 4 a journal of an unlawful day, 5 a
 /// broken copy of a journal whose whole lines are lawful.
 ///
 /// What it prints goes to `out`, the help too; a fault is one line on `err`, and for a bad command line the text of
 /// `clap`, in either case with a line more where its likely cause is known. Where the input or the command line is bad,
-/// nothing goes to `out`, but where records are answered as they come. The file of a journal that the words name is
+/// nothing goes to `out`, but where records are answered as they come. The file of a journal that the arguments name is
 /// opened by `files`, and left to `left` as it is at the end.
 pub fn serve<
     'a,
@@ -120,7 +120,7 @@ pub fn serve<
     T: Wait + Threads + Sync,
 >(
     alloc: Global,
-    words: &'a [&'a str],
+    arguments: &'a [&'a str],
     reader: &mut R,
     out: &mut O,
     err: &mut E,
@@ -128,12 +128,12 @@ pub fn serve<
     left: &mut Option<D>,
     rt: &T,
 ) -> u8
-    ensures { ServesWords (files_of D.Device (P.Opens files) (P.CannotOpen files) left.new) (texts words.now)
+    ensures { ServesArguments (files_of D.Device (P.Opens files) (P.CannotOpen files) left.new) (texts arguments.now)
         (ends_of R.Source O.Sink reader.old reader.new out.old out.new) result }
 {
-    let settings = match settings(alloc, words) {
+    let settings = match settings(alloc, arguments) {
         Ok(settings) => settings,
-        Err(fault) => return answer_words(alloc, out, err, words, &fault),
+        Err(fault) => return answer_arguments(alloc, out, err, arguments, &fault),
     };
     let Settings {
         config,
@@ -144,7 +144,7 @@ pub fn serve<
     let day = DayHeader { config, members };
     match task {
         Task::Live { reserve } => match journal {
-            Some(file) => serve_kept(alloc, reader, out, err, files, file, day, reserve, left),
+            Some(file) => serve_journaled(alloc, reader, out, err, files, file, day, reserve, left),
             None => serve_live(alloc, reader, out, err, day, reserve),
         },
         Task::Audit { results } => {

@@ -4,11 +4,11 @@ ghost use Rattle.std.specs.Prelude.{◌≡◌, ◌≢◌, ◌≤◌, Err, None, 
 ghost use Rattle.auction_terms.specs.Auxiliary.RunningAuction.{opened_auction};
 ghost use Rattle.auction.specs.ConfigFault.{open_fault};
 ghost use Rattle.journal.specs.DayWithCalls.{calls_coming, run_input_of, or_orders, orders_for};
-ghost use Rattle.program_runs.specs.KeptEntries.{KeepsDay};
+ghost use Rattle.program_runs.specs.RecordedEntries.{RecordsDay};
 
 use crate::fault::Fault;
-use crate::kept::Kept;
-use crate::kept_day::{KeptDay, close_day};
+use crate::recorded_day::{PrintableDay, close_day};
+use crate::recorder::Recorder;
 use auction::{Auction, OpenFault};
 use day_road::{Input, hear_all, pass_over};
 use journal::{DayHeader, Entries};
@@ -20,7 +20,7 @@ use std::alloc::Global;
 pub fn refused<I: Input>(input: &mut I, day: DayHeader, fault: OpenFault) -> Fault
     requires ready { I.CanRead input.old }
     requires fault { fault ≡ unwrap_or (open_fault day.config) OpenFault.NoMemory }
-    ensures kept { (form : Form) → KeepsDay form (calls_coming day (I.coming input.old)) (Err result) }
+    ensures kept { (form : Form) → RecordsDay form (calls_coming day (I.coming input.old)) (Err result) }
     ensures read { result ≢ Fault.File FileFault.ReadFailed }
 {
     match pass_over(input) {
@@ -30,21 +30,21 @@ pub fn refused<I: Input>(input: &mut I, day: DayHeader, fault: OpenFault) -> Fau
 }
 
 /// Runs the calls of an input, of which none has come, on the auction of this day.
-fn keep_on<I: Input>(
+fn record_on<I: Input>(
     alloc: Global,
     input: &mut I,
     mut auction: Auction,
     day: DayHeader,
     form: Form,
-) -> Result<KeptDay, Fault>
+) -> Result<PrintableDay, Fault>
     requires ready { I.CanRead input.old }
     requires room { I.room input.old ≤ day.config.max_calls }
     requires opened { auction ≡ opened_auction day.config }
     requires opens { open_fault day.config ≡ None }
-    ensures kept { KeepsDay form (calls_coming day (I.coming input.old)) result }
+    ensures kept { RecordsDay form (calls_coming day (I.coming input.old)) result }
     ensures read { result ≢ Err (Fault.File FileFault.ReadFailed) }
 {
-    let Ok(mut kept) = Kept::open(alloc, form, &auction) else {
+    let Ok(mut kept) = Recorder::open(alloc, form, &auction) else {
         return Err(Fault::File(FileFault::NoMemory));
     };
     match hear_all(alloc, input, &mut auction, &mut kept) {
@@ -54,63 +54,73 @@ fn keep_on<I: Input>(
 }
 
 /// Runs the calls of an input, of which none has come, on this day.
-pub fn keep_calls<I: Input>(
+pub fn record_calls<I: Input>(
     alloc: Global,
     input: &mut I,
     day: DayHeader,
     form: Form,
-) -> Result<KeptDay, Fault>
+) -> Result<PrintableDay, Fault>
     requires ready { I.CanRead input.old }
     requires room { I.room input.old ≤ day.config.max_calls }
-    ensures kept { KeepsDay form (calls_coming day (I.coming input.old)) result }
+    ensures kept { RecordsDay form (calls_coming day (I.coming input.old)) result }
     ensures read { result ≢ Err (Fault.File FileFault.ReadFailed) }
 {
     match Auction::open(alloc, day.config) {
-        Ok(auction) => keep_on(alloc, input, auction, day, form),
+        Ok(auction) => record_on(alloc, input, auction, day, form),
         Err(fault) => Err(refused(input, day, fault)),
     }
 }
 
 /// Runs the commands of the bytes of an order file of this day, whose own fault comes before one of the day.
-fn keep_orders(alloc: Global, bytes: &[u8], day: DayHeader, form: Form) -> Result<KeptDay, Fault>
-    ensures kept { KeepsDay form (orders_for day bytes.now) result }
+fn record_orders(
+    alloc: Global,
+    bytes: &[u8],
+    day: DayHeader,
+    form: Form,
+) -> Result<PrintableDay, Fault>
+    ensures kept { RecordsDay form (orders_for day bytes.now) result }
     ensures read { result ≢ Err (Fault.File FileFault.ReadFailed) }
 {
     if bytes.len() > MAX_BYTES {
         return Err(Fault::File(FileFault::TooLong));
     }
     let mut calls = Calls::open(alloc, bytes, day.members, day.config.max_calls)?;
-    keep_calls(alloc, &mut calls, day, form)
+    record_calls(alloc, &mut calls, day, form)
 }
 
 /// Runs the commands of an input that has this fault as a journal: what is no journal is an order file of this day.
-fn keep_or_refuse(
+fn record_or_refuse(
     alloc: Global,
     bytes: &[u8],
     day: DayHeader,
     form: Form,
     fault: FileFault,
-) -> Result<KeptDay, Fault>
+) -> Result<PrintableDay, Fault>
     requires { fault ≢ FileFault.ReadFailed }
-    ensures kept { KeepsDay form (or_orders (orders_for day bytes.now) fault) result }
+    ensures kept { RecordsDay form (or_orders (orders_for day bytes.now) fault) result }
     ensures read { result ≢ Err (Fault.File FileFault.ReadFailed) }
 {
     match fault {
-        FileFault::NotADay => keep_orders(alloc, bytes, day, form),
+        FileFault::NotADay => record_orders(alloc, bytes, day, form),
         _ => Err(Fault::File(fault)),
     }
 }
 
 /// Runs the commands of an input, a journal or an order file of this day.
-pub fn keep_input(alloc: Global, bytes: &[u8], day: DayHeader, form: Form) -> Result<KeptDay, Fault>
-    ensures kept { KeepsDay form (run_input_of day bytes.now) result }
+pub fn record_input(
+    alloc: Global,
+    bytes: &[u8],
+    day: DayHeader,
+    form: Form,
+) -> Result<PrintableDay, Fault>
+    ensures kept { RecordsDay form (run_input_of day bytes.now) result }
     ensures read { result ≢ Err (Fault.File FileFault.ReadFailed) }
 {
     match Entries::open(alloc, bytes) {
         Ok(mut entries) => {
             let day = entries.day();
-            keep_calls(alloc, &mut entries, day, form)
+            record_calls(alloc, &mut entries, day, form)
         }
-        Err(fault) => keep_or_refuse(alloc, bytes, day, form, fault),
+        Err(fault) => record_or_refuse(alloc, bytes, day, form, fault),
     }
 }

@@ -6,9 +6,9 @@ use Rattle.clap.specs.Kinds.{Kinds}
 use Rattle.clap.specs.declared.error.kind.ErrorKind.TheVariants as kind
 use Rattle.clap.proofs.OnLiterals.{clap_on_literals}
 use Rattle.settings.specs.Options.{callboard}
-use Rattle.settings.specs.CommandLine.{AcceptsWords, RefusesWords, words_kinds}
-use Rattle.settings.specs.declared.fault.WordsFault.TheVariants.{AuditNotAlone, LiveNotAlone, ResultsWithoutAudit}
-use Rattle.settings.specs.declared.fault.WordsFault.TheVariants.{SyncWithoutJournal, WithoutLive}
+use Rattle.settings.specs.CommandLine.{AcceptsArguments, RefusesArguments, argument_kinds}
+use Rattle.settings.specs.declared.fault.ArgumentsFault.TheVariants.{AuditNotAlone, LiveNotAlone, ResultsWithoutAudit}
+use Rattle.settings.specs.declared.fault.ArgumentsFault.TheVariants.{SyncWithoutJournal, WithoutLive}
 use Rattle.settings.specs.declared.types.FloorForm.TheVariants as floor
 use Rattle.settings.specs.declared.types.Form.TheVariants.{Lines, Listing}
 use Rattle.settings.specs.declared.types.Listing.TheVariants.{Journal, Trades, Book}
@@ -25,9 +25,9 @@ plain = record {
 }
 
 -- no word
-no_words : AcceptsWords (codes "callboard" ∷ []) plain
+no_arguments : AcceptsArguments (codes "callboard" ∷ []) plain
 unfolding callboard clap_on_literals
-no_words = (
+no_arguments = (
   refl,
   record {
     low = refl;
@@ -46,7 +46,7 @@ no_words = (
 )
 
 -- `--low 5 --floor`
-low_and_floor : AcceptsWords (codes "callboard" ∷ codes "--low" ∷ codes "5" ∷ codes "--floor" ∷ [])
+low_and_floor : AcceptsArguments (codes "callboard" ∷ codes "--low" ∷ codes "5" ∷ codes "--floor" ∷ [])
     (record plain { config = record plain.config { low = 5 }; task = Floor floor.Tally })
 unfolding callboard clap_on_literals
 low_and_floor = (
@@ -68,7 +68,7 @@ low_and_floor = (
 )
 
 -- `--range 0`
-range_of_zero : AcceptsWords (codes "callboard" ∷ codes "--range" ∷ codes "0" ∷ []) (record plain {
+range_of_zero : AcceptsArguments (codes "callboard" ∷ codes "--range" ∷ codes "0" ∷ []) (record plain {
   config =
       record plain.config { range = Some 0 };
 })
@@ -92,7 +92,7 @@ range_of_zero = (
 )
 
 -- each option of a run
-every_option : AcceptsWords (codes "callboard" ∷ codes "--low" ∷ codes "5" ∷ codes "--high=6" ∷ codes "--reference"
+every_option : AcceptsArguments (codes "callboard" ∷ codes "--low" ∷ codes "5" ∷ codes "--high=6" ∷ codes "--reference"
     ∷ codes "1000000" ∷ codes "--members=64" ∷ codes "--open" ∷ codes "65536"
     ∷ codes "--calls" ∷ codes "1048576" ∷ codes "--range=7" ∷ codes "--floor" ∷ codes "--history"
     ∷ codes "--print=journal" ∷ [])
@@ -122,7 +122,7 @@ every_option = (
 )
 
 -- `--print lines`
-lines_asked_for : AcceptsWords (codes "callboard" ∷ codes "--print" ∷ codes "lines" ∷ []) plain
+lines_asked_for : AcceptsArguments (codes "callboard" ∷ codes "--print" ∷ codes "lines" ∷ []) plain
 unfolding callboard clap_on_literals
 lines_asked_for = (
   refl,
@@ -143,7 +143,7 @@ lines_asked_for = (
 )
 
 -- `--print trades`
-trades_asked_for : AcceptsWords (codes "callboard" ∷ codes "--print" ∷ codes "trades" ∷ []) (record plain {
+trades_asked_for : AcceptsArguments (codes "callboard" ∷ codes "--print" ∷ codes "trades" ∷ []) (record plain {
   task =
       Run (Listing Trades);
 })
@@ -167,7 +167,7 @@ trades_asked_for = (
 )
 
 -- `--floor --print book`
-book_of_a_floor : AcceptsWords (codes "callboard" ∷ codes "--floor" ∷ codes "--print" ∷ codes "book" ∷ [])
+book_of_a_floor : AcceptsArguments (codes "callboard" ∷ codes "--floor" ∷ codes "--print" ∷ codes "book" ∷ [])
     (record plain { task = Floor (floor.Listing Book) })
 unfolding callboard clap_on_literals
 book_of_a_floor = (
@@ -189,7 +189,7 @@ book_of_a_floor = (
 )
 
 -- `--floor --history`
-floor_and_history : AcceptsWords (codes "callboard" ∷ codes "--floor" ∷ codes "--history" ∷ []) (record plain {
+floor_and_history : AcceptsArguments (codes "callboard" ∷ codes "--floor" ∷ codes "--history" ∷ []) (record plain {
   task =
       Floor floor.History;
 })
@@ -213,7 +213,7 @@ floor_and_history = (
 )
 
 -- `--history` alone: without a board there is no history to print
-history_alone : AcceptsWords (codes "callboard" ∷ codes "--history" ∷ []) plain
+history_alone : AcceptsArguments (codes "callboard" ∷ codes "--history" ∷ []) plain
 unfolding callboard clap_on_literals
 history_alone = (
   refl,
@@ -234,7 +234,7 @@ history_alone = (
 )
 
 -- `--audit`
-audit_alone : AcceptsWords (codes "callboard" ∷ codes "--audit" ∷ codes "--members" ∷ codes "2" ∷ [])
+audit_alone : AcceptsArguments (codes "callboard" ∷ codes "--audit" ∷ codes "--members" ∷ codes "2" ∷ [])
     (record plain { members = 2; task = Audit false })
 unfolding callboard clap_on_literals
 audit_alone = (
@@ -256,7 +256,7 @@ audit_alone = (
 )
 
 -- and its results too
-audit_with_results : AcceptsWords
+audit_with_results : AcceptsArguments
     (codes "callboard" ∷ codes "--results" ∷ codes "--audit" ∷ codes "--members" ∷ codes "2" ∷ [])
     (record plain { members = 2; task = Audit true })
 unfolding callboard clap_on_literals
@@ -279,7 +279,8 @@ audit_with_results = (
 )
 
 -- `--live`, also with the lines
-live_asked_for : AcceptsWords (codes "callboard" ∷ codes "--live" ∷ codes "--print" ∷ codes "lines" ∷ codes "--range"
+live_asked_for : AcceptsArguments
+    (codes "callboard" ∷ codes "--live" ∷ codes "--print" ∷ codes "lines" ∷ codes "--range"
     ∷ codes "3" ∷ [])
     (record plain { config = record plain.config { range = Some 3 }; task = Live 16 })
 unfolding callboard clap_on_literals
@@ -302,7 +303,7 @@ live_asked_for = (
 )
 
 -- `--live --reserve 3`
-reserve_asked_for : AcceptsWords (codes "callboard" ∷ codes "--live" ∷ codes "--reserve" ∷ codes "3" ∷ [])
+reserve_asked_for : AcceptsArguments (codes "callboard" ∷ codes "--live" ∷ codes "--reserve" ∷ codes "3" ∷ [])
     (record plain { task = Live 3 })
 unfolding callboard clap_on_literals
 reserve_asked_for = (
@@ -325,7 +326,7 @@ reserve_asked_for = (
 
 -- `--live --journal day.csv`, also with `--sync none`
 journal_asked_for : (name : Bor Text) → name.now ≡ codes "day.csv"
-    → AcceptsWords (codes "callboard" ∷ codes "--live" ∷ codes "--journal" ∷ codes "day.csv" ∷ [])
+    → AcceptsArguments (codes "callboard" ∷ codes "--live" ∷ codes "--journal" ∷ codes "day.csv" ∷ [])
     (record plain { task = Live 16; journal = Some (record { name = name; is_synced = true }) })
 unfolding callboard clap_on_literals
 journal_asked_for name is = (
@@ -347,7 +348,8 @@ journal_asked_for name is = (
 )
 
 unsynced_asked_for : (name : Bor Text) → name.now ≡ codes "day.csv"
-    → AcceptsWords (codes "callboard" ∷ codes "--live" ∷ codes "--sync" ∷ codes "none" ∷ codes "--journal=day.csv" ∷ [])
+    → AcceptsArguments
+    (codes "callboard" ∷ codes "--live" ∷ codes "--sync" ∷ codes "none" ∷ codes "--journal=day.csv" ∷ [])
     (record plain { task = Live 16; journal = Some (record { name = name; is_synced = false }) })
 unfolding callboard clap_on_literals
 unsynced_asked_for name is = (
@@ -368,11 +370,11 @@ unsynced_asked_for name is = (
   (refl, refl, refl, refl, refl),
 )
 
--- ---- words that are refused
+-- ---- arguments that are refused
 
--- the kinds of fault of the words after the program's name
+-- the kinds of fault of the arguments after the program's name
 abbrev faults : List Text → Kinds
-faults words = words_kinds (codes "callboard" ∷ words)
+faults arguments = argument_kinds (codes "callboard" ∷ arguments)
 
 -- one member too many
 members_65 : faults (codes "--members" ∷ codes "65" ∷ []) ≡ kind.ValueValidation ∷ []
@@ -425,51 +427,52 @@ unfolding callboard clap_on_literals
 print_alone = refl
 
 -- an audit beside each option that it doesn't go with
-audit_and_floor : RefusesWords (codes "callboard" ∷ codes "--audit" ∷ codes "--floor" ∷ []) AuditNotAlone
+audit_and_floor : RefusesArguments (codes "callboard" ∷ codes "--audit" ∷ codes "--floor" ∷ []) AuditNotAlone
 unfolding callboard clap_on_literals
 audit_and_floor = (refl, refl)
 
-audit_and_history : RefusesWords (codes "callboard" ∷ codes "--history" ∷ codes "--audit" ∷ []) AuditNotAlone
+audit_and_history : RefusesArguments (codes "callboard" ∷ codes "--history" ∷ codes "--audit" ∷ []) AuditNotAlone
 unfolding callboard clap_on_literals
 audit_and_history = (refl, refl)
 
-audit_and_lines : RefusesWords (codes "callboard" ∷ codes "--audit" ∷ codes "--print=lines" ∷ []) AuditNotAlone
+audit_and_lines : RefusesArguments (codes "callboard" ∷ codes "--audit" ∷ codes "--print=lines" ∷ []) AuditNotAlone
 unfolding callboard clap_on_literals
 audit_and_lines = (refl, refl)
 
 -- and answers as records come beside each option that they don't go with
-live_and_floor : RefusesWords (codes "callboard" ∷ codes "--live" ∷ codes "--floor" ∷ []) LiveNotAlone
+live_and_floor : RefusesArguments (codes "callboard" ∷ codes "--live" ∷ codes "--floor" ∷ []) LiveNotAlone
 unfolding callboard clap_on_literals
 live_and_floor = (refl, refl, refl)
 
-live_and_history : RefusesWords (codes "callboard" ∷ codes "--history" ∷ codes "--live" ∷ []) LiveNotAlone
+live_and_history : RefusesArguments (codes "callboard" ∷ codes "--history" ∷ codes "--live" ∷ []) LiveNotAlone
 unfolding callboard clap_on_literals
 live_and_history = (refl, refl, refl)
 
-live_and_audit : RefusesWords (codes "callboard" ∷ codes "--live" ∷ codes "--audit" ∷ []) LiveNotAlone
+live_and_audit : RefusesArguments (codes "callboard" ∷ codes "--live" ∷ codes "--audit" ∷ []) LiveNotAlone
 unfolding callboard clap_on_literals
 live_and_audit = (refl, refl, refl)
 
-live_and_journal : RefusesWords (codes "callboard" ∷ codes "--live" ∷ codes "--print=journal" ∷ []) LiveNotAlone
+live_and_journal : RefusesArguments (codes "callboard" ∷ codes "--live" ∷ codes "--print=journal" ∷ []) LiveNotAlone
 unfolding callboard clap_on_literals
 live_and_journal = (refl, refl, refl)
 
 -- the results of a day without its audit
-results_alone : RefusesWords (codes "callboard" ∷ codes "--results" ∷ []) ResultsWithoutAudit
+results_alone : RefusesArguments (codes "callboard" ∷ codes "--results" ∷ []) ResultsWithoutAudit
 unfolding callboard clap_on_literals
 results_alone = (refl, refl, refl, refl)
 
 -- and calls kept for the operator without answers as records come
-reserve_alone : RefusesWords (codes "callboard" ∷ codes "--reserve" ∷ codes "0" ∷ []) WithoutLive
+reserve_alone : RefusesArguments (codes "callboard" ∷ codes "--reserve" ∷ codes "0" ∷ []) WithoutLive
 unfolding callboard clap_on_literals
 reserve_alone = (refl, refl, refl, refl, refl)
 
 -- a journal without answers as records come, and how it is kept without one
-journal_alone : RefusesWords (codes "callboard" ∷ codes "--journal" ∷ codes "day.csv" ∷ []) WithoutLive
+journal_alone : RefusesArguments (codes "callboard" ∷ codes "--journal" ∷ codes "day.csv" ∷ []) WithoutLive
 unfolding callboard clap_on_literals
 journal_alone = (refl, refl, refl, refl, refl)
 
-sync_alone : RefusesWords (codes "callboard" ∷ codes "--live" ∷ codes "--sync" ∷ codes "none" ∷ []) SyncWithoutJournal
+sync_alone : RefusesArguments (codes "callboard" ∷ codes "--live" ∷ codes "--sync" ∷ codes "none" ∷ [])
+    SyncWithoutJournal
 unfolding callboard clap_on_literals
 sync_alone = (refl, refl, refl, refl, refl, refl)
 

@@ -208,12 +208,12 @@ pub free_command : (c : Command) → app_of c ≡ callboard → is_simple_and_fr
 unfolding callboard
 free_command c same = ap is_simple_and_free same
 
-pub no_fault : (c : Command) (words : List Text) → app_of c ≡ callboard
-    → (is_simple_and_free (app_of c) ≡ true → fault_of (app_of c) words ≡ []) → fault_of callboard words ≡ []
-no_fault c words same kinds = ap (λ (a : App). fault_of a words) (sym same) ∙ kinds (free_command c same)
+pub no_fault : (c : Command) (arguments : List Text) → app_of c ≡ callboard
+    → (is_simple_and_free (app_of c) ≡ true → fault_of (app_of c) arguments ≡ []) → fault_of callboard arguments ≡ []
+no_fault c arguments same kinds = ap (λ (a : App). fault_of a arguments) (sym same) ∙ kinds (free_command c same)
 
--- the rows of the matches are those that the words give
-pub rows_are : (c : Command) (m : ArgMatches) (words : List Text) → app_of c ≡ callboard
-    → HasMatchesOf (app_of c) words m → rows_of (found_of m) ≡ matches_of callboard words
+-- the rows of the matches are those that the arguments give
+pub rows_are : (c : Command) (m : ArgMatches) (arguments : List Text) → app_of c ≡ callboard
+    → HasMatchesOf (app_of c) arguments m → rows_of (found_of m) ≡ matches_of callboard arguments
 unfolding callboard
-rows_are c m words same has = (has (ap is_simple same)).0 ∙ ap (λ (a : App). matches_of a words) same
+rows_are c m arguments same has = (has (ap is_simple same)).0 ∙ ap (λ (a : App). matches_of a arguments) same

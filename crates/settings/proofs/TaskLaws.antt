@@ -1,4 +1,4 @@
--- What the words ask for, from what was read of the matches of a parse.
+-- What the arguments ask for, from what was read of the matches of a parse.
 use Rattle.std.proofs.Common.{◌≡◌, ◌∙◌, ap, Bool, true, false, refl, sym, subst, List, [], ◌∷◌, Option, Some, None}
 use Rattle.std.proofs.Common.{codes, inl, inr, ℕ, ◌≤◌, arith}
 use Rattle.std.specs.Prelude.{if◌then◌else◌, Result, Ok, Err, IfErr, IfOk, IfSome, IsErrAnd, is_some}
@@ -18,16 +18,17 @@ use Rattle.clap.specs.declared.parser.matches.ArgMatches.{ArgMatches}
 use Rattle.clap.specs.declared.parser.matches.Found.{Found}
 use Rattle.clap.proofs.WalkLemmas.{first_value-rows}
 use Rattle.settings.specs.Options.{callboard}
-use Rattle.settings.specs.CommandLine.{IsParseOf, RefusesWords}
+use Rattle.settings.specs.CommandLine.{IsParseOf, RefusesArguments}
 use Rattle.settings.specs.NumberTexts.{number_at}
 use Rattle.settings.specs.OptionTexts.{IsParsed, MayHaveNumber, rows_in}
 use Rattle.settings.specs.Ranges.{HasReserveInRange}
 use Rattle.settings.specs.Tasks.{RefusesTask, wanted_form, form_kinds, is_given, is_live_mixed, is_audit_mixed, run_of}
 use Rattle.settings.specs.Tasks.{is_journal_missing, is_live_missing, is_results_alone, reserve_at, sync_in, sync_kinds}
 use Rattle.settings.specs.Tasks.{task_at, task_kinds, word_in}
-use Rattle.settings.specs.declared.fault.WordsFault.{WordsFault}
-use Rattle.settings.specs.declared.fault.WordsFault.TheVariants.{Parse, AuditNotAlone, LiveNotAlone}
-use Rattle.settings.specs.declared.fault.WordsFault.TheVariants.{ResultsWithoutAudit, SyncWithoutJournal, WithoutLive}
+use Rattle.settings.specs.declared.fault.ArgumentsFault.{ArgumentsFault}
+use Rattle.settings.specs.declared.fault.ArgumentsFault.TheVariants.{Parse, AuditNotAlone, LiveNotAlone}
+use Rattle.settings.specs.declared.fault.ArgumentsFault.TheVariants.{ResultsWithoutAudit, SyncWithoutJournal}
+use Rattle.settings.specs.declared.fault.ArgumentsFault.TheVariants.{WithoutLive}
 use Rattle.settings.specs.declared.types.Form.{Form}
 use Rattle.settings.specs.declared.types.Task.{Task}
 use Rattle.settings.specs.declared.types.Task.TheVariants.{Audit, Live}
@@ -39,7 +40,7 @@ pub handed_on : {T E : Type 0} (P : E → Type 0) (r : Result T E) (e : E) → P
 handed_on P (Ok x) e holds is = tt
 handed_on P (Err f) e holds is = subst P (sym is) holds
 
--- ---- the words that options were given
+-- ---- the arguments that options were given
 
 pub first_of-first_value : (f : Found) (id : Text) (word : Option (Bor Text))
     → option_map (λ s. s.now) word ≡ first_value f id → first_of id (rows_of f) ≡ option_map (λ s. s.now) word
@@ -107,7 +108,7 @@ reserve_in_range rows task has is = by_test (is_given (codes "live") rows) refl
         (is_given (codes "floor") rows) (is_given (codes "history") rows) (wanted_form (word_in rows)) task
         (rw e at is)
 
--- ---- why words are refused
+-- ---- why arguments are refused
 
 -- kinds that come first
 pub first_kinds : (ks next : Kinds) (e : Error) → HasKind ks e → HasKind (or_else ks next) e
@@ -115,64 +116,64 @@ first_kinds [] next e (inl memory) = inl memory
 first_kinds [] next e (inr none) = absurd none
 first_kinds (k ∷ ks) next e has = has
 
-pub refused_words : (c : Command) (words : List Text) (e : Error) → app_of c ≡ callboard
-    → (is_simple_and_free (app_of c) ≡ true → HasKind (fault_of (app_of c) words) e)
-    → RefusesWords words (Parse e)
-refused_words c words e same kinds =
-    first_kinds (fault_of callboard words) (task_kinds (matches_of callboard words)) e
-    (subst (λ a. HasKind (fault_of a words) e) same (kinds (free_command c same)))
+pub refused_arguments : (c : Command) (arguments : List Text) (e : Error) → app_of c ≡ callboard
+    → (is_simple_and_free (app_of c) ≡ true → HasKind (fault_of (app_of c) arguments) e)
+    → RefusesArguments arguments (Parse e)
+refused_arguments c arguments e same kinds =
+    first_kinds (fault_of callboard arguments) (task_kinds (matches_of callboard arguments)) e
+    (subst (λ a. HasKind (fault_of a arguments) e) same (kinds (free_command c same)))
 
--- what a parse of the words gives
-pub refused_parse : (c : Command) (words : List Text) (r : Result ArgMatches Error) → app_of c ≡ callboard
-    → (is_simple_and_free (app_of c) ≡ true → FailsBy (fault_of (app_of c) words) r)
-    → IfErr r (λ e. RefusesWords words (Parse e))
-refused_parse c words (Ok m) same kinds = tt
-refused_parse c words (Err e) same kinds = refused_words c words e same kinds
+-- what a parse of the arguments gives
+pub refused_parse : (c : Command) (arguments : List Text) (r : Result ArgMatches Error) → app_of c ≡ callboard
+    → (is_simple_and_free (app_of c) ≡ true → FailsBy (fault_of (app_of c) arguments) r)
+    → IfErr r (λ e. RefusesArguments arguments (Parse e))
+refused_parse c arguments (Ok m) same kinds = tt
+refused_parse c arguments (Err e) same kinds = refused_arguments c arguments e same kinds
 
-pub parsed_rows : (c : Command) (words : List Text) (r : Result ArgMatches Error) → app_of c ≡ callboard
-    → (is_simple_and_free (app_of c) ≡ true → FailsBy (fault_of (app_of c) words) r)
-    → IfOk r (HasMatchesOf (app_of c) words) → IfOk r (λ m. IsParseOf words (rows_in m))
-parsed_rows c words (Ok m) same kinds has = (no_fault c words same kinds, rows_are c m words same has)
-parsed_rows c words (Err e) same kinds has = tt
+pub parsed_rows : (c : Command) (arguments : List Text) (r : Result ArgMatches Error) → app_of c ≡ callboard
+    → (is_simple_and_free (app_of c) ≡ true → FailsBy (fault_of (app_of c) arguments) r)
+    → IfOk r (HasMatchesOf (app_of c) arguments) → IfOk r (λ m. IsParseOf arguments (rows_in m))
+parsed_rows c arguments (Ok m) same kinds has = (no_fault c arguments same kinds, rows_are c m arguments same has)
+parsed_rows c arguments (Err e) same kinds has = tt
 
 pub parsed_by : (c : Command) (r : Result ArgMatches Error) → app_of c ≡ callboard
     → IfOk r (λ m. IsParsedFrom c m) → IfOk r IsParsed
 parsed_by c (Ok m) same parsed = (c, same, parsed)
 parsed_by c (Err e) same parsed = tt
 
-pub refused_task : (words : List Text) (rows : List Row) (f : WordsFault) → fault_of callboard words ≡ []
-    → rows ≡ matches_of callboard words → RefusesTask rows f → RefusesWords words f
-refused_task words rows (Parse e) none same has =
-    subst (λ ks. HasKind (or_else ks (task_kinds (matches_of callboard words))) e) (sym none)
+pub refused_task : (arguments : List Text) (rows : List Row) (f : ArgumentsFault) → fault_of callboard arguments ≡ []
+    → rows ≡ matches_of callboard arguments → RefusesTask rows f → RefusesArguments arguments f
+refused_task arguments rows (Parse e) none same has =
+    subst (λ ks. HasKind (or_else ks (task_kinds (matches_of callboard arguments))) e) (sym none)
     (subst (λ rs. HasKind (task_kinds rs) e) same has)
-refused_task words rows AuditNotAlone none same mixed = (
-  (λ i. or_else (none i) (task_kinds (matches_of callboard words)))
+refused_task arguments rows AuditNotAlone none same mixed = (
+  (λ i. or_else (none i) (task_kinds (matches_of callboard arguments)))
       ∙ ap (λ rs. task_kinds rs) (sym same) ∙ mixed.0,
   ap is_audit_mixed (sym same) ∙ mixed.1,
 )
-refused_task words rows LiveNotAlone none same mixed = (
-  (λ i. or_else (none i) (task_kinds (matches_of callboard words)))
+refused_task arguments rows LiveNotAlone none same mixed = (
+  (λ i. or_else (none i) (task_kinds (matches_of callboard arguments)))
       ∙ ap (λ rs. task_kinds rs) (sym same) ∙ mixed.0,
   ap is_audit_mixed (sym same) ∙ mixed.1,
   ap is_live_mixed (sym same) ∙ mixed.2,
 )
-refused_task words rows ResultsWithoutAudit none same alone = (
-  (λ i. or_else (none i) (task_kinds (matches_of callboard words)))
+refused_task arguments rows ResultsWithoutAudit none same alone = (
+  (λ i. or_else (none i) (task_kinds (matches_of callboard arguments)))
       ∙ ap (λ rs. task_kinds rs) (sym same) ∙ alone.0,
   ap is_audit_mixed (sym same) ∙ alone.1,
   ap is_live_mixed (sym same) ∙ alone.2,
   ap is_results_alone (sym same) ∙ alone.3,
 )
-refused_task words rows WithoutLive none same missing = (
-  (λ i. or_else (none i) (task_kinds (matches_of callboard words)))
+refused_task arguments rows WithoutLive none same missing = (
+  (λ i. or_else (none i) (task_kinds (matches_of callboard arguments)))
       ∙ ap (λ rs. task_kinds rs) (sym same) ∙ missing.0,
   ap is_audit_mixed (sym same) ∙ missing.1,
   ap is_live_mixed (sym same) ∙ missing.2,
   ap is_results_alone (sym same) ∙ missing.3,
   ap is_live_missing (sym same) ∙ missing.4,
 )
-refused_task words rows SyncWithoutJournal none same missing = (
-  (λ i. or_else (none i) (task_kinds (matches_of callboard words)))
+refused_task arguments rows SyncWithoutJournal none same missing = (
+  (λ i. or_else (none i) (task_kinds (matches_of callboard arguments)))
       ∙ ap (λ rs. task_kinds rs) (sym same) ∙ missing.0,
   ap is_audit_mixed (sym same) ∙ missing.1,
   ap is_live_mixed (sym same) ∙ missing.2,

@@ -1,4 +1,4 @@
--- What the words of the command line say.
+-- What the arguments of the command line say.
 use Rattle.std.specs.Prelude.{◌≡◌, true, false, List, [], Some, IfSome, codes, option_map}
 use Rattle.clap.specs.Faults.{fault_of}
 use Rattle.clap.specs.Kinds.{HasKind, Kinds, or_else}
@@ -8,9 +8,10 @@ use Rattle.settings.specs.NumberTexts.{number_at}
 use Rattle.settings.specs.Options.{callboard}
 use Rattle.settings.specs.Tasks.{IsWellMixed, is_audit_mixed, is_journal_missing, is_live_missing, is_live_mixed}
 use Rattle.settings.specs.Tasks.{is_results_alone, is_synced, task_at, task_kinds}
-use Rattle.settings.specs.declared.fault.WordsFault.{WordsFault}
-use Rattle.settings.specs.declared.fault.WordsFault.TheVariants.{Parse, AuditNotAlone, LiveNotAlone}
-use Rattle.settings.specs.declared.fault.WordsFault.TheVariants.{ResultsWithoutAudit, SyncWithoutJournal, WithoutLive}
+use Rattle.settings.specs.declared.fault.ArgumentsFault.{ArgumentsFault}
+use Rattle.settings.specs.declared.fault.ArgumentsFault.TheVariants.{Parse, AuditNotAlone, LiveNotAlone}
+use Rattle.settings.specs.declared.fault.ArgumentsFault.TheVariants.{ResultsWithoutAudit, SyncWithoutJournal}
+use Rattle.settings.specs.declared.fault.ArgumentsFault.TheVariants.{WithoutLive}
 use Rattle.settings.specs.declared.types.Settings.{Settings}
 
 -- each setting is what its option says
@@ -26,33 +27,42 @@ pub record MatchesOptions (rows : List Row) (s : Settings) : Type 0 where
   pub journal : first_of (codes "journal") rows ≡ option_map (λ file. file.name.now) s.journal
   pub synced : IfSome s.journal (λ file. file.is_synced ≡ is_synced rows)
 
--- the words, the program's name first, have no fault, say these settings, and go together
-abbrev pub AcceptsWords : List Text → Settings → Type 0
-AcceptsWords words s = (fault_of callboard words ≡ []) × MatchesOptions (matches_of callboard words) s
-    × IsWellMixed (matches_of callboard words)
+-- the arguments, the program's name first, have no fault, say these settings, and go together
+abbrev pub AcceptsArguments : List Text → Settings → Type 0
+AcceptsArguments arguments s = (fault_of callboard arguments ≡ []) × MatchesOptions (matches_of callboard arguments) s
+    × IsWellMixed (matches_of callboard arguments)
 
--- the words have no fault, and these are the options that they give
+-- the arguments have no fault, and these are the options that they give
 abbrev pub IsParseOf : List Text → List Row → Type 0
-IsParseOf words rows = (fault_of callboard words ≡ []) × (rows ≡ matches_of callboard words)
+IsParseOf arguments rows = (fault_of callboard arguments ≡ []) × (rows ≡ matches_of callboard arguments)
 
--- the kinds of fault of the words: those of the parse, and where it has none, of the words that options were given
-abbrev pub words_kinds : List Text → Kinds
-words_kinds words = or_else (fault_of callboard words) (task_kinds (matches_of callboard words))
+-- the kinds of fault of the arguments: those of the parse, and where it has none, of the arguments that options were
+-- given
+abbrev pub argument_kinds : List Text → Kinds
+argument_kinds arguments = or_else (fault_of callboard arguments) (task_kinds (matches_of callboard arguments))
 
--- Why words are refused: a fault of theirs, refused memory aside; where they have none, an audit that isn't alone;
+-- Why arguments are refused: a fault of theirs, refused memory aside; where they have none, an audit that isn't alone;
 -- where it is, answers as records come that aren't; where they are, results without an audit; then what goes with
 -- answers as records come alone, without them; and then how a journal is kept, without one.
-abbrev pub RefusesWords : List Text → WordsFault → Type 0
-RefusesWords words (Parse error) = HasKind (words_kinds words) error
-RefusesWords words AuditNotAlone = (words_kinds words ≡ []) × (is_audit_mixed (matches_of callboard words) ≡ true)
-RefusesWords words LiveNotAlone = (words_kinds words ≡ []) × (is_audit_mixed (matches_of callboard words) ≡ false)
-    × (is_live_mixed (matches_of callboard words) ≡ true)
-RefusesWords words ResultsWithoutAudit =
-    (words_kinds words ≡ []) × (is_audit_mixed (matches_of callboard words) ≡ false)
-    × (is_live_mixed (matches_of callboard words) ≡ false) × (is_results_alone (matches_of callboard words) ≡ true)
-RefusesWords words WithoutLive = (words_kinds words ≡ []) × (is_audit_mixed (matches_of callboard words) ≡ false)
-    × (is_live_mixed (matches_of callboard words) ≡ false) × (is_results_alone (matches_of callboard words) ≡ false)
-    × (is_live_missing (matches_of callboard words) ≡ true)
-RefusesWords words SyncWithoutJournal = (words_kinds words ≡ []) × (is_audit_mixed (matches_of callboard words) ≡ false)
-    × (is_live_mixed (matches_of callboard words) ≡ false) × (is_results_alone (matches_of callboard words) ≡ false)
-    × (is_live_missing (matches_of callboard words) ≡ false) × (is_journal_missing (matches_of callboard words) ≡ true)
+abbrev pub RefusesArguments : List Text → ArgumentsFault → Type 0
+RefusesArguments arguments (Parse error) = HasKind (argument_kinds arguments) error
+RefusesArguments arguments AuditNotAlone = (argument_kinds arguments ≡ [])
+    × (is_audit_mixed (matches_of callboard arguments) ≡ true)
+RefusesArguments arguments LiveNotAlone = (argument_kinds arguments ≡ [])
+    × (is_audit_mixed (matches_of callboard arguments) ≡ false)
+    × (is_live_mixed (matches_of callboard arguments) ≡ true)
+RefusesArguments arguments ResultsWithoutAudit =
+    (argument_kinds arguments ≡ []) × (is_audit_mixed (matches_of callboard arguments) ≡ false)
+    × (is_live_mixed (matches_of callboard arguments) ≡ false)
+    × (is_results_alone (matches_of callboard arguments) ≡ true)
+RefusesArguments arguments WithoutLive = (argument_kinds arguments ≡ [])
+    × (is_audit_mixed (matches_of callboard arguments) ≡ false)
+    × (is_live_mixed (matches_of callboard arguments) ≡ false)
+    × (is_results_alone (matches_of callboard arguments) ≡ false)
+    × (is_live_missing (matches_of callboard arguments) ≡ true)
+RefusesArguments arguments SyncWithoutJournal = (argument_kinds arguments ≡ [])
+    × (is_audit_mixed (matches_of callboard arguments) ≡ false)
+    × (is_live_mixed (matches_of callboard arguments) ≡ false)
+    × (is_results_alone (matches_of callboard arguments) ≡ false)
+    × (is_live_missing (matches_of callboard arguments) ≡ false)
+    × (is_journal_missing (matches_of callboard arguments) ≡ true)

@@ -1,4 +1,4 @@
--- What the words ask to be done with the input.
+-- What the arguments ask to be done with the input.
 use Rattle.std.specs.Prelude.{◌≡◌, ◌||◌, ◌&&◌, Bool, true, false, List, [], ◌∷◌, Option, Some, None, codes, is_some}
 use Rattle.std.specs.Prelude.{ℕ, if◌then◌else◌, not, option_map, unwrap_or}
 use Rattle.std.specs.Option.{option_map_or}
@@ -7,9 +7,10 @@ use Rattle.clap.specs.Kinds.{HasKind, Kinds, or_else}
 use Rattle.clap.specs.Walk.{Row, Text, first_of, one_of}
 use Rattle.clap.specs.declared.error.kind.ErrorKind.TheVariants.{InvalidValue}
 use Rattle.settings.specs.NumberTexts.{number_at}
-use Rattle.settings.specs.declared.fault.WordsFault.{WordsFault}
-use Rattle.settings.specs.declared.fault.WordsFault.TheVariants.{Parse, AuditNotAlone, LiveNotAlone}
-use Rattle.settings.specs.declared.fault.WordsFault.TheVariants.{ResultsWithoutAudit, SyncWithoutJournal, WithoutLive}
+use Rattle.settings.specs.declared.fault.ArgumentsFault.{ArgumentsFault}
+use Rattle.settings.specs.declared.fault.ArgumentsFault.TheVariants.{Parse, AuditNotAlone, LiveNotAlone}
+use Rattle.settings.specs.declared.fault.ArgumentsFault.TheVariants.{ResultsWithoutAudit, SyncWithoutJournal}
+use Rattle.settings.specs.declared.fault.ArgumentsFault.TheVariants.{WithoutLive}
 use Rattle.settings.specs.declared.types.FloorForm.{FloorForm}
 use Rattle.settings.specs.declared.types.FloorForm.TheVariants as floor
 use Rattle.settings.specs.declared.types.Form.{Form}
@@ -61,7 +62,7 @@ sync_kinds (Some word) = if bytes_eq word (codes "none") then [] else InvalidVal
 abbrev pub is_synced : List Row → Bool
 is_synced rows = not (is_some (sync_in rows))
 
--- the kinds of fault of the words that options were given
+-- the kinds of fault of the arguments that options were given
 abbrev pub task_kinds : List Row → Kinds
 task_kinds rows = or_else (form_kinds (word_in rows)) (sync_kinds (sync_in rows))
 
@@ -124,10 +125,10 @@ abbrev pub IsWellMixed : List Row → Type 0
 IsWellMixed rows = (is_audit_mixed rows ≡ false) × (is_live_mixed rows ≡ false) × (is_results_alone rows ≡ false)
     × (is_live_missing rows ≡ false) × (is_journal_missing rows ≡ false)
 
--- Why options that have no fault of their own say no task. The words that options were given come first, then what is
--- beside an audit, then what is beside answers as records come, then what goes with either and was asked for without
+-- Why options that have no fault of their own say no task. The arguments that options were given come first, then what
+-- is beside an audit, then what is beside answers as records come, then what goes with either and was asked for without
 -- it.
-abbrev pub RefusesTask : List Row → WordsFault → Type 0
+abbrev pub RefusesTask : List Row → ArgumentsFault → Type 0
 RefusesTask rows (Parse error) = HasKind (task_kinds rows) error
 RefusesTask rows AuditNotAlone = (task_kinds rows ≡ []) × (is_audit_mixed rows ≡ true)
 RefusesTask rows LiveNotAlone =

@@ -1,16 +1,16 @@
-//! Why words say no settings.
+//! Why arguments say no settings.
 
 ghost use Rattle.std.specs.Prelude.{◌≡◌};
-ghost use Rattle.settings.specs.WordsLine.{words_fault_line};
-ghost use Rattle.settings.specs.declared.fault.WordsFault.TheVariants.{Parse};
+ghost use Rattle.settings.specs.ArgumentsLine.{arguments_fault_line};
+ghost use Rattle.settings.specs.declared.fault.ArgumentsFault.TheVariants.{Parse};
 
 use clap::Error;
 use std::fmt;
 use std::fmt::{Display, Formatter};
 
-/// Why the words of the command line say no settings.
+/// Why the arguments of the command line say no settings.
 #[derive(Debug, Drop)]
-pub enum WordsFault {
+pub enum ArgumentsFault {
     /// They ask for help, or one is none of the options, no number of its range or no form; or memory was
     /// refused. The text is that of `clap`.
     Parse(Error),
@@ -27,31 +27,31 @@ pub enum WordsFault {
     SyncWithoutJournal,
 }
 
-impl From<Error> for WordsFault {
+impl From<Error> for ArgumentsFault {
     ghost from_gives = { λ error fault. fault ≡ Parse error };
 
-    fn from(error: Error) -> WordsFault {
-        WordsFault::Parse(error)
+    fn from(error: Error) -> ArgumentsFault {
+        ArgumentsFault::Parse(error)
     }
 }
 
-impl Display for WordsFault {
-    ghost output = { words_fault_line };
+impl Display for ArgumentsFault {
+    ghost output = { arguments_fault_line };
 
     fn fmt<W: fmt::Write>(&self, f: &mut Formatter<W>) -> fmt::Result {
         match self {
-            WordsFault::Parse(error) => error.fmt(f),
-            WordsFault::AuditNotAlone => {
+            ArgumentsFault::Parse(error) => error.fmt(f),
+            ArgumentsFault::AuditNotAlone => {
                 f.write_str("--audit goes with none of --floor, --history and --print")
             }
-            WordsFault::LiveNotAlone => {
+            ArgumentsFault::LiveNotAlone => {
                 f.write_str("--live prints lines, without --floor, --history or --audit")
             }
-            WordsFault::ResultsWithoutAudit => f.write_str("--results goes with --audit"),
-            WordsFault::WithoutLive => {
+            ArgumentsFault::ResultsWithoutAudit => f.write_str("--results goes with --audit"),
+            ArgumentsFault::WithoutLive => {
                 f.write_str("--reserve, --journal and --sync go with --live")
             }
-            WordsFault::SyncWithoutJournal => f.write_str("--sync goes with --journal"),
+            ArgumentsFault::SyncWithoutJournal => f.write_str("--sync goes with --journal"),
         }
     }
 }

@@ -6,8 +6,8 @@ ghost use Rattle.clap.specs.Walk.{first_of, texts};
 ghost use Rattle.settings.specs.Ranges.{IsInRange};
 ghost use Rattle.settings.specs.OptionTexts.{HasU32, IsParsed, MayHaveU32, rows_in};
 ghost use Rattle.settings.specs.NumberTexts.{number_at};
-ghost use Rattle.settings.specs.CommandLine.{AcceptsWords, IsParseOf, RefusesWords, MatchesOptions};
-ghost use Rattle.settings.specs.declared.fault.WordsFault.TheVariants.{Parse};
+ghost use Rattle.settings.specs.CommandLine.{AcceptsArguments, IsParseOf, RefusesArguments, MatchesOptions};
+ghost use Rattle.settings.specs.declared.fault.ArgumentsFault.TheVariants.{Parse};
 ghost use Rattle.settings.specs.Tasks.{is_synced, task_at};
 
 mod fault;
@@ -17,7 +17,7 @@ mod types;
 
 use auction_terms::Config;
 use clap::{ArgMatches, Error};
-pub use fault::WordsFault;
+pub use fault::ArgumentsFault;
 use std::alloc::Global;
 use task::{has_word, task_of};
 pub use types::{FloorForm, Form, JournalFile, Listing, Settings, Task, USUAL_RESERVE};
@@ -52,7 +52,7 @@ fn journal_file<'a>(matches: &ArgMatches<'a>) -> Option<JournalFile<'a>>
 fn settings_of<'a>(matches: &ArgMatches<'a>, task: Task) -> Settings<'a>
     requires parsed { IsParsed matches.now }
     requires task { task_at (rows_in matches.now) ≡ Some task }
-    ensures words { MatchesOptions (rows_in matches.now) result }
+    ensures arguments { MatchesOptions (rows_in matches.now) result }
     ensures ranges { IsInRange result }
 {
     let low = number_of(matches, "low");
@@ -77,30 +77,31 @@ fn settings_of<'a>(matches: &ArgMatches<'a>, task: Task) -> Settings<'a>
     }
 }
 
-/// The matches of a parse of the words. The error is clap's own, for words that it refuses or for refused memory.
-fn matches_of<'a>(alloc: Global, words: &'a [&'a str]) -> Result<ArgMatches<'a>, Error>
-    ensures refused { IfErr result (λ e. RefusesWords (texts words.now) (Parse e)) }
+/// The matches of a parse of the arguments. The error is clap's own, for arguments that it refuses or for refused
+/// memory.
+fn matches_of<'a>(alloc: Global, arguments: &'a [&'a str]) -> Result<ArgMatches<'a>, Error>
+    ensures refused { IfErr result (λ e. RefusesArguments (texts arguments.now) (Parse e)) }
     ensures parsed { IfOk result IsParsed }
-    ensures rows { IfOk result (λ matches. IsParseOf (texts words.now) (rows_in matches)) }
+    ensures rows { IfOk result (λ matches. IsParseOf (texts arguments.now) (rows_in matches)) }
 {
     let command = options::callboard(alloc)?;
-    command.try_get_matches_from(words)
+    command.try_get_matches_from(arguments)
 }
 
-/// Reads the command line: `words` is the program's name and then its words.
+/// Reads the command line: `arguments` is the program's name and then its arguments.
 ///
 /// Prices are in ticks. Each number is the one that its option gives, or the option's default, and is in its option's
 /// range; what two options say together is for the auction to judge. An error is clap's own: its text for the help that
-/// was asked for, for words that are none of these options, a number out of its range or a form that there is not, and
-/// for refused memory. Where none of these is so, it is that options don't go together: that `--audit` isn't alone, or
-/// that `--live` isn't, or that `--results` was given without `--audit`, or `--reserve`, `--journal` or `--sync`
+/// was asked for, for arguments that are none of these options, a number out of its range or a form that there is not,
+/// and for refused memory. Where none of these is so, it is that options don't go together: that `--audit` isn't alone,
+/// or that `--live` isn't, or that `--results` was given without `--audit`, or `--reserve`, `--journal` or `--sync`
 /// without `--live`, or `--sync` without `--journal`.
-pub fn settings<'a>(alloc: Global, words: &'a [&'a str]) -> Result<Settings<'a>, WordsFault>
-    ensures refused { IfErr result (RefusesWords (texts words.now)) }
-    ensures words { IfOk result (AcceptsWords (texts words.now)) }
+pub fn settings<'a>(alloc: Global, arguments: &'a [&'a str]) -> Result<Settings<'a>, ArgumentsFault>
+    ensures refused { IfErr result (RefusesArguments (texts arguments.now)) }
+    ensures arguments { IfOk result (AcceptsArguments (texts arguments.now)) }
     ensures ranges { IfOk result IsInRange }
 {
-    let matches = matches_of(alloc, words)?;
+    let matches = matches_of(alloc, arguments)?;
     let task = task_of(alloc, &matches)?;
     Ok(settings_of(&matches, task))
 }

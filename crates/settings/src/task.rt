@@ -12,7 +12,7 @@ ghost use Rattle.settings.specs.Tasks.{is_audit_mixed, is_given, is_journal_miss
 ghost use Rattle.settings.specs.Tasks.{is_results_alone, reserve_at, sync_in, sync_kinds, task_at, task_kinds, word_in};
 ghost use Rattle.settings.specs.declared.types.Task.TheVariants.{Live};
 
-use crate::fault::WordsFault;
+use crate::fault::ArgumentsFault;
 use crate::types::{FloorForm, Form, Listing, Task, USUAL_RESERVE};
 use crate::{number_if_given, options};
 use clap::error::ErrorKind;
@@ -53,7 +53,7 @@ fn unknown_text(alloc: Global, word: &str, option: &str, possible: &str) -> Resu
     Ok(text)
 }
 
-/// What a command says of a bad value, in these words. The other error is that memory is refused.
+/// What a command says of a bad value, in these arguments. The other error is that memory is refused.
 fn invalid_value_of(command: &mut Command<'_>, text: &str) -> Result<Error, Error>
     ensures kind { IfOk result (λ e. kind_of e ≡ InvalidValue) }
     ensures memory { IfErr result (λ e. kind_of e ≡ OutOfMemory) }
@@ -61,7 +61,7 @@ fn invalid_value_of(command: &mut Command<'_>, text: &str) -> Result<Error, Erro
     Ok(command.error(ErrorKind::InvalidValue, text)?)
 }
 
-/// What `clap` would say of a bad value, in these words. The other error is that memory is refused.
+/// What `clap` would say of a bad value, in these arguments. The other error is that memory is refused.
 fn invalid_value(alloc: Global, text: &str) -> Result<Error, Error>
     ensures kind { IfOk result (λ e. kind_of e ≡ InvalidValue) }
     ensures memory { IfErr result (λ e. kind_of e ≡ OutOfMemory) }
@@ -177,7 +177,7 @@ fn is_journal_missing(matches: &ArgMatches<'_>) -> bool
 }
 
 /// Refuses options that don't go together.
-fn refuse_mix(matches: &ArgMatches<'_>, form: Form) -> Result<(), WordsFault>
+fn refuse_mix(matches: &ArgMatches<'_>, form: Form) -> Result<(), ArgumentsFault>
     requires parsed { IsParsed matches.now }
     requires form { wanted_form (word_in (rows_in matches.now)) ≡ Some form }
     requires sync { sync_kinds (sync_in (rows_in matches.now)) ≡ [] }
@@ -185,19 +185,19 @@ fn refuse_mix(matches: &ArgMatches<'_>, form: Form) -> Result<(), WordsFault>
     ensures mixed { IfOk result (λ _. IsWellMixed (rows_in matches.now)) }
 {
     if is_audit_mixed(matches) {
-        return Err(WordsFault::AuditNotAlone);
+        return Err(ArgumentsFault::AuditNotAlone);
     }
     if is_live_mixed(matches, form) {
-        return Err(WordsFault::LiveNotAlone);
+        return Err(ArgumentsFault::LiveNotAlone);
     }
     if is_results_alone(matches) {
-        return Err(WordsFault::ResultsWithoutAudit);
+        return Err(ArgumentsFault::ResultsWithoutAudit);
     }
     if is_live_missing(matches) {
-        return Err(WordsFault::WithoutLive);
+        return Err(ArgumentsFault::WithoutLive);
     }
     if is_journal_missing(matches) {
-        return Err(WordsFault::SyncWithoutJournal);
+        return Err(ArgumentsFault::SyncWithoutJournal);
     }
     Ok(())
 }
@@ -225,7 +225,7 @@ fn floor_form(form: Form, history: bool) -> FloorForm
 }
 
 /// What the matches of a parse ask for.
-pub fn task_of(alloc: Global, matches: &ArgMatches<'_>) -> Result<Task, WordsFault>
+pub fn task_of(alloc: Global, matches: &ArgMatches<'_>) -> Result<Task, ArgumentsFault>
     requires { IsParsed matches.now }
     ensures refused { IfErr result (RefusesTask (rows_in matches.now)) }
     ensures task { IfOk result (λ task. task_at (rows_in matches.now) ≡ Some task) }

@@ -219,7 +219,7 @@ where
         )
         && two.operator.call(board, rt, Command::Indicate) == full
         && board
-            .floor()
+            .locked()
             .lock(rt)
             .record(&mut two.operator, rt, Command::Indicate)
             == full

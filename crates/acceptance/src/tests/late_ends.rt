@@ -1,6 +1,6 @@
 //! An end that isn't ready at once.
 
-use process_ends::Patient;
+use byte_streams::Patient;
 use std::io::{Error, ErrorKind, Read, Result, Write};
 use std::process::Abort;
 

@@ -1,13 +1,15 @@
 //! Scripts played at once: what no clause says, and each public call once.
 ghost use Rattle.std.specs.Prelude.{◌≡◌, ◌≤◌, length, IfOk};
-ghost use Rattle.member_floor.specs.PlaysScript.{FitsMembers};
+ghost use Rattle.member_board.specs.PlaysScript.{FitsMembers};
 
 use super::closed;
 use auction::{AuditFinding, audit};
 use auction_terms::{Command, Config, MAX_CALLS};
 use left_right::Absorb;
-use member_board::{Board, BoardIdentity, CallFault, Closing, Fresh, Member, Update, Version};
-use member_floor::{FloorOutcome, Gate, OpenGate, RunFault, Script, ScriptRun, run};
+use member_board::{
+    Board, BoardIdentity, CallFault, Closing, FloorOutcome, Fresh, Gate, Member, OpenGate,
+    RunFault, Script, ScriptRun, Update, Version, run,
+};
 use std::alloc::{AllocError, Global};
 use std::marker::Brand;
 use std::sync::Wait;

@@ -1,29 +1,29 @@
-//! The words of the command line.
+//! The arguments of the command line.
 
 use super::DAY;
 use auction_terms::Config;
 use clap::error::ErrorKind;
-use settings::{FloorForm, Form, JournalFile, Listing, Settings, Task, WordsFault, settings};
+use settings::{ArgumentsFault, FloorForm, Form, JournalFile, Listing, Settings, Task, settings};
 use std::alloc::Global;
 
-/// Whether these words give these settings.
-fn gives(alloc: Global, words: &[&str], wanted: Settings<'_>) -> bool {
-    match settings(alloc, words) {
+/// Whether these arguments give these settings.
+fn gives(alloc: Global, arguments: &[&str], wanted: Settings<'_>) -> bool {
+    match settings(alloc, arguments) {
         Ok(found) => found == wanted,
         Err(_) => false,
     }
 }
 
-/// The name of the fault by which these words are refused; of words that are taken there is none.
-fn fault_of(alloc: Global, words: &[&str]) -> Option<&'static str> {
-    match settings(alloc, words) {
+/// The name of the fault by which these arguments are refused; of arguments that are taken there is none.
+fn fault_of(alloc: Global, arguments: &[&str]) -> Option<&'static str> {
+    match settings(alloc, arguments) {
         Ok(_) => None,
-        Err(WordsFault::Parse(_)) => Some("Parse"),
-        Err(WordsFault::AuditNotAlone) => Some("AuditNotAlone"),
-        Err(WordsFault::LiveNotAlone) => Some("LiveNotAlone"),
-        Err(WordsFault::ResultsWithoutAudit) => Some("ResultsWithoutAudit"),
-        Err(WordsFault::WithoutLive) => Some("WithoutLive"),
-        Err(WordsFault::SyncWithoutJournal) => Some("SyncWithoutJournal"),
+        Err(ArgumentsFault::Parse(_)) => Some("Parse"),
+        Err(ArgumentsFault::AuditNotAlone) => Some("AuditNotAlone"),
+        Err(ArgumentsFault::LiveNotAlone) => Some("LiveNotAlone"),
+        Err(ArgumentsFault::ResultsWithoutAudit) => Some("ResultsWithoutAudit"),
+        Err(ArgumentsFault::WithoutLive) => Some("WithoutLive"),
+        Err(ArgumentsFault::SyncWithoutJournal) => Some("SyncWithoutJournal"),
     }
 }
 
@@ -38,14 +38,14 @@ const fn settings_for(task: Task) -> Settings<'static> {
 }
 
 #[test]
-fn without_words_each_option_has_its_default(rt: HostRuntime) {
+fn without_arguments_each_option_has_its_default(rt: HostRuntime) {
     let wanted = settings_for(Task::Run(Form::Lines));
     assert!(rt; gives(rt.alloc(), &["callboard"], wanted));
 }
 
 #[test]
 fn each_option_is_read(rt: HostRuntime) {
-    let words = [
+    let arguments = [
         "callboard",
         "--low",
         "5",
@@ -75,11 +75,11 @@ fn each_option_is_read(rt: HostRuntime) {
         task: Task::Floor(FloorForm::Listing(Listing::Journal)),
         journal: None,
     };
-    assert!(rt; gives(rt.alloc(), words.as_slice(), wanted));
+    assert!(rt; gives(rt.alloc(), arguments.as_slice(), wanted));
 }
 
 #[test]
-fn other_words_are_refused(rt: HostRuntime) {
+fn other_arguments_are_refused(rt: HostRuntime) {
     let bad = [
         ["--low", "0"],
         ["--high", "1000001"],
@@ -94,14 +94,14 @@ fn other_words_are_refused(rt: HostRuntime) {
         ["--print", "text"],
         ["--nothing", "1"],
     ];
-    for words in bad.as_slice() {
-        assert!(rt; settings(rt.alloc(), &["callboard", words[0], words[1]]).is_err());
+    for arguments in bad.as_slice() {
+        assert!(rt; settings(rt.alloc(), &["callboard", arguments[0], arguments[1]]).is_err());
     }
 }
 
 #[test]
 fn help_is_an_error_of_its_own(rt: HostRuntime) {
-    let Err(WordsFault::Parse(error)) = settings(rt.alloc(), &["callboard", "--help"]) else {
+    let Err(ArgumentsFault::Parse(error)) = settings(rt.alloc(), &["callboard", "--help"]) else {
         assert!(rt; false);
         return;
     };
@@ -160,11 +160,11 @@ const fn kept_session(is_synced: bool) -> Settings<'static> {
 
 #[test]
 fn a_session_may_be_kept(rt: HostRuntime) {
-    for (words, is_synced) in [
+    for (arguments, is_synced) in [
         (["--live", "--reserve=16", "--journal", "day.csv"], true),
         (["--journal=day.csv", "--live", "--sync", "none"], false),
     ] {
-        let [a, b, c, d] = words;
+        let [a, b, c, d] = arguments;
         let wanted = kept_session(is_synced);
         assert!(rt; gives(rt.alloc(), &["callboard", a, b, c, d], wanted));
     }

@@ -14,7 +14,7 @@ use byte_streams::FromMemory;
 use clap::error::ErrorKind;
 use order_book::Orders;
 use order_file::FileFault;
-use settings::{WordsFault, settings};
+use settings::{ArgumentsFault, settings};
 use std::alloc::{AllocError, Global};
 use tick_ladder::Ladder;
 
@@ -75,22 +75,22 @@ fn an_order_file_is_read(rt: HostRuntime) -> Result<(), FileFault> {
 }
 
 #[test]
-fn the_words_are_read(rt: HostRuntime) -> Result<(), AllocError> {
+fn the_arguments_are_read(rt: HostRuntime) -> Result<(), AllocError> {
     match settings(rt.alloc(), &["callboard", "--range", "5"]) {
         Ok(settings) => {
             assert_eq!(rt; settings.config.range, Some(5));
             Ok(())
         }
-        Err(WordsFault::Parse(error)) => {
+        Err(ArgumentsFault::Parse(error)) => {
             assert!(rt; error.kind() == ErrorKind::OutOfMemory);
             Err(AllocError)
         }
         Err(
-            WordsFault::AuditNotAlone
-            | WordsFault::LiveNotAlone
-            | WordsFault::ResultsWithoutAudit
-            | WordsFault::WithoutLive
-            | WordsFault::SyncWithoutJournal,
+            ArgumentsFault::AuditNotAlone
+            | ArgumentsFault::LiveNotAlone
+            | ArgumentsFault::ResultsWithoutAudit
+            | ArgumentsFault::WithoutLive
+            | ArgumentsFault::SyncWithoutJournal,
         ) => {
             assert!(rt; false);
             Ok(())

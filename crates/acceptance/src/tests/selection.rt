@@ -1,6 +1,6 @@
 //! The selection by lanes, over a chunk of eight and one more.
 
-use lane_select::{
+use lanes::{
     any, first, first_positive, gap_size, greatest_where, keep_above, keep_equal, last,
     last_positive, least_where, lesser,
 };

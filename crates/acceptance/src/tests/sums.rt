@@ -1,6 +1,6 @@
 //! The running sums by lanes, over a chunk of eight and one more.
 
-use lane_prefix::{falling, meet, rising, total};
+use lanes::{falling, meet, rising, total};
 
 const ONE_TO_NINE: [u64; 9] = [1, 2, 3, 4, 5, 6, 7, 8, 9];
 

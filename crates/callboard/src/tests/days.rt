@@ -6,7 +6,7 @@ use std::test::Fail;
 static EXAMPLES: [Example; 11] = [
     Example {
         name: "an empty book has no price",
-        words: &["callboard"],
+        arguments: &["callboard"],
         text: "\
 1,ask -> no price bid - ask -
 0,uncross -> opening no price
@@ -15,7 +15,7 @@ static EXAMPLES: [Example; 11] = [
     },
     Example {
         name: "the limit with the most volume is the price",
-        words: &["callboard", "--range", "0"],
+        arguments: &["callboard", "--range", "0"],
         text: "\
 1,enter,bid,200,202 -> entered 1
 1,enter,bid,200,201 -> entered 2
@@ -32,7 +32,7 @@ static EXAMPLES: [Example; 11] = [
     },
     Example {
         name: "one limit beside market orders is the price",
-        words: &["callboard"],
+        arguments: &["callboard"],
         text: "\
 1,enter,ask,100,market -> entered 1
 2,enter,bid,60,market -> entered 2
@@ -42,7 +42,7 @@ static EXAMPLES: [Example; 11] = [
     },
     Example {
         name: "a deleted limit is no price any more",
-        words: &["callboard", "--reference", "185"],
+        arguments: &["callboard", "--reference", "185"],
         text: "\
 1,enter,bid,100,market -> entered 1
 2,enter,ask,100,market -> entered 2
@@ -56,7 +56,7 @@ static EXAMPLES: [Example; 11] = [
     },
     Example {
         name: "one tick is enough",
-        words: &["callboard", "--low", "200", "--high", "200"],
+        arguments: &["callboard", "--low", "200", "--high", "200"],
         text: "\
 1,enter,bid,1,200 -> entered 1
 2,enter,ask,1,200 -> entered 2
@@ -65,7 +65,7 @@ static EXAMPLES: [Example; 11] = [
     },
     Example {
         name: "the reference decides without a surplus",
-        words: &["callboard", "--reference", "190"],
+        arguments: &["callboard", "--reference", "190"],
         text: "\
 1,enter,bid,100,210 -> entered 1
 2,enter,ask,100,190 -> entered 2
@@ -74,7 +74,7 @@ static EXAMPLES: [Example; 11] = [
     },
     Example {
         name: "the reference decides without a surplus",
-        words: &["callboard", "--reference", "250"],
+        arguments: &["callboard", "--reference", "250"],
         text: "\
 1,enter,bid,100,210 -> entered 1
 2,enter,ask,100,190 -> entered 2
@@ -83,7 +83,7 @@ static EXAMPLES: [Example; 11] = [
     },
     Example {
         name: "orders are changed and deleted",
-        words: &["callboard"],
+        arguments: &["callboard"],
         text: "\
 1,enter,bid,500,200,100 -> entered 1
 1,status,1 -> order bid 500 at 200 visible 100
@@ -102,7 +102,7 @@ static EXAMPLES: [Example; 11] = [
     },
     Example {
         name: "an order for the closing auction waits",
-        words: &["callboard"],
+        arguments: &["callboard"],
         text: "\
 1,enter,bid,150,200,,closing -> entered 1
 0,uncross -> opening no price
@@ -117,7 +117,7 @@ static EXAMPLES: [Example; 11] = [
     },
     Example {
         name: "a price far from the reference interrupts",
-        words: &["callboard", "--range", "5"],
+        arguments: &["callboard", "--range", "5"],
         text: "\
 1,enter,bid,100,210 -> entered 1
 2,enter,ask,100,206 -> entered 2
@@ -132,7 +132,7 @@ static EXAMPLES: [Example; 11] = [
     },
     Example {
         name: "a price far from the reference interrupts",
-        words: &["callboard", "--range", "6"],
+        arguments: &["callboard", "--range", "6"],
         text: "\
 1,enter,bid,100,210 -> entered 1
 2,enter,ask,100,206 -> entered 2

@@ -45,7 +45,7 @@ audit legal
 4: member 0 order bid 40 at 200 visible 40
 ";
 
-/// The words of each kind of run, and what it writes where no device fails.
+/// The arguments of each kind of run, and what it writes where no device fails.
 const RUNS: [(&[&str], &str); 4] = [
     (&["callboard"], LINES),
     (&["callboard", "--history"], LINES),
@@ -123,7 +123,7 @@ impl Writer for Taker {
 fn printed_by<I: Ledger, O: Ledger, T: AllocGlobal + Wait + Threads + Sync>(
     rt: &T,
     blanks: (Blank, Blank),
-    words: &[&str],
+    arguments: &[&str],
     giver: Giver<'_>,
     taker: Taker,
 ) -> Printed
@@ -145,7 +145,7 @@ fn printed_by<I: Ledger, O: Ledger, T: AllocGlobal + Wait + Threads + Sync>(
     let (status, err) = served::<_, _, Brand, Tracked<Opened<'_>>, NoFiles, T>(
         rt,
         Blank::new(1),
-        words,
+        arguments,
         reader,
         &mut out,
         NoFiles,
@@ -164,7 +164,7 @@ fn printed_by<I: Ledger, O: Ledger, T: AllocGlobal + Wait + Threads + Sync>(
 /// A run that reads `reads` times and writes `writes` times, `step` bytes at a time.
 pub(super) fn run_devices<T: AllocGlobal + Wait + Threads + Sync>(
     rt: &T,
-    words: &[&str],
+    arguments: &[&str],
     step: usize,
     reads: usize,
     writes: usize,
@@ -182,7 +182,7 @@ pub(super) fn run_devices<T: AllocGlobal + Wait + Threads + Sync>(
         fails,
     };
     let blanks = (Blank::new(1), Blank::new(1));
-    printed_by::<Brand, Brand, T>(rt, blanks, words, giver, taker)
+    printed_by::<Brand, Brand, T>(rt, blanks, arguments, giver, taker)
 }
 
 /// What a failing device ends with: status 3, this line, and as much of the output as was taken.
@@ -194,8 +194,8 @@ pub(super) fn ends_with<T: Abort>(rt: &T, written: &Printed, line: &str, taken: 
 
 #[test]
 fn one_byte_at_a_time_is_enough(rt: HostRuntime) {
-    for (words, out) in RUNS {
-        let written = run_devices(&rt, words, 1, 10_000, 10_000, true);
+    for (arguments, out) in RUNS {
+        let written = run_devices(&rt, arguments, 1, 10_000, 10_000, true);
         assert_eq!(rt; written.status, 0);
         assert_eq!(rt; from_utf8(written.out.as_slice()).unwrap_or("?"), out);
         assert!(rt; written.err.is_empty());
@@ -204,15 +204,15 @@ fn one_byte_at_a_time_is_enough(rt: HostRuntime) {
 
 #[test]
 fn a_device_that_fails_stops_the_run(rt: HostRuntime) {
-    for (words, out) in RUNS {
+    for (arguments, out) in RUNS {
         for reads in 0..=INPUT.len().div_ceil(8) {
-            let written = run_devices(&rt, words, 8, reads, 10_000, true);
+            let written = run_devices(&rt, arguments, 8, reads, 10_000, true);
             ends_with(&rt, &written, "read failed\n", Some(&[]));
         }
         for writes in 0..out.len().div_ceil(8) {
             let taken = out.as_bytes().get(..writes.saturating_mul(8));
             for fails in [true, false] {
-                let written = run_devices(&rt, words, 8, 10_000, writes, fails);
+                let written = run_devices(&rt, arguments, 8, 10_000, writes, fails);
                 ends_with(&rt, &written, "write failed\n", taken);
             }
         }

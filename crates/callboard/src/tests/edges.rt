@@ -8,7 +8,7 @@ use std::sync::Wait;
 use std::test::Fail;
 use std::thread::Threads;
 
-/// The words of a board from 10 to 20. Without --members it has members 0 to 3.
+/// The arguments of a board from 10 to 20. Without --members it has members 0 to 3.
 const ELEVEN_TICKS: &[&str] = &[
     "callboard",
     "--low",
@@ -22,7 +22,7 @@ const ELEVEN_TICKS: &[&str] = &[
 static EXAMPLES: [Example; 6] = [
     Example {
         name: "terms of an order",
-        words: ELEVEN_TICKS,
+        arguments: ELEVEN_TICKS,
         text: "\
 # A quantity is 1 to 1,000,000,000.
 1,enter,bid,0,15 -> refused 1 BadQuantity
@@ -62,7 +62,7 @@ static EXAMPLES: [Example; 6] = [
     },
     Example {
         name: "terms of a change",
-        words: ELEVEN_TICKS,
+        arguments: ELEVEN_TICKS,
         text: "\
 1,enter,bid,5,15 -> entered 1
 1,change,1,0,15 -> refused 1 BadQuantity
@@ -93,7 +93,7 @@ static EXAMPLES: [Example; 6] = [
     },
     Example {
         name: "numbers of orders",
-        words: ELEVEN_TICKS,
+        arguments: ELEVEN_TICKS,
         text: "\
 # The first order has the number 1, and no order has the number 0.
 1,status,0 -> refused 5 UnknownOrder
@@ -126,7 +126,7 @@ static EXAMPLES: [Example; 6] = [
     },
     Example {
         name: "numbers of trades",
-        words: ELEVEN_TICKS,
+        arguments: ELEVEN_TICKS,
         text: "\
 1,trade,0 -> refused 8 NoSuchTrade
 1,trade,1 -> refused 8 NoSuchTrade
@@ -153,7 +153,7 @@ static EXAMPLES: [Example; 6] = [
     },
     Example {
         name: "ten digits are a number",
-        words: &["callboard"],
+        arguments: &["callboard"],
         text: "\
 0000000001,enter,bid,0000000005,0000000200 -> entered 1
 0000000001,enter,bid,5,200,0000000000 -> refused 3 BadPeak
@@ -165,7 +165,7 @@ static EXAMPLES: [Example; 6] = [
     },
     Example {
         name: "a book for one order",
-        words: &["callboard", "--open", "1"],
+        arguments: &["callboard", "--open", "1"],
         text: "\
 1,enter,bid,5,200 -> entered 1
 2,enter,ask,5,200 -> refused 4 BookFull
@@ -218,7 +218,7 @@ static RANGES: [(&str, &str, &str, bool); 13] = [
 fn prices_at_the_ends_of_the_range(rt: HostRuntime) -> Result<(), Fail> {
     let alloc = rt.alloc();
     for &(first, range, tick, interrupted) in RANGES.as_slice() {
-        let words = [
+        let arguments = [
             "callboard",
             "--high",
             "65536",
@@ -241,7 +241,7 @@ fn prices_at_the_ends_of_the_range(rt: HostRuntime) -> Result<(), Fail> {
         )?;
         gives(
             &rt,
-            words.as_slice(),
+            arguments.as_slice(),
             input.as_str().as_bytes(),
             out.as_str(),
             "",
@@ -269,11 +269,11 @@ static MEMBERS: [(&str, &str, bool); 11] = [
 fn members_at_both_ends(rt: HostRuntime) {
     let bad = "record 1: bad member\n";
     for &(members, record, good) in MEMBERS.as_slice() {
-        let words = ["callboard", "--members", members];
+        let arguments = ["callboard", "--members", members];
         if good {
-            gives(&rt, words.as_slice(), record.as_bytes(), SHOWN, "", 0);
+            gives(&rt, arguments.as_slice(), record.as_bytes(), SHOWN, "", 0);
         } else {
-            gives_fault(&rt, words.as_slice(), record.as_bytes(), bad);
+            gives_fault(&rt, arguments.as_slice(), record.as_bytes(), bad);
         }
     }
 }
@@ -386,7 +386,7 @@ fn told(
 fn bounds_and_reference(rt: HostRuntime) -> Result<(), Fail> {
     let alloc = rt.alloc();
     for &(low, high, first, wrong) in BOUNDS.as_slice() {
-        let words = [
+        let arguments = [
             "callboard",
             "--low",
             low,
@@ -397,7 +397,7 @@ fn bounds_and_reference(rt: HostRuntime) -> Result<(), Fail> {
         ];
         let err = told(alloc, low, high, first, wrong)?;
         let status = if err.is_empty() { 0 } else { 2 };
-        gives(&rt, words.as_slice(), b"", "", err.as_str(), status);
+        gives(&rt, arguments.as_slice(), b"", "", err.as_str(), status);
     }
     Ok(())
 }
@@ -461,9 +461,9 @@ static OTHER_WORDS: [&str; 10] = [
     "18446744073709551617",
 ];
 
-/// Whether the program takes these words. Where it doesn't, it says so, and reads and prints nothing.
-fn takes<T: Abort + AllocGlobal + Wait + Threads + Sync>(rt: &T, words: &[&str]) -> bool {
-    let printed = run(rt, words, b"0,ask");
+/// Whether the program takes these arguments. Where it doesn't, it says so, and reads and prints nothing.
+fn takes<T: Abort + AllocGlobal + Wait + Threads + Sync>(rt: &T, arguments: &[&str]) -> bool {
+    let printed = run(rt, arguments, b"0,ask");
     let taken = printed.status == 0;
     let (out, status) = if taken { (SHOWN, 0) } else { ("", 2) };
     assert_eq!(rt; from_utf8(printed.out.as_slice()).unwrap_or("?"), out);
@@ -474,14 +474,14 @@ fn takes<T: Abort + AllocGlobal + Wait + Threads + Sync>(rt: &T, words: &[&str])
 #[test]
 fn options_and_what_they_take(rt: HostRuntime) {
     for &(option, number, good) in OPTIONS.as_slice() {
-        let words = ["callboard", option, number];
-        assert_eq!(rt; takes(&rt, words.as_slice()), good, "{option} {number}");
+        let arguments = ["callboard", option, number];
+        assert_eq!(rt; takes(&rt, arguments.as_slice()), good, "{option} {number}");
     }
     for &option in NAMES.as_slice() {
         assert!(rt; !takes(&rt, ["callboard", option].as_slice()), "{option}");
         for &number in OTHER_WORDS.as_slice() {
-            let words = ["callboard", option, number];
-            assert!(rt; !takes(&rt, words.as_slice()), "{option} '{number}'");
+            let arguments = ["callboard", option, number];
+            assert!(rt; !takes(&rt, arguments.as_slice()), "{option} '{number}'");
         }
     }
     assert!(rt; !takes(&rt, &["callboard", "--nothing", "1"]));

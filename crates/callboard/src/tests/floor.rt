@@ -3,7 +3,7 @@
 use super::{PLAIN, Row, SHOWN, each_gives, run_under};
 use auction::OpenFault;
 use auction_terms::Config;
-use member_floor::{Gate, OpenGate};
+use member_board::{Gate, OpenGate};
 use order_file::FileFault;
 use program_runs::{Fault, Finish};
 use std::sync::Wait;

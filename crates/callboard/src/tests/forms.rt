@@ -401,11 +401,11 @@ static BESIDE: [&[&str]; 4] = [
 
 #[test]
 fn results_go_with_an_audit(rt: HostRuntime) {
-    for words in [
+    for arguments in [
         ["callboard", "--results", "--open=5"],
         ["callboard", "--results", "--live"],
     ] {
-        let printed = run(&rt, words.as_slice(), ORDERS_JOURNAL.as_bytes());
+        let printed = run(&rt, arguments.as_slice(), ORDERS_JOURNAL.as_bytes());
         assert_eq!(rt; printed.status, 2);
         assert!(rt; printed.out.is_empty());
         let text = from_utf8(printed.err.as_slice()).unwrap_or("?");
@@ -416,8 +416,8 @@ fn results_go_with_an_audit(rt: HostRuntime) {
 #[test]
 fn an_audit_stands_alone(rt: HostRuntime) {
     let line = "--audit goes with none of --floor, --history and --print\n";
-    for words in BESIDE {
-        let printed = run(&rt, words, ORDERS_JOURNAL.as_bytes());
+    for arguments in BESIDE {
+        let printed = run(&rt, arguments, ORDERS_JOURNAL.as_bytes());
         assert_eq!(rt; printed.status, 2);
         assert!(rt; printed.out.is_empty());
         assert_eq!(rt; from_utf8(printed.err.as_slice()).unwrap_or("?"), line);

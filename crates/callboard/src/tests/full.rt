@@ -8,7 +8,7 @@ const OPEN: u32 = 65_536;
 
 const HALF: u32 = 32_768;
 
-/// The words of a board as large as may be.
+/// The arguments of a board as large as may be.
 const LARGEST: &[&str] = &[
     "callboard",
     "--low",

@@ -86,15 +86,15 @@ fn a_fault_tells_its_cause(rt: HostRuntime) {
 }
 
 #[test]
-fn a_file_among_the_words_is_told_of(rt: HostRuntime) {
+fn a_file_among_the_arguments_is_told_of(rt: HostRuntime) {
     let rows: [(&[&str], &str); 4] = [
         (&["./callboard", "day.csv"], "day.csv"),
         (&["callboard", "--audit", "days/one"], "days/one"),
         (&["callboard", "--low", "5", "./x"], "./x"),
         (&["callboard", "--floor", "x"], ""),
     ];
-    for (words, file) in rows {
-        let printed = run(&rt, words, b"");
+    for (arguments, file) in rows {
+        let printed = run(&rt, arguments, b"");
         let told = from_utf8(printed.err.as_slice()).unwrap_or("?");
         let cause = "\nreads standard input: callboard < ";
         assert_eq!(rt; printed.status, 2);

@@ -135,7 +135,7 @@ impl<'a> OpensJournal<Tracked<Held<'a>>> for HeldBytes<'a> {
 /// What a session on this file, which fails after `calls_left` calls, comes to.
 fn kept_on<T: AllocGlobal + Wait + Threads + Sync>(
     rt: &T,
-    words: &[&str],
+    arguments: &[&str],
     input: &[u8],
     bytes: &mut Vec<u8>,
     calls_left: usize,
@@ -144,13 +144,13 @@ fn kept_on<T: AllocGlobal + Wait + Threads + Sync>(
     run_to_memory::<Brand, Tracked<Held<'_>>, HeldBytes<'_>, T>(
         rt,
         Blank::new(1),
-        words,
+        arguments,
         input,
         file,
     )
 }
 
-/// The words of a session, what its file holds, its input, the output, the error and the status that they give, and
+/// The arguments of a session, what its file holds, its input, the output, the error and the status that they give, and
 /// what the file then holds.
 type KeptRow = (
     &'static [&'static str],
@@ -278,9 +278,9 @@ const ROWS: [KeptRow; 13] = [
 
 #[test]
 fn a_session_is_kept_and_gone_on_with(rt: HostRuntime) -> Result<(), AllocError> {
-    for (words, before, input, out, err, status, after) in ROWS {
+    for (arguments, before, input, out, err, status, after) in ROWS {
         let mut bytes = before.as_bytes().to_vec(rt.alloc())?;
-        let printed = kept_on(&rt, words, input, &mut bytes, MANY_CALLS);
+        let printed = kept_on(&rt, arguments, input, &mut bytes, MANY_CALLS);
         assert_eq!(rt; from_utf8(printed.out.as_slice()).unwrap_or("?"), out);
         assert_eq!(rt; from_utf8(printed.err.as_slice()).unwrap_or("?"), err);
         assert_eq!(rt; printed.status, status);

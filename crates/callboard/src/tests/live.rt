@@ -97,8 +97,8 @@ fn records_are_answered_one_by_one(rt: HostRuntime) {
 #[test]
 fn live_goes_with_lines_alone(rt: HostRuntime) {
     let line = "--live prints lines, without --floor, --history or --audit\n";
-    for words in MIXED {
-        each_gives(&rt, &[(words, b"1,ask\n", "", line, 2)]);
+    for arguments in MIXED {
+        each_gives(&rt, &[(arguments, b"1,ask\n", "", line, 2)]);
     }
     let alone = &["callboard", "--reserve", "16"];
     each_gives(

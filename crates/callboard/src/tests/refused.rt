@@ -8,7 +8,7 @@
 use super::live::LIVE;
 use super::{PLAIN, RunResult, run, run_under};
 use auction_terms::Config;
-use member_floor::OpenGate;
+use member_board::OpenGate;
 use program_runs::Fault;
 use std::alloc::AllocError;
 use std::process::Abort;

@@ -5,8 +5,7 @@ use super::{Plan, closing_under};
 use auction_terms::{
     AuctionKind, Command, Display, Entry, Limit, MAX_CALLS, Price, Reply, Restriction, Side,
 };
-use member_board::Receipt;
-use member_floor::Gate;
+use member_board::{Gate, Receipt};
 use std::alloc::{AllocError, Global};
 use std::sync::Wait;
 use std::sync::atomic::Ordering::SeqCst;

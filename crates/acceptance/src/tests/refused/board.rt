@@ -8,8 +8,9 @@ use crate::tests::members::{Plan, closing_under};
 use crate::tests::{BID, DAY, bid_entered, closed};
 use auction_terms::Reply;
 use left_right::Absorb;
-use member_board::{Board, BoardIdentity, Closing, Fresh, Member, Receipt, Update, Version};
-use member_floor::OpenGate;
+use member_board::{
+    Board, BoardIdentity, Closing, Fresh, Member, OpenGate, Receipt, Update, Version,
+};
 use std::alloc::{AllocError, Global};
 use std::marker::Brand;
 use std::sync::Wait;

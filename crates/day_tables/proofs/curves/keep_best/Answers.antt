@@ -2,7 +2,7 @@
 use Rattle.std.proofs.Common.{◌≡◌, length, arith, rules}
 use Rattle.std.specs.Int.{abs_diff}
 use Rattle.std.proofs.Common.{min}
-use Rattle.lane_select.specs.Selection.{kept_if_equal}
+use Rattle.lanes.specs.Selection.{kept_if_equal}
 use Rattle.price_rules.proofs.SelectedLaws.{AreEven}
 use Rattle.day_tables.specs.TableCurves.{curve_lanes}
 use Rattle.day_tables.proofs.TickTableLaws.{long_as, long_left, unflagged_best, without_volume, best_left, some_best}

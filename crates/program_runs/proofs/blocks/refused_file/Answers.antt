@@ -1,7 +1,7 @@
 -- Answers of `refused_file` (src/blocks.rt): what the prover left open; rt looks here.
 use Rattle.std.proofs.Common.{ℕ, List, Err, subst}
 use Rattle.order_file.specs.File.{calls_of_file}
-use Rattle.program_runs.specs.KeptEntries.{KeepsDay, calls_for}
+use Rattle.program_runs.specs.RecordedEntries.{RecordsDay, calls_for}
 use Rattle.program_runs.proofs.FileSaidLaws.{file-read, file-unread}
 use Rattle.program_runs.proofs.blocks.refused_file.Goals as goal
 
@@ -9,7 +9,7 @@ pub returns-in-Ok-clause-kept : goal.returns-in-Ok-clause-kept
 returns-in-Ok-clause-kept g c = λ form.
     file-read form c.args.day _ c.in-Ok.bytes.items (Err c.refused_orders.result) c.in-Ok.ensures.bytes
     (subst
-    (λ (bytes : List ℕ). KeepsDay form
+    (λ (bytes : List ℕ). RecordsDay form
     (calls_for c.args.day (calls_of_file c.args.day.members c.args.day.config.max_calls bytes))
     (Err c.refused_orders.result))
     c.as_slice.ensures.value (c.refused_orders.ensures.kept form))

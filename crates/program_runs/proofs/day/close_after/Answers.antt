@@ -1,6 +1,6 @@
 -- Answers of `close_after` (src/day.rt): what the prover left open; rt looks here.
 use Rattle.std.proofs.Common.{List, Some, inl, subst}
-use Rattle.member_floor.specs.PlaysScript.{PlayedScript}
+use Rattle.member_board.specs.PlaysScript.{PlayedScript}
 use Rattle.program_runs.specs.PlayedDay.{IsFaultAfter}
 use Rattle.program_runs.proofs.day.close_after.Goals as goal
 

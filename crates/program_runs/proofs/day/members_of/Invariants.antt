@@ -1,7 +1,7 @@
 -- Invariants of the loops of `members_of` (src/day.rt); rt looks here.
 use Rattle.std.proofs.Common.{◌≡◌, ◌≤◌, ◌+◌, ◌++◌, map, length, vec_capacity}
 use Rattle.std.specs.Vec.Iter.{into_iter_items}
-use Rattle.member_floor.specs.PlaysScript.{PlayedScript}
+use Rattle.member_board.specs.PlaysScript.{PlayedScript}
 use Rattle.program_runs.proofs.day.members_of.Given as goal
 
 -- the members so far, and those that are left, are all

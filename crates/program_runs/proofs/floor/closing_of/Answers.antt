@@ -1,6 +1,6 @@
 -- Answers of `closing_of` (src/floor.rt): what the prover left open; rt looks here.
 use Rattle.std.proofs.Common.{◌≡◌, ◌≤◌, ℕ, None, length, arith, subst, sym}
-use Rattle.member_floor.specs.PlaysScript.{FitsMembers}
+use Rattle.member_board.specs.PlaysScript.{FitsMembers}
 use Rattle.auction_terms.specs.declared.limits.TheConstants.{MAX_CALLS}
 use Rattle.board_terms.specs.BoardOpening.{board_fault, newcomers}
 use Rattle.program_runs.proofs.PlayedDayLaws.{days_of}

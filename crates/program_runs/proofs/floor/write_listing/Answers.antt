@@ -4,13 +4,13 @@ use Rattle.program_runs.specs.FileRun.{WritesText}
 use Rattle.program_runs.proofs.ComingLaws.{listing-kept, listing-printed, listing-wide}
 use Rattle.program_runs.proofs.floor.write_listing.Goals as goal
 
-pub keep_calls-requires-clause-room : goal.keep_calls-requires-clause-room
-keep_calls-requires-clause-room g c = rw c.new-history.ensures c.requires.few
+pub record_calls-requires-clause-room : goal.record_calls-requires-clause-room
+record_calls-requires-clause-room g c = rw c.new-history.ensures c.requires.few
 
-pub write_kept-requires : goal.write_kept-requires
-write_kept-requires g c = (
+pub write_recorded-requires : goal.write_recorded-requires
+write_recorded-requires g c = (
   _,
-  listing-kept c.args.listing c.args.day c.args.entries.now c.in-Ok.kept_day c.requires
+  listing-kept c.args.listing c.args.day c.args.entries.now c.in-Ok.recorded_day c.requires
       (rw c.new-history.ensures at c.in-Ok.ensures.kept),
 )
 
@@ -19,15 +19,15 @@ returns-in-Ok-clause-text g c =
     let kept = rw c.new-history.ensures at c.in-Ok.ensures.kept in
     let entries = c.args.entries.now in
     subst (λ (text : List ℕ). WritesText (g.S.Sink.written c.args.writer.now)
-    (g.S.Sink.written c.write_kept.new.writer) text c.write_kept.result)
-    (listing-printed c.args.listing c.args.day entries c.in-Ok.kept_day c.requires kept)
-    (c.write_kept.ensures.text entries
-    (listing-kept c.args.listing c.args.day entries c.in-Ok.kept_day c.requires kept))
+    (g.S.Sink.written c.write_recorded.new.writer) text c.write_recorded.result)
+    (listing-printed c.args.listing c.args.day entries c.in-Ok.recorded_day c.requires kept)
+    (c.write_recorded.ensures.text entries
+    (listing-kept c.args.listing c.args.day entries c.in-Ok.recorded_day c.requires kept))
 
 pub returns-in-Ok-clause-wide : goal.returns-in-Ok-clause-wide
 returns-in-Ok-clause-wide g c =
     let kept = rw c.new-history.ensures at c.in-Ok.ensures.kept in
     let entries = c.args.entries.now in
-    listing-wide c.args.listing c.args.day entries c.in-Ok.kept_day c.write_kept.result c.requires kept
-    (c.write_kept.ensures.wide entries
-    (listing-kept c.args.listing c.args.day entries c.in-Ok.kept_day c.requires kept))
+    listing-wide c.args.listing c.args.day entries c.in-Ok.recorded_day c.write_recorded.result c.requires kept
+    (c.write_recorded.ensures.wide entries
+    (listing-kept c.args.listing c.args.day entries c.in-Ok.recorded_day c.requires kept))

@@ -1,6 +1,6 @@
 -- Answers of `run_session` (src/live.rt): what the prover left open; rt looks here.
 use Rattle.std.proofs.Common.{refl, rules}
-use Rattle.kept_session.proofs.KeptRunLaws.{same-device}
+use Rattle.live_session.proofs.JournaledRunLaws.{same-device}
 use Rattle.program_runs.proofs.LiveLaws.{opened-well, ran-by}
 use Rattle.program_runs.proofs.live.run_session.Goals as goal
 

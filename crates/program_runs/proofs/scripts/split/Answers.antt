@@ -1,6 +1,6 @@
 -- Answers of `split` (src/scripts.rt): what the prover left open; rt looks here.
 use Rattle.std.proofs.Common.{rules, arith, refl, ◌+◌}
-use Rattle.member_floor.specs.declared.script.Script.{Script}
+use Rattle.member_board.specs.declared.script.Script.{Script}
 use Rattle.program_runs.proofs.SplitLaws.{split_next}
 use Rattle.program_runs.proofs.scripts.split.Goals as goal
 

@@ -4,7 +4,7 @@ use Rattle.clap.specs.Kinds.{HasKind, or_else}
 use Rattle.clap.specs.Matches.{found_of}
 use Rattle.settings.specs.OptionTexts.{rows_in}
 use Rattle.settings.specs.Tasks.{RefusesTask, wanted_form, form_kinds, sync_in, sync_kinds, word_in}
-use Rattle.settings.specs.declared.fault.WordsFault.TheVariants.{Parse}
+use Rattle.settings.specs.declared.fault.ArgumentsFault.TheVariants.{Parse}
 use Rattle.settings.specs.declared.types.Task.TheVariants.{Floor}
 use Rattle.settings.proofs.Readings.{has_options}
 use Rattle.settings.proofs.TaskLaws.{first_kinds, first_of-first_value, handed_on, task_at-run}

@@ -1,7 +1,7 @@
 -- Answers of `scripts` (src/tests/members.rt): what the prover left open; rt looks here.
 use Rattle.std.proofs.Common.{rules, ◌≡◌, ◌≤◌, ◌∷◌, [], ◌++◌, length, get_or}
 use Rattle.auction_terms.specs.declared.limits.TheConstants.{MAX_CALLS}
-use Rattle.member_floor.specs.declared.script.Script.{Script}
+use Rattle.member_board.specs.declared.script.Script.{Script}
 use Rattle.acceptance.proofs.ScriptLaws.{fits_next}
 use Rattle.acceptance.proofs.tests.members.scripts.Goals as goal
 

@@ -1,6 +1,6 @@
 -- Invariants of the loops of `scripts` (src/tests/members.rt); rt looks here.
 use Rattle.std.proofs.Common.{take}
-use Rattle.member_floor.specs.PlaysScript.{FitsMembers}
+use Rattle.member_board.specs.PlaysScript.{FitsMembers}
 use Rattle.acceptance.proofs.tests.members.scripts.Given as goal
 
 abbrev pub invariant-loop-member : goal.invariant-loop-member

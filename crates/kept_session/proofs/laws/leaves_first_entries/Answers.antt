@@ -1,6 +1,0 @@
--- Answers of `leaves_first_entries` (src/laws.rt): what the prover left open; rt looks here.
-use Rattle.kept_session.proofs.KeptPromiseLaws.{are-whole, leaves-first}
-use Rattle.kept_session.proofs.laws.leaves_first_entries.Goals as goal
-
-pub returns : goal.returns
-returns c = record { whole = are-whole; first = leaves-first }

@@ -1,7 +1,0 @@
--- Answers of `keep_block` (src/blocks.rt): what the prover left open; rt looks here.
-use Rattle.program_runs.proofs.blocks.keep_block.Goals as goal
-
-pub returns-clause-kept : goal.returns-clause-kept
-returns-clause-kept c = λ heard holds.
-    rw (c.in_ok-calls.ensures.calls, c.config-max_calls.ensures, c.calls.ensures.value)
-    at (c.hear_all.ensures.heard heard holds)

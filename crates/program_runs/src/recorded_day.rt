@@ -1,0 +1,35 @@
+//! A day whose commands were run, with what its form needs kept of its entries.
+
+ghost use Rattle.std.specs.Prelude.{List};
+ghost use Rattle.auction_terms.specs.declared.Entry.{Entry};
+ghost use Rattle.program_runs.specs.RecordedEntries.{RecordsEntries, IsClosedDay};
+
+use crate::fault::Fault;
+use crate::recorder::Recorder;
+use auction::Auction;
+use journal::DayHeader;
+use order_file::FileFault;
+use std::alloc::Global;
+
+/// A day, and what is kept of its entries.
+#[derive(Drop)]
+pub struct PrintableDay {
+    pub day: DayHeader,
+    pub kept: Recorder,
+}
+
+/// A day whose calls have all come, which is kept.
+pub fn close_day(
+    alloc: Global,
+    day: DayHeader,
+    auction: &mut Auction,
+    mut kept: Recorder,
+) -> Result<PrintableDay, Fault>
+    ensures { (entries : List Entry) → RecordsEntries kept auction.old entries
+        → IsClosedDay day kept auction.old.config entries result }
+{
+    match kept.close(alloc, auction) {
+        Ok(()) => Ok(PrintableDay { day, kept }),
+        Err(_) => Err(Fault::File(FileFault::NoMemory)),
+    }
+}
