@@ -411,7 +411,10 @@ CALLAUCTION_RESULT callauction_error callauction_board_open(callauction_member *
  * auction to which the history's calls were applied one by one. NO_COMMAND as callauction_apply; BUSY where another
  * call had the board at each of 32 tries (callauction_board_call_waiting waits), or CLOSED; else FULL where the
  * history has max_calls entries, or, but for member 0, no more than the reserve are left; else BEHIND where the member
- * has seen more calls than the history has, or counted others than it has of the member; else OVERTAKEN. */
+ * has seen more calls than the history has, or counted others than it has of the member; else OVERTAKEN.
+ *
+ * A quantity or a peak above 4,294,967,295 is recorded as refused, and then no journal can hold the day (NO_ENTRY of
+ * callauction_journal_entries): make no call with one, as callauction.hpp doesn't. */
 CALLAUCTION_RESULT callauction_error callauction_board_call(callauction_member *member,
                                                             const callauction_command *command,
                                                             callauction_receipt *receipt);

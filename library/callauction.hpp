@@ -4,11 +4,12 @@
 // to a thread of its own, and the Board outlives them. docs/MODEL.md says what a command does, when it is refused and
 // what it is answered, callauction.h what each call does. Limits and prices are ticks, quantities whole shares.
 //
-// A call answers a Result: a value, or the Error that callauction.h names. It throws std::bad_alloc where memory is
-// refused, and nothing else; Result::value throws BadResult for an error. Numbers are given as a Whole, which takes
-// integers alone, so that a price in money, a truth value or a letter doesn't compile (Ticks has the tick of a
-// price). They are checked: where one doesn't fit its field of a struct, as 256 for a member, the call answers
-// Error::no_command, or Error::no_config, and does nothing.
+// A call answers a Result: a value, or an Error, as callauction.h names it or of this header's own, from 1001 on. It
+// throws std::bad_alloc where memory is refused, and nothing else; Result::value throws BadResult for an error. Numbers
+// are given as a Whole, which takes integers alone, so that a price in money, a truth value or a letter doesn't compile
+// (Ticks has the tick of a price, and the price of a tick). They are checked: where one doesn't fit its field of a
+// struct, the call answers an error that names it, as Error::bad_member for the member 256, or Error::no_config, and
+// does nothing.
 //
 // It wants C++17. Headers that have dynamic exception specifications, as QuickFIX's, go into one file with it under
 // clang++ -Wno-dynamic-exception-spec; under g++ they go into another file, which has callauction.h from C++11 on.
@@ -107,8 +108,19 @@ enum class Error : std::uint32_t {
     misused = CALLAUCTION_ERROR_MISUSED,
     bad_journal = CALLAUCTION_ERROR_BAD_JOURNAL,
     no_entry = CALLAUCTION_ERROR_NO_ENTRY,
-    no_tick_size = 1001, // of Ticks alone, as the next one
-    no_price = 1002
+    no_tick_size = 1001, // of Ticks, as the next one
+    no_price = 1002,
+    bad_quantity = 1003, // these are of numbers that don't fit
+    bad_limit = 1004,
+    bad_peak = 1005,
+    bad_id = 1006,
+    bad_number = 1007,
+    bad_client = 1008,
+    bad_members = 1009, // of a board's opening, as bad_reserve
+    other_limits = 1010, // of copy_into
+    no_tick = 1011, // of Ticks
+    bad_reserve = 1012,
+    bad_range = 1013 // of a board's opening
 };
 
 enum class Side : std::uint8_t {
@@ -154,9 +166,22 @@ enum class JournalFault : std::uint32_t {
 
 // One line of English, without a full stop.
 inline const char *text(Error error) {
-    if (error == Error::no_tick_size) return "a tick size is a decimal number above 0, with at most nine decimals";
-    if (error == Error::no_price) return "the price is no decimal number, or lies between two ticks";
-    return callauction_error_text(static_cast<std::uint32_t>(error));
+    switch (error) {
+    case Error::no_tick_size: return "a tick size is a decimal number above 0, with at most nine decimals";
+    case Error::no_price: return "the price is no decimal number, or lies between two ticks";
+    case Error::no_tick: return "the tick is below 0, or its price isn't below 1,000,000,000";
+    case Error::bad_quantity: return "the quantity is below 0, or above what the call takes";
+    case Error::bad_limit: return "the limit is below 0, or above 4,294,967,295";
+    case Error::bad_peak: return "the peak is below 0, or above what the call takes";
+    case Error::bad_id: return "the id is below 0, or above 4,294,967,295";
+    case Error::bad_number: return "the number of the trade or the call is below 0, or above what the call takes";
+    case Error::bad_client: return "the client is below 0";
+    case Error::bad_members: return "a board has 1 to 64 members";
+    case Error::bad_range: return "the range is above 1,000,000 ticks, the most that the journal of the day can say";
+    case Error::bad_reserve: return "a reserve as great as max_calls, 16 where it isn't set, leaves members no call";
+    case Error::other_limits: return "the other auction has other bounds, max_open or max_calls";
+    default: return callauction_error_text(static_cast<std::uint32_t>(error));
+    }
 }
 inline const char *text(Refusal refusal) { return callauction_refusal_text(static_cast<std::uint32_t>(refusal)); }
 inline const char *text(JournalFault fault) {
@@ -244,21 +269,34 @@ public:
         return Whole(*found / size_);
     }
 
+    // The price of a tick in money, exactly, with as many decimals as the tick size needs: "199.75", and "2.00" where
+    // that is 0.01. Error::no_tick where the tick is below 0, or its price isn't below 1,000,000,000.
+    Result<std::string> price(Whole tick) const {
+        if (tick < 0 || tick > (unit * unit - 1) / size_) return Error::no_tick;
+        const std::int64_t money = tick * size_;
+        std::size_t needed = decimals;
+        for (std::int64_t rest = size_; needed > 0 && rest % 10 == 0; rest /= 10) needed--;
+        const std::string whole = std::to_string(money / unit);
+        return needed == 0 ? whole : whole + "." + std::to_string(unit + money % unit).substr(1, needed);
+    }
+
 private:
-    static constexpr int decimals = 9;
+    static constexpr std::size_t decimals = 9;
+    static constexpr std::int64_t unit = 1'000'000'000; // of money, in billionths
 
     explicit Ticks(std::int64_t size) : size_(size) {}
 
     // A decimal number in units of a billionth.
     static std::optional<std::int64_t> units_of(std::string_view text) {
         const auto point = text.find('.');
-        const auto whole = text.substr(0, point);
+        auto whole = text.substr(0, point);
+        while (whole.size() > 1 && whole.front() == '0') whole.remove_prefix(1);
         auto part = point == std::string_view::npos ? std::string_view("0") : text.substr(point + 1);
         while (part.size() > 1 && part.back() == '0') part.remove_suffix(1);
         if (whole.empty() || whole.size() > decimals || part.empty() || part.size() > decimals) return std::nullopt;
         const auto before = digits_of(whole, whole.size()), behind = digits_of(part, decimals);
         if (!before || !behind) return std::nullopt;
-        return *before * 1'000'000'000 + *behind;
+        return *before * unit + *behind;
     }
 
     // Digits, followed by as many zeros as are lacking.
@@ -396,6 +434,13 @@ inline std::optional<Error> error_of(std::uint32_t answer) {
     return static_cast<Error>(answer);
 }
 
+// What a call answered that copies over an auction.
+inline Result<Done> copied_over(std::uint32_t answer) {
+    const auto error = error_of(answer);
+    if (!error) return Done{};
+    return *error == Error::in_use ? Error::other_limits : *error;
+}
+
 // Puts a number into a field; whether it fits.
 template <typename Field> bool fits(std::int64_t number, Field &field) {
     if (number < 0 || static_cast<std::uint64_t>(number) > std::numeric_limits<Field>::max()) return false;
@@ -408,41 +453,46 @@ template <typename Field> bool fits(const std::optional<Whole> &number, std::uin
     return !number || fits(*number, field);
 }
 
-// Fills a struct of zeros; whether all numbers fit.
+// Fills a struct of zeros; the error of the first number that doesn't fit.
 struct Filling {
     callauction_command &to;
 
-    bool operator()(const Enter &from) const {
+    std::optional<Error> operator()(const Enter &from) const {
         to.tag = CALLAUCTION_COMMAND_ENTER;
         to.side = static_cast<std::uint8_t>(from.side);
         to.restriction = static_cast<std::uint8_t>(from.restriction);
         to.client = from.client.number();
-        return fits(from.quantity, to.quantity) && fits(from.limit, to.has_limit, to.limit)
-            && fits(from.peak, to.has_peak, to.peak) && from.client.fits();
+        if (const auto error = terms(from.quantity, from.limit)) return error;
+        if (!fits(from.peak, to.has_peak, to.peak)) return Error::bad_peak;
+        return from.client.fits() ? std::nullopt : std::optional<Error>(Error::bad_client);
     }
-    bool operator()(const Change &from) const {
-        to.tag = CALLAUCTION_COMMAND_CHANGE;
-        return fits(from.id, to.id) && fits(from.quantity, to.quantity) && fits(from.limit, to.has_limit, to.limit);
+    std::optional<Error> operator()(const Change &from) const {
+        const auto error = named(CALLAUCTION_COMMAND_CHANGE, from.id, Error::bad_id);
+        return error ? error : terms(from.quantity, from.limit);
     }
-    bool operator()(const Delete &from) const {
-        to.tag = CALLAUCTION_COMMAND_DELETE;
-        return fits(from.id, to.id);
+    std::optional<Error> operator()(const Delete &from) const {
+        return named(CALLAUCTION_COMMAND_DELETE, from.id, Error::bad_id);
     }
-    bool operator()(const OrderStatus &from) const {
-        to.tag = CALLAUCTION_COMMAND_ORDER_STATUS;
-        return fits(from.id, to.id);
+    std::optional<Error> operator()(const OrderStatus &from) const {
+        return named(CALLAUCTION_COMMAND_ORDER_STATUS, from.id, Error::bad_id);
     }
-    bool operator()(const Indicate &) const {
-        to.tag = CALLAUCTION_COMMAND_INDICATE;
-        return true;
+    std::optional<Error> operator()(const Indicate &) const {
+        return named(CALLAUCTION_COMMAND_INDICATE, 0, Error::bad_id);
     }
-    bool operator()(const ReadTrade &from) const {
-        to.tag = CALLAUCTION_COMMAND_READ_TRADE;
-        return fits(from.number, to.id);
+    std::optional<Error> operator()(const ReadTrade &from) const {
+        return named(CALLAUCTION_COMMAND_READ_TRADE, from.number, Error::bad_number);
     }
-    bool operator()(const Uncross &) const {
-        to.tag = CALLAUCTION_COMMAND_UNCROSS;
-        return true;
+    std::optional<Error> operator()(const Uncross &) const {
+        return named(CALLAUCTION_COMMAND_UNCROSS, 0, Error::bad_id);
+    }
+
+    std::optional<Error> terms(Whole quantity, const std::optional<Whole> &limit) const {
+        if (!fits(quantity, to.quantity)) return Error::bad_quantity;
+        return fits(limit, to.has_limit, to.limit) ? std::nullopt : std::optional<Error>(Error::bad_limit);
+    }
+    std::optional<Error> named(std::uint8_t tag, Whole id, Error error) const {
+        to.tag = tag;
+        return fits(id, to.id) ? std::nullopt : std::optional<Error>(error);
     }
 };
 
@@ -480,10 +530,11 @@ inline Config config_of(const callauction_config &from) {
 
 } // namespace detail
 
-// A command of a member as a struct, for calls that take many. Error::no_command where a number doesn't fit.
+// A command of a member as a struct, for calls that take many. Error::bad_member, bad_quantity, .. as in apply.
 inline Result<callauction_command> struct_of(Whole member, const Command &command) {
     callauction_command made{};
-    if (!detail::fits(member, made.member) || !std::visit(detail::Filling{made}, command)) return Error::no_command;
+    if (!detail::fits(member, made.member)) return Error::bad_member;
+    if (const auto error = std::visit(detail::Filling{made}, command)) return *error;
     return made;
 }
 
@@ -569,13 +620,22 @@ inline std::optional<std::uint32_t> whose(const std::optional<Whole> &member) {
     return member ? std::uint32_t{one} : std::uint32_t{CALLAUCTION_ALL_MEMBERS};
 }
 
-// The orders that a call copies, of as many as may be open.
-template <typename Call> Result<std::vector<callauction_order>> listed(std::size_t max_open, Call call) {
-    std::vector<callauction_order> found(max_open);
+// The structs that a call copies, at most as many as may be open. There is room for so many, of which no more is
+// touched than is written.
+template <typename T, typename Call> Result<std::vector<T>> listed(std::size_t most, Call call) {
+    const std::unique_ptr<T[]> room(new T[most]);
     std::size_t copied = 0;
-    if (const auto error = error_of(call(found.data(), found.size(), &copied))) return *error;
-    found.resize(copied);
-    return found;
+    if (const auto error = error_of(call(room.get(), most, &copied))) return *error;
+    return std::vector<T>(room.get(), room.get() + copied);
+}
+
+// The error of the first number of a command that no journal can hold.
+inline std::optional<Error> unrecordable(const callauction_command &command) {
+    constexpr std::uint64_t most = std::numeric_limits<std::uint32_t>::max();
+    const bool enters = command.tag == CALLAUCTION_COMMAND_ENTER;
+    if ((enters || command.tag == CALLAUCTION_COMMAND_CHANGE) && command.quantity > most) return Error::bad_quantity;
+    if (enters && command.has_peak && command.peak > most) return Error::bad_peak;
+    return std::nullopt;
 }
 
 // The command that enters what is left of an order. A peak above that is cut to it, as it would be refused.
@@ -680,13 +740,13 @@ public:
     Result<UncrossedOrders> uncross_orders() {
         const auto config = this->config();
         if (!config) return config.error();
-        std::vector<callauction_outcome> orders(static_cast<std::size_t>(config->max_open));
         callauction_reply reply;
-        std::size_t copied = 0;
-        const auto answer = callauction_uncross(&handle_, &reply, orders.data(), orders.size(), &copied);
-        if (const auto error = detail::error_of(answer)) return *error;
-        orders.resize(copied);
-        return UncrossedOrders{reply_of(reply), std::move(orders)};
+        auto orders = detail::listed<callauction_outcome>(static_cast<std::size_t>(config->max_open),
+            [&](callauction_outcome *to, std::size_t room, std::size_t *copied) {
+                return callauction_uncross(&handle_, &reply, to, room, copied);
+            });
+        if (!orders) return orders.error();
+        return UncrossedOrders{reply_of(reply), *std::move(orders)};
     }
 
     Result<Display> display() const {
@@ -736,7 +796,7 @@ public:
 
     // The trades of the day after the first `seen`.
     Result<std::vector<callauction_trade>> trades(Whole seen = 0) const {
-        if (seen < 0) return Error::no_command;
+        if (seen < 0) return Error::bad_number;
         const auto before = static_cast<std::size_t>(std::int64_t{seen});
         std::vector<callauction_trade> found;
         for (std::size_t copied = at_once; copied == at_once;) {
@@ -776,11 +836,10 @@ public:
     }
 
     // Makes another auction with the same bounds, max_open and max_calls a copy of this one, and takes no memory. Where
-    // it has others, Error::in_use. Of itself it is a copy. One that was moved from is filled, which takes memory.
+    // it has others, Error::other_limits. Of itself it is a copy. One that was moved from gets memory.
     Result<Done> copy_into(Auction &other) const {
         if (&other == this) return calls() ? Result<Done>(Done{}) : Error::no_auction;
-        if (const auto error = detail::error_of(callauction_clone(&handle_, &other.handle_))) return *error;
-        return Done{};
+        return detail::copied_over(callauction_clone(&handle_, &other.handle_));
     }
 
     // Goes back to the opening.
@@ -800,7 +859,7 @@ private:
     template <typename Call> Result<std::vector<callauction_order>> listed(Call call) const {
         const auto config = this->config();
         if (!config) return config.error();
-        return detail::listed(static_cast<std::size_t>(config->max_open), call);
+        return detail::listed<callauction_order>(static_cast<std::size_t>(config->max_open), call);
     }
 
     callauction_handle handle_{};
@@ -808,7 +867,8 @@ private:
 
 // An auction that a journal was gone on with: how many members its day is for, how many calls it has, how many of them
 // have a recorded reply, of how many of these it isn't the lawful one, and the number of the first, from 1 on; and how
-// many bytes of the text its whole lines have.
+// many bytes of the text its whole lines have. The auction takes any member from 0 to 255: who goes on with it and adds
+// to the journal (journal_lines) gives it calls of members below `members` alone, as the day has no others.
 struct Resumed {
     Auction auction;
     std::uint32_t members, calls, compared, unlawful;
@@ -827,28 +887,77 @@ inline Result<Resumed> Auction::resumed(std::string_view journal, BadRecord *fau
     return resumed;
 }
 
+// The first entry that a journal can't hold: its place, from 0 on, and why, one line of English without a full stop.
+struct BadEntry {
+    std::size_t place = 0;
+    std::string_view why = {};
+};
+
+namespace detail {
+
+constexpr std::size_t piece = 65536; // bytes, for many whole lines
+
+// Why a journal of a day for so many members can't hold an entry; empty where it can.
+inline std::string_view why_no_entry(const callauction_entry &entry, std::uint32_t members) {
+    if (entry.command.member >= members) return "the member is none of the day";
+    const auto error = unrecordable(entry.command);
+    if (!error) return {};
+    return error == Error::bad_peak ? "the peak is above 4,294,967,295" : "the quantity is above 4,294,967,295";
+}
+
+// Adds the lines of entries to a text, or says which is the first that a day of so many members and calls can't hold.
+inline std::optional<Error> add_lines(
+    std::string &text, Span<const callauction_entry> entries, std::uint32_t members, std::size_t calls,
+    BadEntry *fault) {
+    std::size_t fit = 0;
+    while (fit < entries.size() && fit < calls && why_no_entry(entries[fit], members).empty()) fit++;
+    BadEntry found{fit, fit == calls ? "the day has no more calls" : std::string_view{}};
+    for (std::size_t done = 0, copied = 0, written = 0; done < fit; done += copied) {
+        const std::size_t had = text.size();
+        text.resize(had + piece);
+        const auto answer = callauction_journal_entries(
+            entries.data() + done, fit - done, text.data() + had, piece, &copied, &written);
+        const auto error = error_of(answer);
+        if (error == Error::no_entry && fault)
+            *fault = {done + copied, "the struct is no command, or has a reply that none gives"};
+        if (error) return error;
+        text.resize(had + written);
+    }
+    if (fit == entries.size()) return std::nullopt;
+    if (found.why.empty()) found.why = why_no_entry(entries[fit], members);
+    if (fault) *fault = found;
+    return Error::no_entry;
+}
+
+} // namespace detail
+
+// The lines of entries, to be added to the journal of a day for so many members: those after the lines that it has, in
+// their order. Error::no_entry where one can't be held, and which in `fault`, if that is given; Error::bad_member where
+// the members aren't 1 to 64.
+inline Result<std::string> journal_lines(
+    Span<const callauction_entry> entries, Whole members = 64, BadEntry *fault = nullptr) {
+    if (members < 1 || members > 64) return Error::bad_member;
+    std::string text;
+    const auto count = static_cast<std::uint32_t>(std::int64_t{members});
+    if (const auto error = detail::add_lines(text, entries, count, SIZE_MAX, fault)) return *error;
+    return text;
+}
+
 // The text of a journal: the day of a config for so many members, and the lines of entries. A reserve and clients
-// aren't in it. Error::no_entry where a struct is no entry that a journal can hold, as one whose quantity has more than
-// 32 bits.
-inline Result<std::string> journal(const Config &config, Whole members, Span<const callauction_entry> entries) {
-    constexpr std::size_t piece = 65536; // bytes, for many whole lines
+// aren't in it. Error::no_entry where a struct is no entry that the journal can hold and be read again, as one of a
+// member that the day hasn't, or whose quantity has more than 32 bits: which and why is in `fault`, if that is given.
+inline Result<std::string> journal(
+    const Config &config, Whole members, Span<const callauction_entry> entries, BadEntry *fault = nullptr) {
     callauction_config given{};
     std::uint32_t count = 0;
     if (!detail::config_fits(config, given)) return Error::no_config;
     if (!detail::fits(members, count)) return Error::bad_member;
-    std::string text(piece, '\0');
-    std::size_t copied = 0, written = 0;
-    auto answer = callauction_journal_day(&given, count, text.data(), piece, &written);
+    std::string text(detail::piece, '\0');
+    std::size_t written = 0;
+    const auto answer = callauction_journal_day(&given, count, text.data(), text.size(), &written);
     if (const auto error = detail::error_of(answer)) return *error;
     text.resize(written);
-    for (std::size_t done = 0; done < entries.size(); done += copied) {
-        const std::size_t had = text.size();
-        text.resize(had + piece);
-        answer = callauction_journal_entries(
-            entries.data() + done, entries.size() - done, text.data() + had, piece, &copied, &written);
-        if (const auto error = detail::error_of(answer)) return *error;
-        text.resize(had + written);
-    }
+    if (const auto error = detail::add_lines(text, entries, count, given.max_calls, fault)) return *error;
     return text;
 }
 
@@ -903,8 +1012,9 @@ class Board;
 // call answers Error::no_member.
 class Member {
 public:
-    // Records a command in the board's history. Error::busy where another call had the board at each of a thousand
-    // tries.
+    // Records a command in the board's history. Error::busy where another call had the board at each of 32 tries.
+    // Error::bad_quantity or bad_peak, and nothing is recorded, for a number above 4,294,967,295: the day's journal
+    // couldn't hold it. An Auction, which keeps no history, is asked and refuses it.
     Result<Receipt> call(const Command &command) {
         const auto given = struct_of(0, command);
         if (!given) return given.error();
@@ -934,14 +1044,19 @@ public:
     }
 
     // Records structs one after another, with no other call between them, and writes their receipts, as many of each:
-    // how many were recorded, and the error that the next one had.
+    // how many were recorded, and the error that the next one had. The `member` of a struct isn't read: each is this
+    // member's call, whoever's it was; Board::enter has what is carried over entered by its own members. One with a
+    // number that no journal can hold ends them, as in call.
     [[nodiscard]] std::pair<std::size_t, std::optional<Error>> apply_many(
         Span<const callauction_command> commands, Span<callauction_receipt> receipts) {
         if (!handle_) return {0, Error::no_member};
-        std::size_t applied = 0;
-        const auto answer = callauction_board_apply_many(
-            handle_, commands.data(), commands.size(), receipts.data(), receipts.size(), &applied);
-        return {applied, detail::error_of(answer)};
+        if (commands.size() != receipts.size()) return {0, Error::bad_length};
+        std::size_t count = 0, applied = 0;
+        while (count < commands.size() && !detail::unrecordable(commands[count])) count++;
+        const auto answer
+            = callauction_board_apply_many(handle_, commands.data(), count, receipts.data(), count, &applied);
+        if (const auto error = detail::error_of(answer)) return {applied, error};
+        return {applied, count < commands.size() ? detail::unrecordable(commands[count]) : std::nullopt};
     }
 
     // The same, but waits as call_waiting does.
@@ -978,34 +1093,35 @@ public:
         return found;
     }
 
-    // Copies the trades of the day after the first `seen`, as many as fit: how many.
-    Result<std::size_t> trades(Whole seen, Span<callauction_trade> trades) {
+    // Copies the trades of the day after the first `seen`, as many as fit: how many. `calls`, if it is given, gets
+    // the count of the board's calls after which they are all, as of orders and expiring.
+    Result<std::size_t> trades(Whole seen, Span<callauction_trade> trades, std::uint32_t *calls = nullptr) {
         if (!handle_) return Error::no_member;
-        if (seen < 0) return Error::no_command;
+        if (seen < 0) return Error::bad_number;
         const auto before = static_cast<std::size_t>(std::int64_t{seen});
         std::size_t copied = 0;
-        std::uint32_t calls = 0;
-        const auto answer = callauction_board_trades(handle_, before, trades.data(), trades.size(), &copied, &calls);
+        std::uint32_t counted = 0;
+        const auto answer = callauction_board_trades(handle_, before, trades.data(), trades.size(), &copied, &counted);
         if (const auto error = detail::error_of(answer)) return *error;
+        if (calls) *calls = counted;
         return copied;
     }
 
     // The open orders of the board in priority, of a member or of all.
-    Result<std::vector<callauction_order>> orders(std::optional<Whole> member = {}) {
+    Result<std::vector<callauction_order>> orders(
+        std::optional<Whole> member = {}, std::uint32_t *calls = nullptr) {
         if (!handle_) return Error::no_member;
         const auto of = detail::whose(member);
         if (!of) return Error::bad_member;
-        std::uint32_t calls = 0;
-        return listed([&](callauction_order *to, std::size_t room, std::size_t *copied) {
-            return callauction_board_orders(handle_, *of, to, room, copied, &calls);
+        return listed(calls, [&](callauction_order *to, std::size_t room, std::size_t *copied, std::uint32_t *counted) {
+            return callauction_board_orders(handle_, *of, to, room, copied, counted);
         });
     }
 
     // The orders of the board that an uncross now would take out, as they are for its auction alone.
-    Result<std::vector<callauction_order>> expiring() {
-        std::uint32_t calls = 0;
-        return listed([&](callauction_order *to, std::size_t room, std::size_t *copied) {
-            return callauction_board_expiring(handle_, to, room, copied, &calls);
+    Result<std::vector<callauction_order>> expiring(std::uint32_t *calls = nullptr) {
+        return listed(calls, [&](callauction_order *to, std::size_t room, std::size_t *copied, std::uint32_t *counted) {
+            return callauction_board_expiring(handle_, to, room, copied, counted);
         });
     }
 
@@ -1034,7 +1150,7 @@ public:
     // Copies the entries of the board's history after the first `seen`, as many as fit: how many.
     Result<std::size_t> history(Whole seen, Span<callauction_entry> entries) {
         if (!handle_) return Error::no_member;
-        if (seen < 0) return Error::no_command;
+        if (seen < 0) return Error::bad_number;
         const auto before = static_cast<std::size_t>(std::int64_t{seen});
         std::size_t copied = 0;
         const auto answer = callauction_board_history(handle_, before, entries.data(), entries.size(), &copied);
@@ -1051,11 +1167,10 @@ public:
     }
 
     // Makes an auction with the board's bounds, max_open and max_calls a copy of the board's, and takes no memory.
-    // Where it has others, Error::in_use. One that was moved from is filled, which takes memory.
+    // Where it has others, Error::other_limits. One that was moved from is filled, which takes memory.
     Result<Done> copy_into(Auction &other) {
         if (!handle_) return Error::no_member;
-        if (const auto error = detail::error_of(callauction_board_clone(handle_, &other.handle_))) return *error;
-        return Done{};
+        return detail::copied_over(callauction_board_clone(handle_, &other.handle_));
     }
 
     // How many calls of this member were recorded.
@@ -1073,17 +1188,24 @@ private:
 
     Result<Receipt> call(const callauction_command &command) {
         if (!handle_) return Error::no_member;
+        if (const auto error = detail::unrecordable(command)) return *error;
         callauction_receipt receipt;
         if (const auto error = detail::error_of(callauction_board_call(handle_, &command, &receipt))) return *error;
         return Receipt{receipt.number, reply_of(receipt.reply)};
     }
 
-    // What a call writes that copies orders.
-    template <typename Call> Result<std::vector<callauction_order>> listed(Call call) {
+    // What a call writes that copies orders, and after how many calls.
+    template <typename Call> Result<std::vector<callauction_order>> listed(std::uint32_t *calls, Call call) {
         if (!handle_) return Error::no_member;
         callauction_config config;
         if (const auto error = detail::error_of(callauction_board_config_of(handle_, &config))) return *error;
-        return detail::listed(config.max_open, call);
+        std::uint32_t counted = 0;
+        auto found = detail::listed<callauction_order>(
+            config.max_open, [&](callauction_order *to, std::size_t room, std::size_t *copied) {
+                return call(to, room, copied, &counted);
+            });
+        if (calls && found) *calls = counted;
+        return found;
     }
 
     callauction_member *handle_;
@@ -1093,16 +1215,23 @@ private:
 class Board {
 public:
     static constexpr std::size_t max_members = 64;
+    static constexpr std::uint32_t usual_reserve = 16; // calls, where the config has none
+    static constexpr std::uint32_t most_range = 1'000'000; // ticks, in a journal
 
+    // As callauction_board_open. Error::bad_members where they aren't 1 to 64, Error::bad_range where no journal could
+    // say it, and Error::bad_reserve where there are more than the operator, to whom the reserve leaves no call.
     static Result<Board> open(Whole members, const Config &config) {
         callauction_config given{};
         if (!detail::config_fits(config, given)) return Error::no_config;
         const auto asked = static_cast<std::uint64_t>(std::int64_t{members});
         const std::size_t count = asked > max_members ? max_members + 1 : asked; // one too many, as any that is greater
         Board made(count);
-        const auto answer = callauction_board_open(made.handles_.get(), count, &given);
-        if (const auto error = detail::error_of(answer)) return *error;
-        return made;
+        const auto error = detail::error_of(callauction_board_open(made.handles_.get(), count, &given));
+        if (!error && given.has_range && given.range > most_range) return Error::bad_range;
+        if (!error && count > 1 && (given.has_reserve ? given.reserve : usual_reserve) >= given.max_calls)
+            return Error::bad_reserve;
+        if (!error) return made;
+        return *error == Error::bad_capacity && (count == 0 || count > max_members) ? Error::bad_members : *error;
     }
 
     Board(Board &&other) noexcept
@@ -1127,6 +1256,23 @@ public:
     Member member(Whole number) {
         const auto place = static_cast<std::uint64_t>(std::int64_t{number});
         return place < count_ ? Member(&handles_[place], mutex_.get()) : Member(nullptr, nullptr);
+    }
+
+    // Enters what is left of another day, each order by its own member and all in their order, waiting where others
+    // call: the receipts of those that were recorded, and the error that the next one had. Error::bad_member, and none
+    // is recorded, where the board hasn't the member of an order.
+    [[nodiscard]] std::pair<std::vector<callauction_receipt>, std::optional<Error>> enter(const CarriedOver &left) {
+        std::vector<callauction_receipt> receipts;
+        if (count_ == 0) return {receipts, Error::no_member};
+        for (const auto &command : left.commands)
+            if (command.member >= count_) return {receipts, Error::bad_member};
+        for (const auto &command : left.commands) {
+            callauction_receipt receipt{};
+            const auto error = member(command.member).apply_many_waiting({&command, 1}, {&receipt, 1}).second;
+            if (error) return {std::move(receipts), error};
+            receipts.push_back(receipt);
+        }
+        return {std::move(receipts), std::nullopt};
     }
 
     // Closes the board, when no member calls any more. Calls answer Error::closed from then on.

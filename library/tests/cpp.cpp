@@ -75,12 +75,19 @@ void numbers_are_looked_at() {
     auto auction = opened(day);
     const auto over = static_cast<std::int64_t>(std::numeric_limits<std::uint32_t>::max()) + 1;
     for (const std::int64_t member : {std::int64_t{-1}, std::int64_t{256}})
-        WANT(auction.apply(member, ca::Indicate{}).error() == ca::Error::no_command);
-    for (const ca::Command &command : {ca::Command(ca::Enter{ca::Side::bid, -1, 500}),
-             ca::Command(ca::Enter{ca::Side::bid, 1, over}), ca::Command(ca::Enter{ca::Side::none, 1, 500}),
-             ca::Command(ca::Delete{over}), ca::Command(ca::ReadTrade{-1})})
-        WANT(auction.apply(1, command).error() == ca::Error::no_command);
-    WANT(auction.apply(1, ca::Delete{std::numeric_limits<std::uint64_t>::max()}).error() == ca::Error::no_command);
+        WANT(auction.apply(member, ca::Indicate{}).error() == ca::Error::bad_member);
+    const auto fault = [&](const ca::Command &command) { return auction.apply(1, command).error(); };
+    WANT(fault(ca::Enter{ca::Side::bid, -1, 500}) == ca::Error::bad_quantity);
+    WANT(fault(ca::Change{1, -1, 500}) == ca::Error::bad_quantity);
+    WANT(fault(ca::Enter{ca::Side::bid, 1, over}) == ca::Error::bad_limit);
+    WANT(fault(ca::Change{1, 1, -1}) == ca::Error::bad_limit);
+    WANT(fault(ca::Enter{ca::Side::bid, 1, 500, -1}) == ca::Error::bad_peak);
+    WANT(fault(ca::Enter{ca::Side::none, 1, 500}) == ca::Error::no_command);
+    for (const ca::Command &command : {ca::Command(ca::Delete{over}), ca::Command(ca::OrderStatus{-1}),
+             ca::Command(ca::Change{over, 1}), ca::Command(ca::Delete{std::numeric_limits<std::uint64_t>::max()})})
+        WANT(fault(command) == ca::Error::bad_id);
+    WANT(fault(ca::ReadTrade{-1}) == ca::Error::bad_number && auction.trades(-1).error() == ca::Error::bad_number);
+    WANT(std::string_view(ca::text(ca::Error::bad_limit)) == "the limit is below 0, or above 4,294,967,295");
     WANT(*auction.calls() == 0);
     WANT(ca::Auction::open({-1, 10, 5, 1, 1, {}}).error() == ca::Error::no_config);
     WANT(ca::Auction::open({1, 10, 11, 1, 1, {}}).error() == ca::Error::bad_reference);
@@ -92,6 +99,7 @@ void prices_in_money_are_ticks() {
     WANT(cents.of("199.75").value() == 19975 && cents.of("7").value() == 700 && cents.of("1.150000").value() == 115);
     for (const char *price : {"199.755", "", ".", "1.", ".5", "-1", "1e2", "1,5", "1234567890", "0.0000000001"})
         WANT(cents.of(price).error() == ca::Error::no_price);
+    WANT(cents.of("00000000019.95").value() == 1995 && cents.of("0").value() == 0 && cents.of("00").value() == 0);
     const auto eighths = ca::Ticks::by("0.125").value();
     WANT(eighths.of("100.375").value() == 803 && !eighths.of("100.3").has_value());
     for (const char *size : {"0", "0.0", "x", "", "-0.01", "0.0000000001"})
@@ -100,6 +108,21 @@ void prices_in_money_are_ticks() {
     auto auction = opened({1, 65000, 20000, 10, 100, {}});
     reply<ca::Entered>(auction.apply(1, ca::Enter{ca::Side::bid, 5, cents.of("199.75").value()}));
     WANT(auction.orders()->at(0).limit == 19975);
+}
+
+void ticks_are_prices_in_money() {
+    const auto cents = ca::Ticks::by("0.01").value();
+    WANT(cents.price(19975).value() == "199.75" && cents.price(200).value() == "2.00");
+    WANT(cents.price(7).value() == "0.07" && cents.price(0).value() == "0.00");
+    WANT(ca::Ticks::by("5").value().price(40).value() == "200");
+    WANT(ca::Ticks::by("0.125").value().price(803).value() == "100.375");
+    WANT(ca::Ticks::by("00.0500").value().price(3).value() == "0.15"); // as many decimals as the tick size needs
+    const auto least = ca::Ticks::by("0.000000001").value();
+    WANT(least.price(999999999999999999).value() == "999999999.999999999");
+    for (const auto &none : {least.price(1'000'000'000'000'000'000), cents.price(-1), cents.price(INT64_MAX)})
+        WANT(none.error() == ca::Error::no_tick);
+    WANT(ca::Ticks::by("999999999").value().price(2).error() == ca::Error::no_tick);
+    for (const std::int64_t tick : {1, 99, 100, 123'456'789}) WANT(cents.of(cents.price(tick).value()).value() == tick);
 }
 
 void a_missing_value_throws() {
@@ -127,7 +150,7 @@ void owners_are_moved() {
     reply<ca::Entered>(third.apply(2, ca::Enter{ca::Side::ask, 1, 500}));
     WANT(second.copy_into(third).has_value() && third.orders()->at(0).side == CALLAUCTION_SIDE_BID);
     auto small = opened({1, 10, 5, 1, 1, {}});
-    WANT(second.copy_into(small).error() == ca::Error::in_use && *small.calls() == 0);
+    WANT(second.copy_into(small).error() == ca::Error::other_limits && *small.calls() == 0);
     WANT(second.copy_into(second).has_value() && *second.calls() == 1);
     WANT(first.copy_into(first).error() == ca::Error::no_auction);
 }
@@ -169,6 +192,33 @@ void a_day_is_carried_over() {
     WANT(next.orders()->at(2).quantity == 60 && next.orders()->at(2).peak == 20 && next.state()->reference == 490);
 }
 
+// What several members left is entered into a board's day by the same members, in time order.
+void a_board_takes_what_is_carried_over() {
+    auto auction = opened(day);
+    for (const int member : {1, 2, 2, 1, 0})
+        reply<ca::Entered>(auction.apply(member, ca::Enter{ca::Side::bid, 10 + member, 490}));
+    const auto left = auction.carried_over().value();
+    auto board = ca::Board::open(3, {1, 1000, left.reference, 10, 100, 50});
+    const auto entered = board->enter(left);
+    WANT(!entered.second && entered.first.size() == 5);
+    WANT(entered.first[4].number == 5 && entered.first[4].reply.id == 5);
+    const auto orders = board->member(0).orders().value();
+    for (std::size_t place = 0; place < 5; place++) {
+        const std::uint8_t member = std::vector<std::uint8_t>{1, 2, 2, 1, 0}[place];
+        WANT(orders[place].member == member && orders[place].quantity == 10u + member && orders[place].id == place + 1);
+    }
+    auto small = ca::Board::open(2, day);
+    const auto refused = small->enter(left);
+    WANT(refused.first.empty() && refused.second == ca::Error::bad_member && *small->member(1).calls() == 0);
+    auto full = ca::Board::open(3, {1, 1000, 490, 10, 4, {}, 1});
+    const auto begun = full->enter(left);
+    WANT(begun.first.size() == 3 && begun.second == ca::Error::full && begun.first[2].reply.id == 3);
+    auto moved = *std::move(board);
+    WANT(board->enter(left).second == ca::Error::no_member); // NOLINT: a moved-from board holds none
+    const auto closing = moved.close();
+    WANT(closing->counts == (std::vector<std::uint32_t>{1, 2, 2}) && moved.enter(left).second == ca::Error::closed);
+}
+
 // A client is kept with its order and given back; a negative one fits no order.
 void clients_are_given_back() {
     auto auction = opened(day);
@@ -176,7 +226,7 @@ void clients_are_given_back() {
     reply<ca::Entered>(auction.apply(1, ca::Enter{ca::Side::bid, 30, 510, {}, ca::Restriction::none, most}));
     reply<ca::Entered>(auction.apply(2, ca::Enter{ca::Side::ask, 20, 505, {}, ca::Restriction::none, 7}));
     WANT(auction.apply(1, ca::Enter{ca::Side::bid, 30, 510, {}, ca::Restriction::none, -1}).error()
-        == ca::Error::no_command);
+        == ca::Error::bad_client);
     WANT(auction.orders()->at(0).client == most && auction.orders()->at(1).client == 7);
     auto copy = auction.clone();
     WANT(copy && copy->orders()->at(0).client == most);
@@ -207,6 +257,11 @@ void a_reserve_is_the_operators() {
     WANT(usual->member(1).auction()->config()->reserve == 16);
     for (int count = 0; count < 16; count++) WANT(usual->member(0).call(ca::Indicate{}));
     WANT(usual->member(0).call(ca::Indicate{}).error() == ca::Error::full);
+    WANT(ca::Board::open(2, {1, 1000, 500, 10, 16}).error() == ca::Error::bad_reserve);
+    WANT(ca::Board::open(2, {1, 1000, 500, 10, 5, {}, 5}).error() == ca::Error::bad_reserve);
+    WANT(ca::Board::open(2, {1, 1000, 500, 10, 64, 1'000'001}).error() == ca::Error::bad_range);
+    WANT(ca::Board::open(2, {1, 1000, 500, 10, 64, 1'000'000}));
+    WANT(ca::Board::open(1, {1, 1000, 500, 10, 16})->member(0).call(ca::Indicate{})); // the operator alone
     auto without = ca::Board::open(2, {1, 1000, 500, 10, 1, {}, 0});
     WANT(without && without->member(1).call(ca::Indicate{}));
 }
@@ -253,8 +308,8 @@ void a_board_is_closed() {
     WANT(copy->orders()->size() == 1 && trading.orders()->size() == 2);
     WANT(trading.copy_into(*copy).has_value() && copy->orders()->size() == 2);
     auto other = opened(day);
-    WANT(trading.copy_into(other).error() == ca::Error::in_use && *other.calls() == 0);
-    WANT(trading.call(ca::Delete{-1}).error() == ca::Error::no_command);
+    WANT(trading.copy_into(other).error() == ca::Error::other_limits && *other.calls() == 0);
+    WANT(trading.call(ca::Delete{-1}).error() == ca::Error::bad_id);
     const std::vector<callauction_command> uncross{ca::struct_of(9, ca::Uncross{}).value()};
     std::vector<callauction_receipt> receipts(1);
     WANT(operating.apply_many(uncross, receipts) == std::make_pair(std::size_t{1}, std::optional<ca::Error>{}));
@@ -264,6 +319,10 @@ void a_board_is_closed() {
     WANT(state->calls == 3 && state->calls_left == 1);
     std::vector<callauction_trade> trades(4);
     WANT(*trading.trades(0, trades) == 1 && trades[0].quantity == 5);
+    std::uint32_t calls = 0; // after how many each list is as it is
+    WANT(*trading.trades(0, trades, &calls) == 1 && calls == 3);
+    WANT(trading.orders({}, &(calls = 0))->empty() && calls == 3);
+    WANT(trading.expiring(&(calls = 0))->empty() && calls == 3);
     std::vector<callauction_entry> entries(4);
     WANT(*trading.history(1, entries) == 2 && entries[0].reply.id == 2);
     auto moved = std::move(board);
@@ -272,8 +331,9 @@ void a_board_is_closed() {
     WANT(trading.apply_many_waiting(uncross, receipts).second == ca::Error::closed);
     WANT(trading.call(ca::Indicate{}).error() == ca::Error::closed && moved.close().error() == ca::Error::closed);
     WANT(board.close().error() == ca::Error::no_member); // NOLINT: a moved-from board holds none
-    WANT(ca::Board::open(65, day).error() == ca::Error::bad_capacity);
-    WANT(ca::Board::open(1'000'000'000, day).error() == ca::Error::bad_capacity);
+    for (const ca::Whole members : {-1, 0, 65, 1'000'000'000})
+        WANT(ca::Board::open(members, day).error() == ca::Error::bad_members);
+    WANT(std::string_view(ca::text(ca::Error::bad_members)) == "a board has 1 to 64 members");
     WANT(ca::Board::open(65, {1, 10, 11, 1, 1, {}}).error() == ca::Error::bad_reference);
     for (auto none : {moved.member(2), moved.member(-1), board.member(0)}) { // NOLINT: a moved-from board
         WANT(none.call(ca::Indicate{}).error() == ca::Error::no_member);
@@ -287,6 +347,46 @@ void a_board_is_closed() {
         WANT(none.auction().error() == ca::Error::no_member && none.copy_into(other).error() == ca::Error::no_member);
         WANT(none.orders(256).error() == ca::Error::no_member && none.expiring().error() == ca::Error::no_member);
     }
+}
+
+// On a board an order whose numbers no journal can hold is refused before it is recorded, so that each day can be read.
+void what_no_journal_holds_is_no_call_of_a_board() {
+    auto board = ca::Board::open(2, day);
+    auto trading = board->member(1);
+    const std::int64_t over = 5'000'000'000;
+    WANT(trading.call(ca::Enter{ca::Side::bid, over, 500}).error() == ca::Error::bad_quantity);
+    WANT(trading.call_waiting(ca::Enter{ca::Side::bid, 5, 500, over}).error() == ca::Error::bad_peak);
+    WANT(trading.call(ca::Change{1, over}).error() == ca::Error::bad_quantity);
+    std::vector<callauction_command> commands{ca::struct_of(1, ca::Enter{ca::Side::bid, 5, 500}).value(),
+        ca::struct_of(1, ca::Enter{ca::Side::bid, 5, 500, over}).value()};
+    std::vector<callauction_receipt> receipts(2);
+    using Applied = std::pair<std::size_t, std::optional<ca::Error>>;
+    WANT(trading.apply_many(commands, receipts) == Applied(1, ca::Error::bad_peak) && receipts[0].number == 1);
+    commands.erase(commands.begin());
+    WANT(trading.apply_many(commands, receipts) == Applied(0, ca::Error::bad_length));
+    receipts.pop_back();
+    WANT(trading.apply_many_waiting(commands, receipts) == Applied(0, ca::Error::bad_peak));
+    commands[0].tag = CALLAUCTION_COMMAND_DELETE; // which reads neither
+    commands[0].quantity = static_cast<std::uint64_t>(over);
+    WANT(trading.apply_many(commands, receipts) == Applied(1, std::nullopt));
+    const auto closing = board->close();
+    WANT(closing->entries.size() == 2 && ca::Auction::resumed(ca::journal(day, *closing).value())->unlawful == 0);
+    auto auction = opened(day);
+    WANT(reply<ca::Refusal>(auction.apply(1, ca::Enter{ca::Side::bid, over, 500})) == ca::Refusal::bad_quantity);
+}
+
+// The lines of a journal may be written in pieces: the day's, and then those of entries as they come.
+void lines_are_added_to_a_journal() {
+    auto board = ca::Board::open(3, day);
+    WANT(board->member(1).call(ca::Enter{ca::Side::bid, 30, 510}) && board->member(2).call(ca::Delete{1}));
+    const auto closing = board->close();
+    const ca::Span<const callauction_entry> entries(closing->entries);
+    const ca::Span<const callauction_entry> first(entries.data(), 1), second(entries.data() + 1, 1);
+    const auto added = ca::journal_lines(second);
+    WANT(added && *added == "2,delete,1,refused 5 UnknownOrder\n");
+    WANT(ca::journal(day, 3, first).value() + *added == ca::journal(day, *closing).value());
+    WANT(ca::journal_lines(second, 2).error() == ca::Error::no_entry);
+    for (const ca::Whole members : {0, 65}) WANT(ca::journal_lines(second, members).error() == ca::Error::bad_member);
 }
 
 // A journal of a board's day, which is gone on with; and what is none.
@@ -336,10 +436,26 @@ void what_no_journal_holds() {
         WANT(!auction.apply_many(command, answer).second);
         entry.reply = answer[0];
     }
-    const auto text = ca::journal({1, 1000, 500, 10, 5000, {}}, 2, entries);
+    const ca::Config config{1, 1000, 500, 10, 5000, {}};
+    const auto text = ca::journal(config, 2, entries);
     WANT(text && text->size() == 26 + 5000 * 38 && ca::Auction::resumed(*text)->unlawful == 0);
+    ca::BadEntry fault;
+    const auto faulty = [&](std::size_t place, std::string_view why) {
+        const bool is_same = ca::journal(config, 2, entries, &fault).error() == ca::Error::no_entry
+            && ca::journal_lines(entries, 2, &fault).error() == ca::Error::no_entry;
+        return is_same && fault.place == place && fault.why == why;
+    };
     entries[4000].command.quantity = std::uint64_t{1} << 32;
-    WANT(ca::journal(day, 2, entries).error() == ca::Error::no_entry);
+    WANT(faulty(4000, "the quantity is above 4,294,967,295") && !ca::journal(config, 2, entries));
+    WANT(ca::journal(day, 2, entries, &fault).error() == ca::Error::no_entry); // a day of 100 calls
+    WANT(fault.place == 100 && fault.why == std::string_view("the day has no more calls"));
+    entries[3000].command.peak = std::uint64_t{1} << 32;
+    entries[3000].command.has_peak = 1;
+    WANT(faulty(3000, "the peak is above 4,294,967,295"));
+    entries[2000].reply.tag = 99;
+    WANT(faulty(2000, "the struct is no command, or has a reply that none gives"));
+    entries[1000].command.member = 2;
+    WANT(faulty(1000, "the member is none of the day"));
 }
 
 } // namespace
@@ -348,15 +464,19 @@ int main() {
     replies_are_values();
     numbers_are_looked_at();
     prices_in_money_are_ticks();
+    ticks_are_prices_in_money();
     a_missing_value_throws();
     owners_are_moved();
     an_uncross_says_what_it_did();
     a_day_is_carried_over();
+    a_board_takes_what_is_carried_over();
     clients_are_given_back();
     a_reserve_is_the_operators();
     a_board_says_what_an_uncross_did();
     a_board_is_closed();
+    what_no_journal_holds_is_no_call_of_a_board();
     a_day_is_kept_as_a_journal();
     what_no_journal_holds();
+    lines_are_added_to_a_journal();
     return 0;
 }

@@ -5,7 +5,7 @@ use Rattle.std.proofs.lemmas.List.Elements.{All-head, All-weaker}
 use Rattle.std.specs.Prelude.{◌==◌, Option, None, Some, IfSome, IsSomeAnd}
 use Rattle.auction_terms.specs.declared.Entry.{Entry}
 use Rattle.board_terms.specs.declared.closing.Closing.{Closing}
-use Rattle.board_terms.specs.BoardViews.{BoardMember, FloorView, IsClosingOf, OpenedBoard, floor_view}
+use Rattle.board_terms.specs.BoardViews.{BoardMember, BoardHistory, IsClosingOf, OpenedBoard, board_history}
 use Rattle.auction_c.specs.declared.member_handle.AuctionMember.{AuctionMember}
 use Rattle.auction_c.specs.declared.structs.AuctionEntry.{AuctionEntry}
 use Rattle.auction_c.specs.Encoding.{entry_out}
@@ -13,7 +13,7 @@ use Rattle.auction_c.specs.BoardCalls.{AreOfBoards, HoldAccounts, IsAccountsErro
 use Rattle.auction_c.specs.BoardCalls.{first_boxed}
 use Rattle.auction_c.specs.BoardCalls.{lacks_room}
 
-pub writes_closing : (f : FloorView) (handles : List AuctionMember) (room entries : List AuctionEntry)
+pub writes_closing : (f : BoardHistory) (handles : List AuctionMember) (room entries : List AuctionEntry)
     (counts : List ℕ) (written : ℕ) → HoldAccounts f handles
     → ((c : Closing) × IsClosingOf f.board c × (c.history.items ≡ f.history)
     × (entries ≡ map entry_out c.history.items ++ drop written room)
@@ -22,14 +22,15 @@ pub writes_closing : (f : FloorView) (handles : List AuctionMember) (room entrie
 writes_closing f handles room entries counts written accounts c = record {
   closing = c.0;
   closed = c.1;
-  accounts = subst (λ (h : List Entry). HoldAccounts (floor_view f.board h) handles) (sym c.2) accounts;
+  accounts = subst (λ (h : List Entry). HoldAccounts (board_history f.board h) handles) (sym c.2) accounts;
   entries_are = c.3;
   written_is = c.4;
   counts_are = c.5;
 }
 
--- what is held is a member of the floor's board, for whose closing there is room, and the handles have an error
-boxed_close_error : (f : FloorView) (handles : List AuctionMember) (entries counts error : ℕ) (o : Option BoardMember)
+-- what is held is a member of this board, for whose closing there is room, and the handles have an error
+boxed_close_error : (f : BoardHistory) (handles : List AuctionMember) (entries counts error : ℕ)
+    (o : Option BoardMember)
     → IsSomeAnd o (λ (m : BoardMember). f.board ≡ m.board) → IsAccountsError f handles error
     → IfSome o
     (λ (m : BoardMember). lacks_room m.board entries counts ≡ false → 0 < error → IsCloseError m.board handles error)
@@ -37,10 +38,10 @@ boxed_close_error f handles entries counts error None is accounts = tt
 boxed_close_error f handles entries counts error (Some m) is accounts =
     λ room some. inr (
       f.history,
-      subst (λ (b : OpenedBoard). IsAccountsError (floor_view b f.history) handles error) is accounts,
+      subst (λ (b : OpenedBoard). IsAccountsError (board_history b f.history) handles error) is accounts,
     )
 
-pub close_error : (f : FloorView) (handles : List AuctionMember) (first : AuctionMember) (entries counts error : ℕ)
+pub close_error : (f : BoardHistory) (handles : List AuctionMember) (first : AuctionMember) (entries counts error : ℕ)
     → (length handles == 0) ≡ false → first ≡ get_or handles 0 first
     → IsSomeAnd first.boxed.value (λ (m : BoardMember). f.board ≡ m.board) → IsAccountsError f handles error
     → IfSome (first_boxed handles)

@@ -15,8 +15,8 @@ use Rattle.board_terms.specs.declared.calls.CallFault.{CallFault}
 use Rattle.board_terms.specs.declared.calls.Receipt.{Receipt}
 use Rattle.board_terms.specs.declared.calls.Shown.{Shown}
 use Rattle.board_terms.specs.declared.closing.Closing.{Closing}
-use Rattle.board_terms.specs.BoardViews.{OpenedBoard, BoardMember, FloorView, IsBehindHistory, IsClosingOf}
-use Rattle.board_terms.specs.BoardViews.{SeesStory, floor_view}
+use Rattle.board_terms.specs.BoardViews.{OpenedBoard, BoardMember, BoardHistory, IsBehindHistory, IsClosingOf}
+use Rattle.board_terms.specs.BoardViews.{SeesStory, board_history}
 use Rattle.board_terms.specs.BoardViews.{new_board_members, opened_board, ladder_after, tape_after}
 use Rattle.shared_board.specs.Reserves.{LeavesReserve, SeesNoneLeft}
 use Rattle.auction_c.specs.declared.member_handle.AuctionMember.{AuctionMember}
@@ -159,18 +159,18 @@ pub record ShowsEntries (seen : ℕ) (room entries : List AuctionEntry) (copied 
   pub entries_are : entries ≡ map entry_out (take copied (drop seen history)) ++ drop copied room
 
 -- the handle holds the member with this number of this board, whose account is one of this history
-abbrev pub HoldsAccount : FloorView → ℕ → Option BoardMember → Type 0
+abbrev pub HoldsAccount : BoardHistory → ℕ → Option BoardMember → Type 0
 HoldsAccount f number h = IsSomeAnd h
     (λ (m : BoardMember). (m.board ≡ f.board) × (m.view.number ≡ number) × IsAccount (calls_of f.history) m.view)
 
 -- all members of the board, in the order of their numbers, are held, and their accounts are of this history
-pub record HoldAccounts (f : FloorView) (handles : List AuctionMember) : Type 0 where
+pub record HoldAccounts (f : BoardHistory) (handles : List AuctionMember) : Type 0 where
   pub all : length handles ≡ f.board.members
   pub each : (k : ℕ) (d : AuctionMember) → k < length handles → HoldsAccount f k (get_or handles k d).boxed.value
 
 -- what is wrong with the member at this place: another board, another number, or an account that isn't one of this
 -- legal history
-abbrev pub IsAccountError : FloorView → ℕ → BoardMember → ℕ → Type 0
+abbrev pub IsAccountError : BoardHistory → ℕ → BoardMember → ℕ → Type 0
 IsAccountError f place m error =
     ((m.board.identity ≢ f.board.identity) × (error ≡ MISSING_MEMBER))
     ⊎ (((m.view.number ≢ place) × (error ≡ MISSING_MEMBER))
@@ -178,12 +178,12 @@ IsAccountError f place m error =
     × (IsAccount (calls_of f.history) m.view → ⊥)))
 
 -- the same of a handle
-abbrev pub IsHandleError : FloorView → ℕ → Option BoardMember → ℕ → Type 0
+abbrev pub IsHandleError : BoardHistory → ℕ → Option BoardMember → ℕ → Type 0
 IsHandleError f place None error = error ≡ NO_MEMBER
 IsHandleError f place (Some m) error = IsAccountError f place m error
 
 -- the first error of handles that are as many as the members
-pub record IsFirstError (f : FloorView) (handles : List AuctionMember) (error : ℕ) : Type 0 where
+pub record IsFirstError (f : BoardHistory) (handles : List AuctionMember) (error : ℕ) : Type 0 where
   pub all : length handles ≡ f.board.members
   pub place : ℕ
   pub within : place < length handles
@@ -191,7 +191,7 @@ pub record IsFirstError (f : FloorView) (handles : List AuctionMember) (error : 
   pub here : (d : AuctionMember) → IsHandleError f place (get_or handles place d).boxed.value error
 
 -- why these handles don't bring the accounts of all members
-abbrev pub IsAccountsError : FloorView → List AuctionMember → ℕ → Type 0
+abbrev pub IsAccountsError : BoardHistory → List AuctionMember → ℕ → Type 0
 IsAccountsError f handles error =
     ((length handles ≢ f.board.members) × (error ≡ MISSING_MEMBER)) ⊎ IsFirstError f handles error
 
@@ -208,7 +208,7 @@ first_boxed (h ∷ hs) = h.boxed.value
 abbrev pub IsCloseError : OpenedBoard → List AuctionMember → ℕ → Type 0
 IsCloseError board handles error =
     IsLockError error
-    ⊎ ((history : List Entry) × IsAccountsError (floor_view board history) handles error)
+    ⊎ ((history : List Entry) × IsAccountsError (board_history board history) handles error)
 
 -- the board's history was written into this room, with the counts of its members: it is a closing of the board of all
 -- these handles
@@ -216,7 +216,7 @@ pub record WritesClosing (board : OpenedBoard) (handles : List AuctionMember) (r
     (counts : List ℕ) (written : ℕ) : Type 0 where
   pub closing : Closing
   pub closed : IsClosingOf board closing
-  pub accounts : HoldAccounts (floor_view board closing.history.items) handles
+  pub accounts : HoldAccounts (board_history board closing.history.items) handles
   pub entries_are : entries ≡ map entry_out closing.history.items ++ drop written room
   pub written_is : written ≡ length closing.history.items
   pub counts_are : counts ≡ closing.calls.items

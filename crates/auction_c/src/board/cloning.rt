@@ -4,7 +4,7 @@ ghost use Rattle.auction.specs.OpenOrders as limits;
 ghost use Rattle.auction_c.specs.BoardCalls.{IsClone, IsListError, IsShowError};
 ghost use Rattle.auction_c.specs.declared.errors.TheConstants.{IN_USE};
 
-use crate::board::taking::{see_floor, take_floor, take_seen_floor};
+use crate::board::taking::{see_locked, take_locked, take_seen_locked};
 use crate::copying::has_same_limits;
 use crate::errors::{DONE, IN_USE, NO_MEMORY};
 use auction::Auction;
@@ -19,12 +19,12 @@ fn clone_over(member: &mut SharedMember, other: &mut Auction) -> u32
     ensures other { 0 < result → other.new ≡ other.old }
     ensures error { 0 < result → IsShowError member.old result }
 {
-    let floor = match take_seen_floor(member) {
-        Ok(floor) => floor,
+    let locked = match take_seen_locked(member) {
+        Ok(locked) => locked,
         Err(error) => return error,
     };
-    floor.auction().copy_into(other);
-    member.give_floor(floor);
+    locked.auction().copy_into(other);
+    member.give_locked(locked);
     DONE
 }
 
@@ -51,18 +51,18 @@ pub(crate) fn cloned(alloc: Global, member: &mut SharedMember) -> Result<Box<Auc
     ensures error { IfErr result (λ e. IsListError member.old e) }
     ensures fault { IfErr result (λ e. 0 < e) }
 {
-    let floor = take_floor(member)?;
-    let Ok(copy) = floor.auction().copied(alloc) else {
-        member.give_floor(floor);
+    let locked = take_locked(member)?;
+    let Ok(copy) = locked.auction().copied(alloc) else {
+        member.give_locked(locked);
         return Err(NO_MEMORY);
     };
     let Ok(boxed) = Box::new(alloc, copy) else {
-        member.give_floor(floor);
+        member.give_locked(locked);
         return Err(NO_MEMORY);
     };
-    match see_floor(member, floor) {
-        Ok(floor) => {
-            member.give_floor(floor);
+    match see_locked(member, locked) {
+        Ok(locked) => {
+            member.give_locked(locked);
             Ok(boxed)
         }
         Err(error) => Err(error),

@@ -1,10 +1,10 @@
-//! What a member is shown of the floor: the ladder, the trades, where the day is, the entries of the history.
+//! What a member is shown of its board, locked: the ladder, the trades, where the day is, the entries of the history.
 ghost use Rattle.std.specs.Prelude.{◌≡◌, ◌<◌, drop, length};
 ghost use Rattle.auction_c.specs.BoardCalls.{IsLadderError, IsShowError, ShowsEntries, ShowsLadder, ShowsState};
 ghost use Rattle.auction_c.specs.BoardCalls.{ShowsTrades};
 ghost use Rattle.auction_c.specs.Calling.{ladder_error, ticks_of};
 
-use crate::board::taking::{see_floor, take_floor, take_seen_floor};
+use crate::board::taking::{see_locked, take_locked, take_seen_locked};
 use crate::copying::{copy_entries, copy_ladder, copy_trades};
 use crate::encoding::state_out;
 use crate::errors::{BAD_LENGTH, DONE};
@@ -43,22 +43,22 @@ pub(crate) fn show_ladder(
     ensures arrays { 0 < result → (bids.new ≡ bids.old) × (asks.new ≡ asks.old) }
     ensures numbers { 0 < result → (market.new ≡ market.old) × (calls.new ≡ calls.old) }
 {
-    let floor = match take_floor(member) {
-        Ok(floor) => floor,
+    let locked = match take_locked(member) {
+        Ok(locked) => locked,
         Err(error) => return error,
     };
-    let ticks = floor.ladder().bids().len();
+    let ticks = locked.ladder().bids().len();
     if bids.len() != ticks || asks.len() != ticks {
-        member.give_floor(floor);
+        member.give_locked(locked);
         return BAD_LENGTH;
     }
-    let floor = match see_floor(member, floor) {
-        Ok(floor) => floor,
+    let locked = match see_locked(member, locked) {
+        Ok(locked) => locked,
         Err(error) => return error,
     };
-    let error = copy_ladder(floor.ladder(), bids, asks, market);
-    *calls = floor.calls();
-    member.give_floor(floor);
+    let error = copy_ladder(locked.ladder(), bids, asks, market);
+    *calls = locked.calls();
+    member.give_locked(locked);
     error
 }
 
@@ -75,13 +75,13 @@ pub(crate) fn show_trades(
     ensures error { 0 < result → IsShowError member.old result }
     ensures same { 0 < result → (trades.new ≡ trades.old) × (copied.new ≡ copied.old) × (calls.new ≡ calls.old) }
 {
-    let floor = match take_seen_floor(member) {
-        Ok(floor) => floor,
+    let locked = match take_seen_locked(member) {
+        Ok(locked) => locked,
         Err(error) => return error,
     };
-    *copied = copy_trades(trades_after(floor.tape(), seen), trades);
-    *calls = floor.calls();
-    member.give_floor(floor);
+    *copied = copy_trades(trades_after(locked.tape(), seen), trades);
+    *calls = locked.calls();
+    member.give_locked(locked);
     DONE
 }
 
@@ -96,12 +96,12 @@ pub(crate) fn show_state(
     ensures error { 0 < result → IsShowError member.old result }
     ensures same { 0 < result → state.new ≡ state.old }
 {
-    let floor = match take_seen_floor(member) {
-        Ok(floor) => floor,
+    let locked = match take_seen_locked(member) {
+        Ok(locked) => locked,
         Err(error) => return error,
     };
-    *state = state_out(floor.auction(), reserve);
-    member.give_floor(floor);
+    *state = state_out(locked.auction(), reserve);
+    member.give_locked(locked);
     DONE
 }
 
@@ -117,11 +117,11 @@ pub(crate) fn show_entries(
     ensures error { 0 < result → IsShowError member.old result }
     ensures same { 0 < result → (entries.new ≡ entries.old) × (copied.new ≡ copied.old) }
 {
-    let floor = match take_seen_floor(member) {
-        Ok(floor) => floor,
+    let locked = match take_seen_locked(member) {
+        Ok(locked) => locked,
         Err(error) => return error,
     };
-    *copied = copy_entries(entries_after(floor.history(), seen), entries);
-    member.give_floor(floor);
+    *copied = copy_entries(entries_after(locked.history(), seen), entries);
+    member.give_locked(locked);
     DONE
 }

@@ -1,49 +1,49 @@
-//! The floor of a member's board, taken for a call, and given back where that can't go on.
+//! A member's board, locked for a call, and given back where that can't go on.
 ghost use Rattle.std.specs.Prelude.{◌≡◌, ◌<◌, IfErr, IfOk};
 ghost use Rattle.auction_c.specs.BoardCalls.{IsLockError, IsShowError, SeesHistory, SeesMore};
 ghost use Rattle.auction_c.specs.declared.errors.TheConstants.{BEHIND};
 
 use crate::errors::{BEHIND, board_fault_out};
-use shared_board::{SharedMember, TakenFloor};
+use shared_board::{SharedMember, TakenBoard};
 
-/// The floor, or why it can't be had.
-pub(crate) fn take_floor(member: &mut SharedMember) -> Result<TakenFloor, u32>
+/// The locked board, or why it can't be had.
+pub(crate) fn take_locked(member: &mut SharedMember) -> Result<TakenBoard, u32>
     ensures same { member.new ≡ member.old }
     ensures board { IfOk result (λ f. f.board ≡ member.old.board) }
     ensures error { IfErr result IsLockError }
     ensures fault { IfErr result (λ e. 0 < e) }
 {
-    match member.take_floor() {
-        Ok(floor) => Ok(floor),
+    match member.take_locked() {
+        Ok(locked) => Ok(locked),
         Err(fault) => Err(board_fault_out(fault)),
     }
 }
 
-/// The floor, once the member has seen all its calls; it is given back where the member is behind.
-pub(crate) fn see_floor(member: &mut SharedMember, floor: TakenFloor) -> Result<TakenFloor, u32>
-    requires { floor.board ≡ member.old.board }
-    ensures floor { IfOk result (λ f. f ≡ floor) }
+/// The locked board, once the member has seen all its calls; it is given back where the member is behind.
+pub(crate) fn see_locked(member: &mut SharedMember, locked: TakenBoard) -> Result<TakenBoard, u32>
+    requires { locked.board ≡ member.old.board }
+    ensures locked { IfOk result (λ f. f ≡ locked) }
     ensures sees { IfOk result (λ f. SeesHistory member.old member.new f.history) }
     ensures same { IfErr result (λ e. member.new ≡ member.old) }
     ensures error { IfErr result (λ e. (e ≡ BEHIND) × SeesMore member.old) }
 {
-    if member.see(&floor) {
-        return Ok(floor);
+    if member.see(&locked) {
+        return Ok(locked);
     }
-    member.give_floor(floor);
+    member.give_locked(locked);
     Err(BEHIND)
 }
 
-/// The floor, taken, once the member has seen all its calls.
-pub(crate) fn take_seen_floor(member: &mut SharedMember) -> Result<TakenFloor, u32>
+/// The locked board, taken, once the member has seen all its calls.
+pub(crate) fn take_seen_locked(member: &mut SharedMember) -> Result<TakenBoard, u32>
     ensures board { IfOk result (λ f. f.board ≡ member.old.board) }
     ensures sees { IfOk result (λ f. SeesHistory member.old member.new f.history) }
     ensures same { IfErr result (λ e. member.new ≡ member.old) }
     ensures error { IfErr result (λ e. IsShowError member.old e) }
     ensures fault { IfErr result (λ e. 0 < e) }
 {
-    match take_floor(member) {
-        Ok(floor) => see_floor(member, floor),
+    match take_locked(member) {
+        Ok(locked) => see_locked(member, locked),
         Err(error) => Err(error),
     }
 }

@@ -7,7 +7,7 @@ use crate::structs::AuctionJournal;
 use auction::Auction;
 use auction_terms::{Call, Reply};
 use day_road::Listener;
-use printed_lines::{Page, is_text_of};
+use printed_lines::ReplyTexts;
 use std::alloc::{AllocError, Global};
 
 // Whether a reply was recorded.
@@ -17,15 +17,11 @@ fn has_text(text: &[u8]) -> bool
     !text.is_empty()
 }
 
-// Whether one was that isn't the lawful one. A page is lent for it.
-fn is_unlawful(page: &mut Page, text: &[u8], reply: Reply) -> bool
-    ensures { result ≡ recorded_as.is_unlawful (recorded_as.pair_of text.now reply) }
+// Whether one was that isn't the lawful one.
+fn is_unlawful(texts: &mut ReplyTexts, text: &[u8], reply: &Reply) -> bool
+    ensures { result ≡ recorded_as.is_unlawful (recorded_as.pair_of text.now reply.now) }
 {
-    if !has_text(text) {
-        return false;
-    }
-    page.clear();
-    !is_text_of(page, text, reply)
+    has_text(text) && !texts.is_text_of(text, reply)
 }
 
 fn first_with(first: u64, unlawful: bool, number: u64) -> u64
@@ -85,8 +81,7 @@ pub(crate) fn told(counts: Compared, members: u8, calls: u32) -> AuctionJournal
 #[derive(Drop)]
 pub(crate) struct Comparison {
     pub counts: Compared,
-    // It is lent.
-    page: Page,
+    texts: ReplyTexts,
 }
 
 impl Comparison {
@@ -101,7 +96,7 @@ impl Comparison {
                 unlawful: 0,
                 first_unlawful: 0,
             },
-            page: Page::new(),
+            texts: ReplyTexts::new(),
         }
     }
 }
@@ -127,7 +122,7 @@ impl Listener for Comparison {
     }
 
     fn hear(&mut self, _call: &Call, text: &[u8], reply: &Reply) -> Result<(), AllocError> {
-        let unlawful = is_unlawful(&mut self.page, text, *reply);
+        let unlawful = is_unlawful(&mut self.texts, text, reply);
         self.counts = compared_with(self.counts, has_text(text), unlawful);
         Ok(())
     }

@@ -23,8 +23,8 @@ returns-then-error-ne-DONE-clause-stop c =
         each = recorded_before c.args.reserve i commands c.loop-i.receipts i v c.args.member.now c.loop-i.member
             (omega arith)
             was.each;
-        before = length c.args.floor.now.history;
-        numbers = numbered_before (length c.args.floor.now.history) i c.loop-i.receipts i v (omega arith) was.numbers;
+        before = length c.args.locked.now.history;
+        numbers = numbered_before (length c.args.locked.now.history) i c.loop-i.receipts i v (omega arith) was.numbers;
       };
       within = within;
       stop = λ d.
@@ -40,7 +40,7 @@ loop-i-preserved c =
     let was = c.loop-i.invariant in
     let commands = c.args.commands.now in
     let new = c.call_struct-error.new.member in
-    let before = length c.args.floor.now.history in
+    let before = length c.args.locked.now.history in
     let done : c.call_struct-error.result ≡ 0 = omega (arith, c.if-error-ne-DONE.false) in
     let within : i < length commands = omega (arith, c.loop-i-test.true) in
     let inside : i < length c.loop-i.receipts = omega (arith, c.loop-i-test.true, was.rest.0, c.requires.length) in
@@ -63,4 +63,4 @@ returns-clause-done c =
     let end : c.loop-i.i ≡ length c.args.commands.now = omega (arith, c.loop-i-test.false, c.loop-i.auto.i-end) in
     subst (λ (n : ℕ).
     RecordsMany c.args.reserve c.args.commands.now c.loop-i.receipts n c.args.member.now c.loop-i.member) end
-    (record { each = was.each; before = length c.args.floor.now.history; numbers = was.numbers })
+    (record { each = was.each; before = length c.args.locked.now.history; numbers = was.numbers })

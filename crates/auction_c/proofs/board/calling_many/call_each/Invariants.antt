@@ -6,10 +6,10 @@ use Rattle.auction_c.proofs.board.calling_many.call_each.Given as goal
 
 abbrev pub invariant-loop-i : goal.invariant-loop-i
 invariant-loop-i l = record {
-  board : l.floor.board ≡ l.member.board;
+  board : l.locked.board ≡ l.member.board;
   each : RecordsFirst l.reserve l.i l.commands l.receipts l.fn.member l.member;
-  count : length l.floor.history ≡ length l.fn.floor.history + l.i;
+  count : length l.locked.history ≡ length l.fn.locked.history + l.i;
   numbers : (k : ℕ) (b : AuctionReceipt) → k < l.i
-      → (get_or l.receipts k b).number ≡ length l.fn.floor.history + k + 1;
+      → (get_or l.receipts k b).number ≡ length l.fn.locked.history + k + 1;
   rest : IsSameFrom l.i l.fn.receipts l.receipts;
 }

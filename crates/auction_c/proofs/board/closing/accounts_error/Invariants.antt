@@ -7,5 +7,5 @@ use Rattle.auction_c.proofs.board.closing.accounts_error.Given as goal
 abbrev pub invariant-loop-i : goal.invariant-loop-i
 invariant-loop-i l = record {
   same : l.handles ≡ l.fn.handles;
-  each : (k : ℕ) (d : AuctionMember) → k < l.i → HoldsAccount l.floor k (get_or l.fn.handles k d).boxed.value;
+  each : (k : ℕ) (d : AuctionMember) → k < l.i → HoldsAccount l.locked k (get_or l.fn.handles k d).boxed.value;
 }

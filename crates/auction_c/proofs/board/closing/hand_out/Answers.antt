@@ -8,7 +8,7 @@ use Rattle.auction_c.proofs.board.closing.hand_out.Goals as goal
 pub returns : goal.returns
 returns c =
     let history = c.into_closing-history.result.history.items in
-    let few : length history ≤ c.args.floor.board.config.max_calls = c.into_closing-history.ensures.closed.legal.few in
+    let few : length history ≤ c.args.locked.board.config.max_calls = c.into_closing-history.ensures.closed.legal.few in
     let all : length c.deref.result.now ≡ length history = ap length c.deref.ensures.value in
     let written : c.copy_entries.result ≡ length history =
     omega (arith, c.copy_entries.ensures.count, all, few, c.requires.room) in

@@ -9,8 +9,8 @@ use Rattle.auction_c.proofs.board.showing.show_trades.Goals as goal
 pub returns-clause-done : goal.returns-clause-done
 returns-clause-done c =
     λ _.
-    let board : c.in-Ok.floor.board ≡ c.args.member.now.board = search rules in
-    let history = c.in-Ok.floor.history in
+    let board : c.in-Ok.locked.board ≡ c.args.member.now.board = search rules in
+    let history = c.in-Ok.locked.history in
     let room = c.args.trades.now in
     let n = c.copy_trades.result in
     let tape = tape_after c.args.member.now.board.config (calls_of history) in
