@@ -59,6 +59,23 @@ def unread_order(chance: random.Random, rows: Rows) -> int | None:
     return place
 
 
+def unread_below(chance: random.Random, rows: Rows) -> int | None:
+    """A row of an order that can't be read is below a result, and by its time above it."""
+    ends = places(rows, "uncross")
+    those = [at for at in places(rows, *ORDERS) if any(at < end for end in ends)]
+    place = some(chance, those)
+    if place is None:
+        return None
+    row = rows.pop(place)
+    if row["event"] == "cancel":
+        row["event"] = "cancl"
+    else:
+        row[chance.choice(["side", "price"] if row["event"] == "new" else ["quantity"])] = "#N/A%"
+    above = next(end for end in ends if end > place) - 1
+    rows.insert(chance.randint(above + 1, len(rows)), row)
+    return place
+
+
 def missing_entry(chance: random.Random, rows: Rows) -> int | None:
     """The entry of an order is missing; what came of it is there."""
     place = some(chance, places(rows, "new"))

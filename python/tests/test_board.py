@@ -8,6 +8,7 @@ import sys
 import threading
 from collections.abc import Callable
 from concurrent.futures import ThreadPoolExecutor
+from pathlib import Path
 from typing import Any
 
 import numpy
@@ -23,6 +24,7 @@ from callauction import (
     Change,
     Changed,
     ClosedError,
+    CommandTag,
     Delete,
     Entered,
     FullError,
@@ -338,6 +340,9 @@ def test_the_tables_of_its_day() -> None:
         ({"members": 2, "low": 5, "high": 4}, "low, high"),
         ({"members": 2, "reference": 1001}, "reference"),
         ({"members": 2, "max_calls": 0}, "max_open, max_calls"),
+        ({"members": 2, "range": 1_000_001}, "^range must be from 0 to 1000000, not 1000001"),
+        ({"members": 3, "max_calls": 16}, "^reserve must be below max_calls, which is 16, not 16"),
+        ({"members": 2, "max_calls": 9, "reserve": 10}, "members would have no call$"),
     ],
 )
 def test_a_board_that_cannot_be_opened(given: dict[str, int], fault: str) -> None:
@@ -459,10 +464,61 @@ def test_many_calls_have_no_other_between() -> None:
     assert board.close().counts == (0, 500, 1_000, 1_000)
 
 
+@pytest.mark.parametrize("name", ["quantity", "peak"])
+def test_what_no_journal_holds_is_refused_before_a_call(name: str, tmp_path: Path) -> None:
+    """By call and by array, so that the day of a board is always one that can be read."""
+    terms: dict[str, Any] = {"quantity": 5, "limit": 500, name: 1 << 32}
+    fault = f"{name} must be from 0 to 4294967295, not 4294967296$"
+    board = Board(2, **DAY)
+    with pytest.raises(ValueError, match=f"^{fault}"):
+        board[1].enter(Side.BID, **terms)
+    made = commands(side=[Side.BID] * 2, quantity=[5, terms["quantity"]], limit=500)
+    made["peak"][1], made["has_peak"][1] = terms.get("peak", 0), "peak" in terms
+    with pytest.raises(ValueError, match=f"^commands: element 1: {fault}"):
+        board[1].apply_many(made)
+    made["tag"][1] = CommandTag.DELETE  # reads neither
+    board[1].apply_many(made)
+    day = board.close()
+    day.save(tmp_path / "day.csv")
+    assert len(day.journal()) == 2 and day.audit().empty
+
+
+def test_what_is_carried_over_is_entered_by_its_members() -> None:
+    with Auction() as auction:
+        for member in (1, 2, 2, 1, 0):
+            auction.enter(member, Side.BID, 10 + member, 190)
+        left = auction.carried_over()
+    with Board(3, reference=left.reference) as board:
+        receipts = board.enter_carried(left)
+        assert receipts["number"].tolist() == receipts["reply"]["id"].tolist() == [1, 2, 3, 4, 5]
+        orders = board[0].orders()
+        assert orders["member"].tolist() == [1, 2, 2, 1, 0]
+        assert orders["quantity"].tolist() == [11, 12, 12, 11, 10]
+    assert board.day.counts == (1, 2, 2)
+    with Board(2) as small:
+        with pytest.raises(ValueError, match="element 1: member must be from 0 to 1, not 2$"):
+            small.enter_carried(left)
+        assert small[0].look().calls == 0
+    with Board(3, max_calls=4, reserve=1) as full:
+        with pytest.raises(FullError, match="^command 3: no call is left") as stopped:
+            full.enter_carried(left)
+        assert stopped.value.applied == 3 and stopped.value.replies is not None
+        assert stopped.value.replies["reply"]["id"].tolist() == [1, 2, 3]
+
+
+def test_a_member_makes_no_calls_of_another() -> None:
+    with Board(3, **DAY) as board:
+        made = commands(side=[Side.BID] * 3, quantity=5, member=[0, 1, 2])
+        fault = "^commands: element 2: member must be 0 or 1, the number of this member, not 2$"
+        with pytest.raises(ValueError, match=fault):
+            board[1].apply_many(made)
+        assert board[0].look().calls == 0 and len(board[1].apply_many(made[:2])) == 2
+        assert len(board[2].apply_many(commands(side=[Side.BID] * 2, quantity=5))) == 2
+
+
 def test_many_calls_end_at_the_first_error() -> None:
     board = Board(2, **DAY, max_calls=5, reserve=0)
     made = commands(side=[Side.BID] * 4, quantity=[7] * 4)
-    made["member"] = 63
     assert len(board[1].apply_many(made[:0])) == 0
     made["has_limit"][2] = 9
     with pytest.raises(NoCommandError, match="^command 2: .*has_limit 9$") as stopped:

@@ -942,7 +942,7 @@ def test_a_trade_of_more_than_is_open_names_the_order() -> None:
         dict(event="trade", bid="A", ask="S", quantity="50", price="10.00", auction="opening",
              time="09:00"),
     ]), reference="10", tick_size="0.01", auctions=["opening"])  # fmt: skip
-    assert "S has 40 open, and no 50." in str(verdict), str(verdict)
+    assert "S has 40 open, and no 50 (are hidden shares missing?)." in str(verdict), str(verdict)
 
 
 class Unread(io.TextIOBase):

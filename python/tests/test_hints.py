@@ -41,7 +41,7 @@ def test_total_quantities_that_are_not_said_condemn_no_day() -> None:
     assert verdict.word == "incomplete", str(verdict)
     assert "--quantity says which" in verdict.doubtful[0].doubt
     for quantity, word in (("open", "unlawful"), ("total", "incomplete")):
-        reading = Reading(quantity=quantity)  # type: ignore[arg-type]
+        reading = Reading(quantity=quantity, unrestricted=True)  # type: ignore[arg-type]
         verdict = audit_events(frame, reading=reading, **terms)  # type: ignore[arg-type]
         assert verdict.word == word and not verdict.doubtful, str(verdict)
     wrong = frame_of(rows_of(TOTALS.replace("10.00 200 100", "10.00 250 100")))
@@ -171,3 +171,45 @@ def test_each_instrument_has_a_row_among_findings(tmp_path: Path) -> None:
     assert kinds == {"DE1": ("none", "lawful"), "DE2": ("certain", "unlawful"),
                      "DE3": ("none", "fault")}  # fmt: skip
     assert "it isn't among the days" in found["DE3"]["why"] or "--reference" in found["DE3"]["why"]
+
+
+# ---- rows of another form
+
+
+def test_words_that_are_not_known_name_the_option_that_says_them(
+    tmp_path: Path, capsys: Printed
+) -> None:
+    text = (f"{HEADER}Invoer,A,bid,10.00,100,,,,,\nnew,B,V,10.00,100,,,,,\n"
+            "Trade correction,C,bid,10.00,100,,,,,\nnew,D,1,10.00,100,,,,,\n"
+            "uncross,,,,0,,opening,,,\n")  # fmt: skip
+    audited(text, ["--reference", "10", "--auctions", "opening"], tmp_path)
+    lines = capsys.readouterr().err.splitlines()
+    said = ["event:Invoer=OURS", "side:V=OURS", "'event:Trade correction=OURS'"]
+    for line, option in zip(lines, said):
+        assert line.endswith(f" (--values {option} says what it means)"), line
+    assert lines[3].endswith("side '1' is none of bid, buy, ask, sell")
+
+
+def test_rows_whose_last_separators_are_stripped_are_said(
+    tmp_path: Path, capsys: Printed
+) -> None:
+    rows = ["new,A,bid,10.00,100,,,,,", "new,S,ask,10.00,100,,,,,",
+            "uncross,,none,10.00,100,0,opening,1,,", "trade,,,10.00,100,,opening,,A,S"]  # fmt: skip
+    text = HEADER + "\n".join(row.rstrip(",") for row in rows) + "\n"
+    assert audited(text, ["--reference", "10", "--auctions", "opening"], tmp_path) == 1
+    [line] = capsys.readouterr().err.splitlines()
+    assert "no whole row has order, side, and 3 rows have another number of fields than" in line
+    assert "row 2, which has 5 fields, the header 10: write a field for each column" in line
+
+
+def test_a_separator_more_at_the_end_of_each_row_is_said(tmp_path: Path, capsys: Printed) -> None:
+    rows = ["new,A,bid,10.00,100,,,,,", "new,S,ask,10.00,100,,,,,",
+            "uncross,,none,10.00,100,0,opening,1,,", "trade,,,10.00,100,,opening,,A,S"]  # fmt: skip
+    text = HEADER + "".join(f"{row},\n" for row in rows)
+    words = ["--reference", "10", "--auctions", "opening"]
+    assert audited(text, words, tmp_path) == 1
+    [line] = capsys.readouterr().err.splitlines()
+    assert line.endswith("each row ends in a ',' more than the header: write one at the end of "
+                         "the header too")  # fmt: skip
+    assert audited(text.replace("ask\n", "ask,\n", 1), words, tmp_path) == 0
+    assert capsys.readouterr().err == ""

@@ -10,7 +10,7 @@ from callauction.verdict import Reading
 from damage import places, timed_day
 from extracts import Extract, Rows
 from test_desk import TRADE, UNCROSS
-from test_doubts import planted
+from test_doubts import DAYS, planted
 from test_verdict import judged
 
 Printed = pytest.CaptureFixture[str]
@@ -86,6 +86,68 @@ def test_a_lawful_day_that_lacks_one_side_of_a_trade_is_never_unlawful() -> None
         assert verdict.word == "incomplete", f"{seed}\n{verdict}"
         in_doubt += any("no row of its other side" in it.doubt for it in verdict.doubtful)
     assert in_doubt > 10
+
+
+def half_day(seed: int, is_only: bool) -> Extract | None:
+    """A day whose only trade, or each, lacks one row; None where it has none."""
+    extract, chance = timed_day(seed, 5 if is_only else 12), random.Random(seed)
+    extract.rows[:] = of_both_sides(extract.rows)
+    matches = [*dict.fromkeys(row["match"] for row in extract.rows if row["event"] == TRADE)]
+    if not matches or is_only != (len(matches) == 1):
+        return None
+    gone = {(match, chance.choice(["bid", "ask"])) for match in matches}
+    extract.rows[:] = [it for it in extract.rows if (it.get("match"), it.get("side")) not in gone]
+    late = dict(event="new", order="Z", side="bid", price="9.50", quantity="1", time="23:00:00")
+    extract.rows.append(late)
+    return extract
+
+
+def test_trades_that_all_lack_one_side_condemn_no_day() -> None:
+    for is_only in (False, True):
+        count = 0
+        for seed in range(2 * DAYS):
+            extract = half_day(seed, is_only)
+            if extract is None or count == DAYS // 8:
+                continue
+            count += 1
+            verdict = judged(extract, reading=Reading(pair="match"))
+            assert verdict.word == "incomplete", f"{seed}\n{verdict}"
+            assert "has no row of its other side" in str(verdict)
+        assert count > 3
+
+
+def test_a_wrong_volume_beside_such_trades_is_certain() -> None:
+    count = 0
+    for seed in range(DAYS // 2):
+        extract = half_day(seed, False)
+        fault = None if extract is None else planted(extract, len(extract.rows))
+        if extract is not None and fault is not None:
+            count += 1
+            verdict = judged(extract, reading=Reading(pair="match"))
+            assert fault in [it.row for it in verdict.findings], f"{seed}\n{verdict}"
+    assert count > 5
+
+
+def test_a_bust_that_is_not_read_may_take_out_both_fills_of_a_trade() -> None:
+    count = 0
+    for seed in range(DAYS // 2):
+        extract, chance = timed_day(seed), random.Random(seed)
+        made = places(extract.rows, TRADE)
+        if len(made) < 3:
+            continue
+        at = chance.choice(made)
+        row = extract.rows[at]
+        wrong = {**row, "quantity": str(int(row["quantity"]) + chance.choice([1, 70]))}
+        bust = {"event": "bust", "quantity": wrong["quantity"], "time": row["time"]}
+        extract.rows[at + 1 : at + 1] = [wrong, bust]
+        extract.rows[:] = of_both_sides(extract.rows)
+        own = f"m{at + 1}"
+        right = [it for it in places(extract.rows, TRADE) if extract.rows[it]["match"] != own]
+        del extract.rows[chance.choice(right)]
+        count += 1
+        verdict = judged(extract, reading=Reading(pair="match"))
+        assert verdict.word == "incomplete", f"{seed}\n{verdict}"
+    assert count > 5
 
 
 # ---- what is read of a market

@@ -326,7 +326,7 @@ def test_a_trade_copied_right_below_it_condemns_no_day() -> None:
     verdict = judged(day, auctions=["opening"])
     assert verdict.word == "incomplete" and "is there twice: is it one?" in str(verdict)
     assert str(verdict.explain(verdict.doubtful[0])).endswith("is it one?")
-    for other in ("10.00 200 50 none", "10.01 200 0 none", "10.00 300 0 none"):
+    for other in ("10.00 200 50 none", "10.01 200 0 none", "10.00 250 0 none"):
         verdict = judged(day.replace("10.00 200 0 none", other), auctions=["opening"])
         assert [it.row for it in verdict.findings] == [3], str(verdict)
         assert [it.item for it in verdict.doubtful] == ["trade"], str(verdict)

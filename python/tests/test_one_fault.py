@@ -272,6 +272,7 @@ def of_clock(text: str) -> datetime.timedelta:
 @pytest.mark.parametrize("is_wrong", [False, True])
 @pytest.mark.parametrize("form, has_sequence, words, wrong", [
     ("%H:%M:%S.%f", True, ["--sort"], 4), ("%H:%M:%S.%f", False, ["--sort"], 5),
+    ("%H:%M:%S.%f", True, [], 4),
     ("%Y-%m-%dT%H:%M:%S.%f", False, [], 4), ("%Y-%m-%dT%H:%M:%S.%f", True, ["--sort"], 4),
 ])  # fmt: skip
 def test_a_session_over_midnight_is_one_day(
@@ -424,7 +425,7 @@ def test_one_share_too_many_is_of_the_order_that_has_not_so_many(
         rows = [row.split(",") for row in text.splitlines()]
         text = "".join(",".join([*row[:8], row[9], row[8], row[10]]) + "\n" for row in rows)
     lines = lines_of(text, "opening", tmp_path, capsys)
-    said = "B has 120 open, and 121 are recorded of it."
+    said = "B has 120 open, and 121 are recorded of it (are hidden shares missing?)."
     assert "findings 1" in lines and lines[0].endswith(f": {said}")
     words = ["audit", str(tmp_path / "day.csv"), "--reference", "10", "--tick-size", "0.01"]
     assert main([*words, "--auctions", "opening", "--explain"]) == 4

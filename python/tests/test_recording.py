@@ -305,3 +305,11 @@ def test_other_things_are_no_commands() -> None:
         text_of(5)  # type: ignore[arg-type]
     with pytest.raises(TypeError, match="dtype COMMAND"):
         command_of(numpy.zeros(1, words.REPLY)[0])
+
+
+def test_a_range_that_no_journal_says() -> None:
+    """The day couldn't be read back."""
+    with pytest.raises(ValueError, match="^range must be from 0 to 1000000, not 1000001"):
+        RecordedAuction(range=1_000_001)
+    with RecordedAuction(range=1_000_000) as auction:
+        assert auction.journal().empty

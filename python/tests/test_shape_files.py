@@ -156,6 +156,14 @@ def test_trades_of_which_one_side_is_there_are_fills(tmp_path: Path) -> None:
     assert compared == due > 0
 
 
+def test_trades_whose_log_names_no_auction_are_said_with_the_tag(tmp_path: Path) -> None:
+    log = lawful_log(False)
+    log.messages = [[it for it in message if it[0] != 625] for message in log.messages]
+    verdict = read_as("fix", log.tagged(), base_day(), tmp_path / "day.log")
+    said = "which aren't compared: TradingSessionSubID (625) names no auction in their rows"
+    assert verdict.word == "incomplete" and any(note.endswith(said) for note in verdict.notes)
+
+
 def test_a_trade_cancel_takes_out_the_trade_that_it_names(tmp_path: Path) -> None:
     """A trade with too many shares, and its cancel by ExecRefID, beside the right one."""
     log = lawful_log()

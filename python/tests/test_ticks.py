@@ -57,6 +57,13 @@ def test_a_base() -> None:
         ticks.of("1.1")
 
 
+def test_ticks_of_one_grid_are_equal() -> None:
+    assert Ticks("0.05") == Ticks(0.05) == Ticks("0.050") and Ticks("0.05") != Ticks("0.01")
+    assert Ticks("0.25", base=-10) == Ticks("0.25", "-10.0") != Ticks("0.25")
+    assert len({Ticks("0.05"), Ticks("0.050"), Ticks("0.5")}) == 2
+    assert Ticks("0.05") != "0.05"
+
+
 @pytest.mark.parametrize("given", [("0",), ("-1",), ("x",), (None,), ("0.01", "x")])
 def test_no_grid(given: tuple[Any, ...]) -> None:
     with pytest.raises(ValueError, match="^(tick_size|base) "):

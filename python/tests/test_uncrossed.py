@@ -1,5 +1,6 @@
 """What an uncross did to each order, and what a day leaves to the next one, beside the rules."""
 import copy
+import dataclasses
 from collections.abc import Iterator
 
 import numpy
@@ -223,5 +224,8 @@ def test_orders_are_carried_over_in_time_order_with_their_peaks() -> None:
             (1, BID, 60, 190, 60, 1),
         ]
         assert left.commands["has_limit"].tolist() == [1, 0, 1, 1]
+        assert left == auction.carried_over() != dataclasses.replace(left, reference=1)
+        auction.delete(3, 3)
+        assert left != auction.carried_over()
     with Auction(reference=321) as empty:
         assert len(empty.carried_over().commands) == 0 and empty.carried_over().reference == 321

@@ -2,13 +2,16 @@
 """
 import csv
 import json
+import random
 from pathlib import Path
 
 import pytest
 from callauction.__main__ import main
-from damage import places
-from extracts import Rows
+from damage import places, timed_day
+from extracts import Extract, Rows
 from test_desk import LINE, TRADE, UNCROSS, audited, base_day, text_of
+from test_doubts import DAYS, planted
+from test_verdict import judged
 from test_wrong_answers import small_day, verdict_of
 
 Printed = pytest.CaptureFixture[str]
@@ -49,6 +52,49 @@ def test_an_id_that_has_such_a_sign_is_one() -> None:
     assert verdict_of(rows).word == "lawful"
     rows[4]["ask"] = "nilsson"
     assert verdict_of(rows).word == "unlawful"
+
+
+def with_a_damaged_id(seed: int) -> Extract | None:
+    """A day of which one order that trades, and no other row names, has an id that a spreadsheet
+    rounded in the row that enters it; None where there is none.
+    """
+    extract = timed_day(seed)
+    rows = extract.rows
+    changed = {rows[at]["order"] for at in places(rows, "replace", "cancel")}
+    made = {rows[at][side] for at in places(rows, TRADE) for side in ("bid", "ask")} - changed
+    those = [at for at in places(rows, "new") if rows[at]["order"] in made]
+    if not those:
+        return None
+    rows[random.Random(seed).choice(those)]["order"] = "1.5E+02"
+    for row in rows:  # two orders a member, whose ids begin with its letter
+        for name in ("order", "bid", "ask"):
+            if row.get(name, "").startswith("N"):
+                row[name] = f"{chr(65 + int(row[name][1:]) % 9)}{row[name][1:]}"
+    return extract
+
+
+def test_an_entry_whose_id_is_damaged_condemns_no_day() -> None:
+    count = 0
+    for seed in range(DAYS // 2):
+        extract = with_a_damaged_id(seed)
+        if extract is not None:
+            count += 1
+            verdict = judged(extract)
+            assert verdict.word == "incomplete", f"{seed}\n{verdict}"
+            assert any("'1.5E+02': are both one order?" in it.doubt for it in verdict.doubtful)
+    assert count > 5
+
+
+def test_a_fault_beside_a_damaged_id_is_certain() -> None:
+    count = 0
+    for seed in range(DAYS // 2):
+        extract = with_a_damaged_id(seed)
+        fault = None if extract is None else planted(extract, len(extract.rows))
+        if extract is not None and fault is not None:
+            count += 1
+            verdict = judged(extract)
+            assert fault in [it.row for it in verdict.findings], f"{seed}\n{verdict}"
+    assert count > 5
 
 
 # ---- rows that a sequence lacks
@@ -179,3 +225,19 @@ def test_a_later_result_has_its_own_time() -> None:
     rows.append(rows[3] | {"quantity": 299, "time": "18:00:00"})
     verdict = verdict_of(rows, auctions=["opening"])
     assert {(it.row, it.time) for it in verdict.findings} == {(6, "18:00:00")}, str(verdict)
+
+
+@pytest.mark.parametrize("is_right", [False, True])
+def test_of_a_result_that_is_there_twice_around_another_of_its_number_either_may_be_right(
+    is_right: bool,
+) -> None:
+    rows = [{**row, "sequence": str(number)} for number, row in enumerate(small_day())]
+    place = places(rows, UNCROSS)[0]
+    right, wrong = rows[place], {**rows[place], "quantity": "987"}
+    both = [right, wrong] if is_right else [wrong, right]
+    verdict = verdict_of([*rows[:place], *both, both[0], *rows[place + 1 :]])
+    assert verdict.word == "incomplete", str(verdict)
+    assert "says another quantity, and has its sequence" in " ".join(verdict.remarks())
+    other = [{**it, "price": "9.31"} for it in both]
+    verdict = verdict_of([*rows[:place], *other, other[0], *rows[place + 1 :]])
+    assert [it.item for it in verdict.findings][:1] == ["price"], str(verdict)

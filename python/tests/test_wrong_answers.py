@@ -284,7 +284,8 @@ def test_a_bad_row_is_listed_and_the_rest_goes_on() -> None:
     verdict = verdict_of(rows[:3] + bad + rows[3:])
     assert [finding.item for finding in verdict.findings] == ["volume"]
     assert len(verdict.bad_rows) == 25 and verdict.remarks()[20] == "bad rows 25"
-    assert verdict.remarks()[0] == "row 3: side 'long' is none of bid, buy, ask, sell"
+    said = "row 3: side 'long' is none of bid, buy, ask, sell (--values side:long=OURS says what"
+    assert verdict.remarks()[0] == f"{said} it means)"
     clean = verdict_of(rows[:3] + bad[:1] + without(rows[3:], "none"), reference="10.00")
     assert clean.word == "unlawful"
     rows[3]["quantity"] = 300
@@ -348,6 +349,10 @@ GERMAN_WORDS = [
     "--values", "event:NEU=new,AUKTION=uncross,HANDEL=trade", "--values", "side:K=bid,V=ask",
 ]
 COMMAS = GERMAN.replace(",", ".").replace(";", ",")
+ORDERS = (
+    "column order, side (the rows of orders, new, replace and cancel, have it: they must be in the "
+    "file of the trades and results): say which it is, such as columns order=THEIRS; --columns "
+)
 
 
 @pytest.mark.parametrize("words, text, status, line", [
@@ -361,6 +366,13 @@ COMMAS = GERMAN.replace(",", ".").replace(";", ",")
      "unknown column 'Only' (is it restriction?)"),
     (LINE, "", 1, "the file is empty: it needs a header with the names of its columns"),
     (LINE, "event\n", 1, "the table has no column order, side, price, quantity"),
+    (LINE, "event,bid,ask,price,quantity\ntrade,A,B,10,5\n", 1, f"the table has no {ORDERS}"),
+    (LINE, "event,order,side,bid,ask,price,quantity\ntrade,,,A,B,10,5\n", 1,
+     f"the table has no {ORDERS}"),
+    (LINE, "event,order,side,bid,ask,price,quantity\ntrade,NULL,-,A,B,10,5\nuncross,,,,,10,5\n", 1,
+     f"the table has no {ORDERS}"),
+    (LINE, "event,order,side,bid,ask,price,quantity\nnew,A,,,,10,5\ntrade,,,A,B,10,5\n", 1,
+     f"the table has no {ORDERS.replace('order, side', 'side').replace('order=', 'side=')}"),
     ([*LINE, "--where", "x"], "event,order,side,price,quantity\n", 2, "where 'x' is no condition"),
     ([*LINE, "--where", "event = new"], "event,order,side,price,quantity\n", 2, "is no condition"),
     ([*LINE, "--where", "event == a and side == b"], "event,order,side,price,quantity\n", 2,

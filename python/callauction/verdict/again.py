@@ -12,8 +12,8 @@ from callauction.verdict.cells import Codes, Ints, Mask, numbered, paired_codes
 from callauction.verdict.columns import is_id, is_trade_id
 from callauction.verdict.judged import Judgement
 from callauction.verdict.rows import (
-    BAD, CANCEL, FILL, NEW, OF_ORDERS, OUTSIDE, REPLACE, STOPPED, TAKEN, TRADE, UNCROSS, Doubt,
-    Hole, Rows,
+    BAD, CANCEL, FILL, MISSING, NEW, OF_ORDERS, OUTSIDE, REPLACE, SAID, STOPPED, TAKEN, TRADE,
+    UNCROSS, BadRow, Doubt, Hole, Rows,
 )  # fmt: skip
 from callauction.verdict.worded import Columns
 
@@ -43,10 +43,28 @@ def drop_sent_again(rows: Rows, columns: Columns, sequence: Ints | None, lead: C
     these = numpy.flatnonzero(twice & (sequence >= 0) & (rows.kind != BAD))
     if len(these) < 2:
         return
-    _drop(rows, these[pandas.Series(columns.content(these)).duplicated().to_numpy()])
+    content = pandas.Series(columns.content(these))
+    again = content.duplicated().to_numpy()
+    for place in these[again & _has_others(rows, these, content).to_numpy()].tolist():
+        _unsay(rows, place, these)
+    _drop(rows, these[again])
     left = these[(rows.kind[these] != BAD) & (rows.kind[these] != UNCROSS)]
     for place in left[pandas.Series(marks[left]).duplicated().to_numpy()]:
         _refuse_both(rows, columns, int(left[marks[left] == marks[place]][0]), int(place))
+
+
+def _unsay(rows: Rows, place: int, these: Ints) -> None:
+    """Takes out of the other results of an auction, of these rows, what one that is there twice
+    says otherwise: nothing says which is right.
+    """
+    is_own = (rows.kind[these] == UNCROSS) & (rows.state[these] == rows.state[place])
+    for name in SAID:
+        values = getattr(rows, name)
+        odd = these[is_own & (values[these] != values[place])]
+        values[odd] = MISSING
+        for other in odd.tolist():
+            why = f"row {rows.labels[place]} says another {name}, and has its sequence"
+            rows.bad.append(BadRow(other, rows.labels[other], why, Doubt.ITEM, other))
 
 
 def _refuse_both(rows: Rows, columns: Columns, first: int, second: int) -> None:

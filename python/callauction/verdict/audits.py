@@ -12,6 +12,7 @@ import pandas
 from callauction.course import Watch
 from callauction.prices import argument, tick_size_of
 from callauction.program import Day
+from callauction.verdict import restricted
 from callauction.verdict.early import Early, in_doubt
 from callauction.verdict.events import read_zeros, refuse_limits, rows_of
 from callauction.verdict.findings import (
@@ -99,8 +100,9 @@ def judge_rows(rows: Rows, rules: Rules, watch: Watch = iter) -> Verdict:
     found.notes.update(early.note())
     if found.unlawful:
         refuse_sums(whole, rules.due)
-        if "restriction" not in rows.names.theirs and len(rules.due) > 1:
+        if rows.is_unsaid and len(rules.due) > 1:
             found.notes[UNRESTRICTED] += len(rows.of(NEW))
+            found = restricted.in_doubt(found, Judge(rows, rules))
     found = in_doubt(found, early, functools.partial(_is_lawful, rows, rules))
     return verdict_of(found, rows, rules)
 

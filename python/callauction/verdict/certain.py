@@ -19,6 +19,8 @@ SUMS = "The shares of each side's executed orders add up to the volume."
 LIMIT = "No order is executed beyond its limit."
 STOPS = "An uncross that is interrupted has a price, and executes nothing."
 
+RULES = (ONE_PRICE, PUBLISHED, SUMS, LIMIT, STOPS)
+
 
 def with_certain(
     differences: tuple[Difference, ...], found: list[Difference]
@@ -40,6 +42,7 @@ class Certain:
 
     def __init__(self, rows: Rows, doubts: Doubts, due: int, entered: Ints) -> None:
         self.rows, self.doubts, self.entered = rows, doubts, entered
+        self.busts = doubts.busts
         held = (rows.state[doubts.uncrosses] != STOPPED).sum()
         of_books = (row.place for row in rows.bad if row.is_blank)
         self.is_blank = any(place < 0 or rows.key[place] < 0 for place in of_books)
@@ -65,22 +68,27 @@ class Certain:
         state = self.rows.state
         if not self.has_all or 0 < state[place] != 1 + auction:
             own = own[(state[own] > 0) & (state[own] == state[place])]
-        found = [*self._limits(place, traded[~self.doubts.taken(traded)])]
+        found = [*self._limits(place, traded[~self.busts.taken(traded)])]
         if len(own) == len(these) and len(own):
             found += [*self._volume(place, traded, filled)]
-        own = own[~self.doubts.taken(own)]
-        return [*found, *self.prices(place, own)] if len(own) else found
+        return [*found, *self.prices(place, own)]
 
     def prices(self, place: int, these: Ints) -> Iterator[Difference]:
-        """Trades of one auction at two prices, or at another one than the published."""
+        """Trades of one auction at two prices, or at another one than the published, of which rows
+        that aren't read don't take as many out as needed.
+        """
         rows, published = self.rows, int(self.rows.price[place])
+        these = these[(rows.price[these] >= 0) & (these > self.busts.last)]
+        sure = these[~self.busts.taken(these)]
         at = rows.price[these]
-        prices = numpy.unique(at[at >= 0])
+        is_open = {it: self.busts.may_take(these[at != it]) for it in {*at.tolist(), published}}
+        prices = numpy.unique(rows.price[sure] if len(sure) else at)
+        prices = prices if len(prices) > 1 or published not in prices else numpy.unique(at)
         first = (*(int(these[at == it][0]) for it in prices),)
         text = f"trades at {' and '.join(str(rows.prices[it]) for it in prices[:3])}"
-        if len(prices) > 1:
+        if len(prices) > 1 and not any(is_open[it] for it in prices.tolist()):
             yield Difference("trade", text, "at one price", first, rule=ONE_PRICE)
-        elif len(prices) and published not in (prices[0], MISSING, NO_PRICE):
+        elif len(prices) and published not in (MISSING, NO_PRICE) and not is_open[published]:
             due = f"at the published {rows.prices[published]}"
             yield Difference("trade", text, due, first, rule=PUBLISHED)
 
@@ -98,8 +106,8 @@ class Certain:
         end = self.doubts.lost(place, traded, filled, volume)
         excused = bool(self.doubts.of_missing(None) or rows.dropped or end)
         for those in sides:
-            added, taken = int(rows.quantity[those].sum()), those[self.doubts.taken(those)]
-            least = added - int(rows.quantity[taken].sum())
+            added = int(rows.quantity[those].sum())
+            least = added - self.busts.most(those)
             if least > volume or added < volume and not excused:
                 yield Difference("volume", volume, added, (place,), rule=SUMS)
                 return

@@ -10,6 +10,8 @@ NONE = numpy.iinfo("i8").min
 """The number of a time that isn't there or can't be read."""
 SECOND = 10**9
 DAY = times.DAY_SECONDS * SECOND
+DATED = 2 * DAY
+"""From which nanosecond on a time has a date: below it one without may be the next day's."""
 _AT_ONCE = 1 << 17
 
 

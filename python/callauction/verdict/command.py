@@ -90,6 +90,8 @@ def add_reading(parser: argparse.ArgumentParser) -> None:
     add("--quantity", choices=("open", "total"), help="what replaces have (open)")
     add("--pair", help="the column that joins both rows of a trade, each with order and side")
     add("--sort", action="store_true", default=None, help="sort the rows by time and sequence")
+    none = "no order is for one auction alone, where no column restriction says it"
+    add("--unrestricted", action="store_true", default=None, help=none)
     add("--dates", choices=STROKES, help="what dates as 3/4/2026 are (what all of them may be)")
     add("--ignore", action="append", default=[], metavar="COLUMN,..", help="columns; * for all")
 
@@ -107,6 +109,7 @@ def reading_of(asked: argparse.Namespace) -> Reading:
     }
     plain = (
         "decimal", "thousands", "encoding", "where", "market", "quantity", "sort", "pair", "dates",
+        "unrestricted",
     )  # fmt: skip
     return shapes.joined(shape, said | {name: getattr(asked, name) for name in plain})
 

@@ -7,13 +7,15 @@ import dataclasses
 import datetime
 import fractions
 import functools
+import itertools
 from collections.abc import Iterable
 from decimal import Decimal
 
 import numpy
 
 from callauction.verdict import clocks
-from callauction.verdict.cells import Ints, Mask
+from callauction.verdict.busts import Busts
+from callauction.verdict.cells import Ints
 from callauction.verdict.columns import ExtractError
 from callauction.verdict.comparing import Difference, Fill, Trade, keys_of, members_of
 from callauction.verdict.mixed import is_one_session
@@ -62,16 +64,11 @@ class Doubts:
         self.falls = self._falls()
         self.other_day = self._other_day()
         self.odd = self._odd()
-        bad = [*map(self._with_time, rows.bad), *rows.holes]
-        self.bad = sorted(bad, key=lambda row: row.since)
+        self.bad = sorted([*self._from_first(rows.bad), *rows.holes], key=lambda row: row.since)
         unread = [row.place for row in rows.bad if row.is_order and row.place >= 0]
         self.all_orders = numpy.union1d(orders, numpy.array(unread, "i8"))
         """With those that can't be read."""
-        self.busts = [(row, self._named(row)) for row in rows.bad if row.is_bust]
-        has_busts = bool(len(rows.of(TAKEN)) or self.busts)
-        self.lost_busts = [it for it in rows.holes if has_busts or it.is_trade]
-        self.last_bust = max((it.since for it in rows.holes if has_busts), default=-1)
-        """Above which place a bust may be missing that contradictions go by."""
+        self.busts = Busts(rows)
         self.gap = self._gap(due)
         strays = Strays(rows, self.all_orders, uncrosses)
         self.within, self.homes = strays.within(), strays.auctions(due)
@@ -80,21 +77,24 @@ class Doubts:
         """
         self.unknown = self._unknown()
 
-    def _named(self, row: BadRow) -> set[int]:
-        """The orders that a bad row names."""
-        if row.place < 0:
-            return set()
-        rows, at = self.rows, row.place
-        return {int(rows.key[at]), int(rows.bid[at]), int(rows.ask[at])} - {MISSING, BAD}
-
-    def _with_time(self, row: BadRow) -> BadRow:
-        """A bad row, which may be above the uncross above it that has its time."""
-        above = int(numpy.searchsorted(self.uncrosses, row.place)) - 1
-        if row.place < 0 or above < 0 or not row.is_order:
-            return row
-        end, group = int(self.uncrosses[above]), self.rows.group
-        is_tied = bool((group[end : row.place] == group[row.place]).all())
-        return dataclasses.replace(row, since=min(row.since, end - 1)) if is_tied else row
+    def _from_first(self, bad: list[BadRow]) -> list[BadRow]:
+        """Bad rows, each with its doubt from the first uncross on that it may be above: by its
+        place, its time or its number in a sequence; above all where its time can't be read.
+        """
+        rows, are = self.rows, [row.is_order and row.place >= 0 for row in bad]
+        at = numpy.array([row.place for row in itertools.compress(bad, are)], "i8")
+        first = numpy.full(len(at), len(rows.kind))
+        for end in self.uncrosses[::-1].tolist():
+            is_above = rows.group[at] == rows.group[end]
+            for values, least in ((rows.time, clocks.NONE + 1), (rows.number, 0)):
+                is_above |= (values[at] < values[end]) & (values[at] >= least)
+            first[is_above] = end
+        first[rows.is_odd[at]] = 0
+        since = iter((first - 1).tolist())
+        return [
+            dataclasses.replace(row, since=min(row.since, next(since))) if is_own else row
+            for row, is_own in zip(bad, are)
+        ]
 
     def _falls(self) -> int:
         """How many times of orders are before that of the row above. Raises ExtractError."""
@@ -257,10 +257,10 @@ class Doubts:
         chosen = of_orders[0] if all(of_orders) and of_orders else ""
 
         def doubt_of(it: Difference) -> str:
-            if why:
-                return self._of_naming(it) if _has_lawful_orders(it) else why
-            is_pairing = it.recorded is not None and not _has_lawful_orders(it)
-            return self._of_trade(it, end) or self._of_naming(it) or chosen * is_pairing
+            if why and not has_lawful_orders(it):
+                return why
+            is_pairing = it.recorded is not None and not has_lawful_orders(it)
+            return self._of_naming(it) or self._of_trade(it, end) or chosen * is_pairing
 
         return [
             self.stray(it) if _is_extra(it, strays)
@@ -340,8 +340,9 @@ class Doubts:
     def _of_trade(self, each: Difference, end: str) -> str:
         """Why the difference of a trade or a fill isn't certain."""
         if each.recorded is None or each.excess < 0:
-            return self.of_missing(each.lawful) or end
-        return self.of_extra(each) if each.excess > 0 else ""
+            found = self.of_missing(each.lawful) or end
+            return found or self.busts.why(each) * (each.recorded is not None)
+        return self.busts.why(each)
 
     def lost(self, place: int, traded: Ints, filled: Ints, volume: int) -> str:
         """Why trades or fills of an auction may be missing: a hole is below its uncross and above
@@ -374,26 +375,6 @@ class Doubts:
         own = rows.labels[last]
         near = "" if end.label == own else f", less than a second after row {own}"
         return f"the file ends with row {end.label}{near}, and may be cut there"
-
-    def of_extra(self, each: Difference) -> str:
-        """Why a trade or a fill may be one too many: a row that isn't read, which names one of its
-        orders or none at all, or one that is missing below it, may take it out.
-        """
-        keys, last = {*each.keys}, max(each.places, default=-1)
-        row = next((row for row, named in self.busts if not named or named & keys), None)
-        hole = next((it for it in self.lost_busts if it.since >= last), None)
-        if row is None and hole is not None:
-            return f"a missing row may take it out: {hole}"
-        return "" if row is None else f"a row that isn't read may take it out: {row}"
-
-    def taken(self, these: Ints) -> Mask:
-        """Which of these trades and fills such a row may take out."""
-        if not all(named for _, named in self.busts):
-            return numpy.ones(len(these), bool)
-        named = [*{key for _, own in self.busts for key in own}]
-        keys = (self.rows.bid[these], self.rows.ask[these], self.rows.key[these])
-        found: Mask = numpy.any([numpy.isin(it, named) for it in keys], axis=0)
-        return found | (these <= self.last_bust)
 
     def of_missing(self, lawful: object) -> str:
         """Why a trade or a fill may be missing among the rows alone, and which is that."""
@@ -436,7 +417,7 @@ def _is_extra(each: Difference, strays: set[int]) -> bool:
     return each.lawful is None and each.places != () and {*each.places} <= strays
 
 
-def _has_lawful_orders(each: Difference) -> bool:
+def has_lawful_orders(each: Difference) -> bool:
     """Whether a trade or a fill is lawful but for its price or its members."""
     one, other = each.recorded, each.lawful
     if isinstance(one, Trade) and isinstance(other, Trade):

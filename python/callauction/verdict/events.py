@@ -51,10 +51,11 @@ def rows_of(
     sequence = columns.sequence()
     rows, is_market = _read(columns, table, given, time, _groups(time, sequence, lead), lead)
     rows.spots = order
+    rows.is_unsaid = "restriction" not in table.names and not reading.unrestricted
     kind = rows.kind.copy()
     if reading.sort and "time" in columns.names:
         rows.slack = _slack(columns, kind)
-        later = numpy.flatnonzero((time >= clocks.DAY) & (time < 2 * clocks.DAY))
+        later = numpy.flatnonzero((time >= clocks.DAY) & (time < clocks.DATED))
         if len(later) and sequence is None:
             first = columns.source.labels[later[0]]
             rows.next_day = f"the time of row {first} has no date: is it the next day's?"
@@ -64,6 +65,7 @@ def rows_of(
     _look_at_results(rows, columns)
     if "peak" in columns.names:
         peak = columns.wholes("peak")
+        rows.has_peaks = bool((peak != MISSING).any())
         odd = (peak <= 0) | (peak > rows.quantity) | (rows.price == MARKET)
         rows.notes[PEAKS] += int((odd & (peak != MISSING) & (rows.kind == NEW)).sum())
     unread = numpy.array([it.place for it in rows.bad], "i8")
@@ -171,6 +173,8 @@ def _ordered(
             _refuse_untimed(columns, time)
         order, time = order[again], time[again]
         columns, _ = _timed(table, order, reading)
+    elif "sequence" in table.names and (numpy.diff(time[time != clocks.NONE]) < -LONGEST).any():
+        time = over_midnight(time, columns.sequence(), lead[order])
     return columns, order, time
 
 
@@ -358,11 +362,19 @@ def _unread(rows: Rows, columns: Columns, place: int, name: str, why: str) -> st
         text += " (--decimal , says what parts decimals)"
     if name == "quantity" and re.search(r"\d\D\d{3}$", cell):
         text += " (--thousands says what parts thousands)"
-    return text
+    return text + _meaning(name, cell) * (name == "side")
 
 
 def _none_of(words: Iterable[str]) -> str:
     return f"is none of {', '.join(words)}"
+
+
+def _meaning(name: str, cell: str) -> str:
+    """Which option says what a word of a column means; empty for a cell that is no word."""
+    if not re.fullmatch(r"[^\W\d_]+(?:[ -][^\W\d_]+)*", cell):
+        return ""
+    said = f"{name}:{cell}=OURS"
+    return f" (--values {repr(said) if ' ' in cell else said} says what it means)"
 
 
 _NO_WHOLE = "is no whole number from 0 to 4,294,967,295"
@@ -374,7 +386,9 @@ def _look_at_orders(rows: Rows, columns: Columns, is_market: Mask) -> None:
     kind = rows.kind
     for place in numpy.flatnonzero(kind < 0):
         cell = columns.cells("event").text(int(place))
-        text = f"event {cell!r} {_none_of(EVENTS)}" if cell else "event is missing"
+        text = "event is missing"
+        if cell:
+            text = f"event {cell!r} {_none_of(EVENTS)}{_meaning('event', cell)}"
         rows.bad.append(BadRow(int(place), rows.labels[place], text, Doubt.ANY, int(place)))
     kind[kind < 0] = BAD
     is_new, is_cancel = kind == NEW, kind == CANCEL

@@ -179,15 +179,17 @@ def _of_trade(context: Context, difference: Difference) -> Iterator[str]:
 
 def _of_open(context: Context, recorded: Trade | Fill) -> Iterator[str]:
     """Which order of a trade or a fill has fewer shares open than were recorded of it."""
+    hint = "" if context.rows.has_peaks else " (are hidden shares missing?)"
     for key in keys_of(recorded):
         order = context.open_order(context.at[key]) if key in context.at else None
         if order is None:
             continue
         if order.quantity < recorded.quantity:
-            yield f"{order.order} has {order.quantity:,} open, and no {recorded.quantity:,}."
+            yield f"{order.order} has {order.quantity:,} open, and no {recorded.quantity:,}{hint}."
         elif order.quantity < context.recorded.get(key, 0):
             total = context.recorded[key]
-            yield f"{order.order} has {order.quantity:,} open, and {total:,} are recorded of it."
+            has = f"{order.order} has {order.quantity:,} open"
+            yield f"{has}, and {total:,} are recorded of it{hint}."
 
 
 def _of_closed(context: Context, key: int) -> Iterator[str]:

@@ -51,6 +51,7 @@ _BEGIN = re.compile(r"8=FIXT?\.\d\.\d(?:SP\d)?(?P<sign>\D{1,6}?)9=")
 _ENDING = 24
 """In how many letters at the end of a message its last field is."""
 _TRAILER = re.compile(r"(?:^|\D)10=\d{3}\D{0,6}$")
+_CUT = "the file ends within the line, which is cut"
 _REPORT, _DATA = ("8", "ExecutionReport"), ("W", "X")
 _PRICES, _VOLUME, _SURPLUS = ("Q", "4", "5"), "B", "A"
 """The types of market data's entries: an auction's price, its volume and its imbalance."""
@@ -95,24 +96,27 @@ def table_of(text: str, separator: str) -> MessageLog:
 
 def _tagged(text: str, log: "_Log") -> Iterator[tuple[int, Pairs]]:
     """The messages of a log of tag=value with their lines, or their numbers where all are in one
-    line. One without its last field is cut, where the first or the last one has it.
+    line. One without its last field is cut, where the first or the last one has it, and else where
+    the file ends within its line.
     """
     begins = [found.start() for found in itertools.islice(_BEGIN.finditer(text), 2)]
     ends = text[begins[0] : [*begins, len(text)][1]].partition("\n")[0], text
     has_trailers = any(_TRAILER.search(end.rstrip()[-_ENDING:]) for end in ends)
-    is_one_line = text.count("\n") <= 1
+    is_one_line, last = text.count("\n") <= 1, text.count("\n") + 1
     number = 0
     for place, line in enumerate(text.split("\n"), 1):
-        begins = [found.start() for found in _BEGIN.finditer(line)]
+        begins, is_open = [found.start() for found in _BEGIN.finditer(line)], place == last > 1
         if not begins and line.strip():
-            log.lost(place, line)
+            log.lost(place, line, is_open)
         for begin, end in zip(begins, [*begins[1:], len(line)]):
             number += 1
             label, message = number if is_one_line else place, line[begin:end].rstrip()
             if has_trailers and not _TRAILER.search(message[-_ENDING:]):
                 log.short.append((label, "the message is cut: it has no CheckSum (10)"))
-                continue
-            yield label, _pairs(message)
+            elif is_open and end == len(line) and not has_trailers:
+                log.short.append((label, _CUT))
+            else:
+                yield label, _pairs(message)
 
 
 def _pairs(message: str) -> Pairs:
@@ -135,12 +139,15 @@ def _fields(text: str, separator: str, log: "_Log") -> Iterator[tuple[int, Pairs
             "the file has neither FIX messages (8=FIX) nor a header with ExecType or 150 "
             "(separator says what parts its fields)"
         )
+    last = 0 if text.endswith("\n") else text.count("\n") + 1
     for fields in reader:
         if fields == heads:  # of another page
             continue
         if any(fields) and len(fields) != len(header):
             why = f"has {len(fields)} fields, the header {len(header)}"
-            log.short.append((reader.line_num, why))
+            log.short.append((reader.line_num, _CUT if reader.line_num == last else why))
+        elif any(fields) and reader.line_num == last:
+            log.short.append((last, _CUT))
         elif any(fields):
             given = [("MsgType", _REPORT[0])] * ("MsgType" not in header)
             yield reader.line_num, [*given, *zip(header, map(str.strip, fields))]
@@ -193,9 +200,13 @@ class _Log:
         """The instruments and sessions of auctions with trades or a price."""
         self.last = 0
 
-    def lost(self, line: int, text: str) -> None:
-        """Notes a line without a message; one that has a field is a message that was cut."""
-        if re.search(r"(?:^|\D)(?:35|150|37)=\S", text):
+    def lost(self, line: int, text: str, is_open: bool) -> None:
+        """Notes a line without a message; one that has a field is a message that was cut, and one
+        within which the file ends may be.
+        """
+        if is_open:
+            self.short.append((line, _CUT))
+        elif re.search(r"(?:^|\D)(?:35|150|37)=\S", text):
             self.short.append((line, "the message has no begin (8=FIX)"))
         else:
             self.notes[NO_MESSAGE] += 1

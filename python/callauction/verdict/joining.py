@@ -54,11 +54,10 @@ def _join(rows: Rows, bids: Ints, asks: Ints) -> None:
 
 
 def _halves(rows: Rows, these: Ints, codes: Codes) -> Ints:
-    """Which of these trades are one side alone of what a column joins, where some are both."""
-    both = _matched(rows, these, codes)
+    """Which of these trades are one side alone of what a column joins."""
     is_known = (codes[these] >= 0) & (rows.side[these] > 0)
-    found: Ints = these[is_known & ~numpy.isin(codes[these], both)]
-    return found if len(both) else found[:0]
+    found: Ints = these[is_known & ~numpy.isin(codes[these], _matched(rows, these, codes))]
+    return found
 
 
 def _matched(rows: Rows, these: Ints, codes: Codes) -> Codes:

@@ -21,6 +21,7 @@ from callauction.verdict.comparing import (
 )  # fmt: skip
 from callauction.verdict.doubts import Doubts, Reason
 from callauction.verdict.early import Early
+from callauction.verdict.fix import TAGS
 from callauction.verdict.judged import NONE, Judged, Judgement, Moment, Path, Rules, State
 from callauction.verdict.orders import notes_of
 from callauction.verdict.phases import (
@@ -35,10 +36,9 @@ from callauction.words import AUCTIONS
 
 FALLING = "times that come before that of the row above (sort reads rows by time)"
 LATE_CANCELS = "cancels after the last auction"
-NO_UNCROSS = (
-    "trades and fills without any row uncross, which aren't compared (--shape FILE judges them, "
-    "with the line results = \"trades\" in FILE)"
-)
+NO_UNCROSS = "trades and fills without any row uncross, which aren't compared"
+FROM_TRADES = " (--shape FILE judges them, with the line results = \"trades\" in FILE)"
+UNSAID = ": no column says which auction they are of (--columns auction=THEIRS)"
 LATE_ORDERS = "orders and replaces after the last auction"
 BEYOND = "auctions beyond what this program holds"
 NO_STOPS = "no row can say that an uncross was interrupted before, as it may have been"
@@ -671,7 +671,7 @@ class Judge:
 
     def _judgement(self, path: Path) -> Judgement:
         """The judgement of the best path."""
-        pairs = zip(path.judged, self._reconciled(path.judged))
+        pairs = zip(path.judged, self.doubts.busts.limited(self._reconciled(path.judged)))
         judged = tuple(
             dataclasses.replace(
                 it, differences=tuple(map(self.doubts.filed, those)),
@@ -689,7 +689,8 @@ class Judge:
             notes[LATE_CANCELS] += int(late.sum())
             notes[LATE_ORDERS] += int((~late).sum())
         if not judged:
-            notes[NO_UNCROSS] += len(self.rows.of(TRADE, FILL))
+            why = _without_names(self.rows) if self.rows.makes_results else FROM_TRADES
+            notes[f"{NO_UNCROSS}{why}"] += len(self.rows.of(TRADE, FILL))
         for each in judged:
             notes[f"{BEYOND} ({each.beyond})"] += bool(each.beyond)
         notes[NO_SEARCH] += len(self.left_out)
@@ -703,13 +704,19 @@ class Judge:
     def _at_two_prices(self, judged: Sequence[Judged]) -> Iterator[Judged]:
         """Auctions without a row uncross whose trades, which name them, are at two prices."""
         made, state = self.rows.of(TRADE, FILL), self.rows.state
-        made = made[~self.doubts.taken(made)]
         for auction in sorted({*self.due} - {each.auction for each in judged}):
             own = made[state[made] == 1 + auction]
             found = [*self.contradictions.prices(int(own[0]), own)] if len(own) else []
             found = [each for each in found if each.rule == ONE_PRICE]
             if found:
                 yield Judged(int(own[0]), auction, tuple(found))
+
+
+def _without_names(rows: Rows) -> str:
+    """Why trades give no result: which column names no auction."""
+    theirs = rows.names.theirs.get("auction", "")
+    tag = f" ({TAGS[theirs]})" if theirs in TAGS else ""
+    return f": {theirs}{tag} names no auction in their rows" if theirs else UNSAID
 
 
 def marked(each: Difference, rows: Rows) -> Mark:

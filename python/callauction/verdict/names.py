@@ -5,7 +5,8 @@ or as replaces gave them in a table without a column of new ids.
 import dataclasses
 import functools
 import re
-from collections.abc import Iterable, Iterator
+from collections import Counter
+from collections.abc import Iterable, Iterator, Mapping
 
 import numpy
 import pandas
@@ -301,16 +302,47 @@ def renamed(rows: Rows, judgement: Judgement) -> tuple[Rows, str] | None:
     names, label = rows.names, rows.labels[retired[order]]
     why = (f"no row enters {names.order(key)!r}: may the replace of row {label} have given that id "
            f"to {names.order(order)}? (a column new_order says it)")  # fmt: skip
-    ids = numpy.arange(len(names.ids) + 1, dtype="i4")
+    return found_again(_with_keys(rows, meant), lost), why
+
+
+def misentered(rows: Rows, judgement: Judgement) -> tuple[Rows, str] | None:
+    """The rows with the keys of orders whose ids look like no other entry's, as 1.5E+02 does beside
+    N3, for ids like entries' of trades, which no row enters, and why; None where such trades don't
+    have the lawful shares of such orders.
+    """
+    entered = numpy.unique(rows.key[rows.of(NEW)])
+    named = numpy.concatenate([it[rows.of(TRADE, FILL)] for it in (rows.bid, rows.ask, rows.key)])
+    unknown = numpy.unique(named[(named >= 0) & ~numpy.isin(named, entered)])
+    if not 0 < len(unknown) <= MOST_TEXTS - len(entered):
+        return None
+    order = rows.names.order
+    looks = Counter(_look(order(key)) for key in entered.tolist())
+    like = {key for key in unknown.tolist() if looks[_look(order(key))] > 1}
+    meant = dict(it for judged in judgement.uncrosses for it in _pairs(rows, judged, like))
+    if not meant or any(looks[_look(order(key))] > 1 for key in meant.values()):
+        return None
+    one, other = next(iter(meant.items()))
+    why = f"no row enters {order(one)!r}, and no trade is of {order(other)!r}: are both one order?"
+    return _with_keys(rows, meant), why
+
+
+def _with_keys(rows: Rows, meant: Mapping[int, int]) -> Rows:
+    """The rows with other keys for some ids."""
+    ids = numpy.arange(len(rows.names.ids) + 1, dtype="i4")
     ids[[*meant]] = [*meant.values()]
     changed = {name: getattr(rows, name) for name in ("key", "bid", "ask")}
     changed = {name: numpy.where(it >= 0, ids[it], it) for name, it in changed.items()}
-    return found_again(dataclasses.replace(rows, **changed), lost), why
+    return dataclasses.replace(rows, **changed)
 
 
 def _form(name: str) -> str:
     """An id with a 0 for each of its numbers."""
     return re.sub(r"\d+", "0", name)
+
+
+def _look(name: str) -> str:
+    """An id with a 0 for each of its numbers, and an A for each of its words."""
+    return re.sub(r"[^\W\d_]+", "A", _form(name))
 
 
 def _retired(rows: Rows) -> dict[int, int]:

@@ -20,8 +20,8 @@ from callauction.verdict.cells import (
     Codes, Ints, Mask, Short, Source, by_kind, frame_source, joined, text_source,
 )  # fmt: skip
 from callauction.verdict.columns import (
-    EVENT_COLUMNS, EVENTS, KINDS, NEEDED, ColumnError, ExtractError, hint_of, joins_of, kinds_of,
-    plain, refuse_unknown, renamed,
+    EMPTY, EVENT_COLUMNS, EVENTS, KINDS, NEEDED, ColumnError, ExtractError, hint_of, joins_of,
+    kinds_of, plain, refuse_unknown, renamed,
 )  # fmt: skip
 
 GZIP = b"\x1f\x8b"
@@ -29,6 +29,12 @@ ROW = "row"
 """The name of the index: a row of a file is named by its line, one of a frame by its label."""
 NEW, UNCROSS = EVENTS.index("new"), EVENTS.index("uncross")
 """The event that enters an order, and the first one that isn't of an order."""
+_OF_ORDERS, _LONGEST_WORD = {"order", "side"}, max(map(len, EMPTY))
+"""Needed columns that results may lack, and how long a word for an empty cell is."""
+_IN_ONE_FILE = (
+    "the rows of orders, new, replace and cancel, have it: they must be in the file of the trades "
+    "and results"
+)
 NO_ROWS = "files with a header and no rows"
 LEFT_OUT = "trades, fills and results that don't meet --where"
 NO_TOTALS = "totals, which aren't read, in row {}"
@@ -106,6 +112,8 @@ class Reading:
     """The column with one text in both rows of a trade, each of an order and its side."""
     results: Literal["rows", "trades"] = "rows"
     """Whether auctions without a row `uncross`, which trades name, have their trades' price."""
+    unrestricted: bool = False
+    """Whether no order is for one auction alone, where no column `restriction` says it."""
     format: Literal["csv", "fix"] = "csv"
     """What a file is: CSV, or a log of FIX messages (verdict.fix)."""
 
@@ -201,6 +209,7 @@ def read_table(
     met = _meeting(found, conditions, reading)
     is_early = _early(found, conditions, names, reading, met)
     found, names = _with_kinds(found, names, reading)
+    _refuse_empty(found, names, reading, table.short)
     if table.totals is not None and len(found) and table.totals == found.labels[-1]:
         if _kinds(found.take(numpy.array([len(found) - 1])), names["event"], reading)[0] < 0:
             table, keep = _without_totals(table, table.totals), numpy.arange(len(found) - 1)
@@ -273,13 +282,38 @@ def _names(source: Source, reading: Reading, used: set[str], parts: set[str]) ->
             raise ColumnError(f"two columns of the table are {ours}: map one, or ignore the other")
         if ours in EVENT_COLUMNS:
             found[ours] = theirs
-    missing = [name for name in NEEDED if name not in found and name not in kinds]
-    if missing:
-        raise ColumnError(
-            f"the table has no column {', '.join(missing)}: say which it is, such as "
-            f"columns {missing[0]}=THEIRS"
-        )
+    _refuse_missing([name for name in NEEDED if name not in found and name not in kinds])
     return found
+
+
+def _refuse_missing(names: list[str]) -> None:
+    """Raises ColumnError for needed columns that the table hasn't, if there are any."""
+    if names:
+        more = "" if _OF_ORDERS.isdisjoint(names) else f" ({_IN_ONE_FILE})"
+        raise ColumnError(
+            f"the table has no column {', '.join(names)}{more}: say which it is, such as "
+            f"columns {names[0]}=THEIRS"
+        )
+
+
+def _refuse_empty(
+    source: Source, names: Mapping[str, str], reading: Reading, short: Short
+) -> None:
+    """Raises ColumnError for needed columns that no row of a table with trades or fills has, and
+    ExtractError where rows of orders may have them, which have fewer fields.
+    """
+    cells = {name: source.cells(names[name]) for name in NEEDED}
+    those = (name for name, it in cells.items() if it.length.max(initial=0) <= _LONGEST_WORD)
+    empty = [name for name in those if {it.casefold() for it in cells[name].texts()[1]} <= {*EMPTY}]
+    if empty and (_kinds(source, names["event"], reading) > UNCROSS).any():
+        if short:
+            row, why = short[0]
+            raise ExtractError(
+                f"no whole row has {', '.join(empty)}, and {len(short):,} rows have another number "
+                f"of fields than the header, such as row {row}, which {why}: write a field for "
+                "each column, empty ones too"
+            )
+        _refuse_missing(empty)
 
 
 def _with_kinds(
@@ -350,7 +384,7 @@ def file_of(source: str | os.PathLike[str] | BinaryIO, reading: Reading) -> Tabl
         found, short = text_source(content, reading.separator)
     except csv.Error as fault:
         raise ExtractError(f"the file is no CSV file: {fault}") from None
-    _look_at_header(found.names, reading.separator)
+    _look_at_lines(content, reading.separator, found, short)
     notes = {} if len(found) or short else {NO_ROWS: 1}
     end = _end(found, not content.endswith((b"\n", b"\r")))
     last = max([*found.labels[-1:].tolist(), *(line for line, _ in short[-1:])], default=None)
@@ -359,6 +393,22 @@ def file_of(source: str | os.PathLike[str] | BinaryIO, reading: Reading) -> Tabl
     if totals is None or (len(found) and totals == found.labels[-1]):
         return table
     return dataclasses.replace(_without_totals(table, totals), short=short[:-1])
+
+
+def _look_at_lines(content: bytes, separator: str, found: Source, short: Short) -> None:
+    """Raises ExtractError for a header that is none, and where each row ends in one separator more
+    than it.
+    """
+    _look_at_header(found.names, separator)
+    many = len(found.names)
+    is_more = short and {why for _, why in short} == {f"has {many + 1} fields, the header {many}"}
+    if is_more and not len(found):
+        lines = (it.rstrip(b" ") for it in content.splitlines()[1:])
+        if all(line.endswith(separator.encode()) for line in lines if line):
+            raise ExtractError(
+                f"each row ends in a {separator!r} more than the header: write one at the end of "
+                "the header too"
+            )
 
 
 def _has_totals(content: bytes, separator: str, found: Source) -> bool:
@@ -397,7 +447,7 @@ def _plain(content: bytes, encoding: str) -> bytes:
         if encoding.casefold().replace("_", "-") not in ("utf-8", "utf8"):
             plain = plain.decode(encoding).encode()
         elif not plain.isascii():
-            plain.decode()
+            plain = _whole_letters(plain)
         plain = plain if b"\n" in plain else plain.replace(b"\r", b"\n")
         return plain.removeprefix(_MARK).replace(b"\n" + _MARK, b"\n")
     except LookupError:
@@ -406,6 +456,17 @@ def _plain(content: bytes, encoding: str) -> bytes:
         line = plain[: fault.start].count(b"\n") + 1
         hint = "utf-16" if plain[:2] in (b"\xff\xfe", b"\xfe\xff") else "latin-1"
         raise ExtractError(f"line {line} is no {encoding}: say encoding {hint}") from None
+
+
+def _whole_letters(content: bytes) -> bytes:
+    """Bytes of UTF-8 without a letter within which they end. Raises UnicodeDecodeError."""
+    try:
+        content.decode()
+    except UnicodeDecodeError as fault:
+        if fault.reason != "unexpected end of data":
+            raise
+        return content[: fault.start]
+    return content
 
 
 def _look_at_bytes(content: bytes) -> None:

@@ -12,13 +12,17 @@ from callauction.verdict import clocks
 from callauction.verdict.again import amended, copies, second_trades
 from callauction.verdict.cells import Codes, Ints
 from callauction.verdict.comparing import Difference, Fill, Trade, doubted
+from callauction.verdict.doubts import MOST_FALLS
 from callauction.verdict.early import Early
+from callauction.verdict.hidden import lacking, with_rests
 from callauction.verdict.judged import Judged, Judgement, Rules
 from callauction.verdict.judging import SUMS, Judge, Mark, marked
 from callauction.verdict.mixed import (
     corrected, doubled, has_more, namings, refuse_markets, refuse_parts, with_names,
 )  # fmt: skip
-from callauction.verdict.names import OTHER_IDS, have_other_ids, renamed, respelled
+from callauction.verdict.names import (
+    OTHER_IDS, have_other_ids, misentered, renamed, respelled,
+)  # fmt: skip
 from callauction.verdict.phases import recorded_sums
 from callauction.verdict.reading import End
 from callauction.verdict.rows import (
@@ -48,26 +52,42 @@ def judged_day(rows: Rows, rules: Rules, whole: Rows, watch: Watch = iter) -> Ju
     """
     judge = Judge(rows, rules)
     found = judge.judge(watch)
-    falls = _falls(rows)
-    if falls and not any(each.differences for each in found.uncrosses):
-        other = Judge(_by_time(rows), rules).judge()
-        if other.unlawful:
-            shown = {place: doubted(it, falls) for place, it in _by_place(other).items()}
-            return dataclasses.replace(_with_differences(found, shown), doubt=falls)
+    falls, (numbers, is_rare) = _falls(rows), _numbers_fall(rows)
+    why = falls or numbers * is_rare
+    if why and not any(each.differences for each in found.uncrosses):
+        found = _beside(found, rows, _by_time(rows) if falls else _by_number(rows), rules, why)
     if not found.unlawful:
         return found
     refuse_parts(rows, rules.due)
     refuse_markets(whole, rules.due)
     ways = [*_changes(found, rows, rules), _orders_of_ties(judge), *_over_uncrosses(judge, found)]
     falls, across = falls or _falls(rows, True), _across(rows)
-    moves = ((_by_time, falls), (lambda it: it.ordered(all_times(it)), across))
-    ways.append([_rows(move, why) for move, why in (*moves, _by_table(rows, found)) if why])
+    moves = ((_by_time, falls), (lambda it: it.ordered(all_times(it)), across),
+             (_by_number, numbers), _by_table(rows, found))  # fmt: skip
+    ways.append([_rows(move, why) for move, why in moves if why])
     combined = itertools.product(*([None, *those] for those in ways if those))
     readings = ([each for each in it if each is not None] for it in combined)
     first = found
     for those in sorted(filter(None, readings), key=len)[:MOST_READINGS]:
         found = _without(found, first, (rows, rules), those)
     return standing(found, (rows, rules), [each for those in ways for each in those])
+
+
+def _beside(found: Judgement, rows: Rows, other: Rows, rules: Rules, why: str) -> Judgement:
+    """The judgement of a lawful day, in doubt where rows in another order aren't lawful."""
+    judged = Judge(other, rules).judge()
+    if not judged.unlawful:
+        return found
+    order = numpy.argsort(rows.spots)
+    place = order[numpy.searchsorted(rows.spots[order], other.spots)]
+    shown = {
+        int(place[at]): [
+            dataclasses.replace(it, places=(*place[[*it.places]].tolist(),))
+            for it in doubted(own, why)
+        ]
+        for at, own in _by_place(judged).items()
+    }
+    return dataclasses.replace(_with_differences(found, shown), doubt=why)
 
 
 def _without(found: Judgement, first: Judgement, day: Day, those: list[Change]) -> Judgement:
@@ -142,7 +162,7 @@ def _changes(found: Judgement, rows: Rows, rules: Rules) -> Iterator[list[Change
     if rows.end is not None and rows.end.is_cut:
         why = f"the file ends within a line, and row {rows.end.label} may be cut"
         yield [_rows(functools.partial(_cut_off, rows.end), why)]
-    spelled = respelled(rows) or renamed(rows, found)
+    spelled = respelled(rows) or renamed(rows, found) or misentered(rows, found)
     if spelled is not None:
         yield [_rows(functools.partial(_respelled, spelled[0]), spelled[1])]
     elif have_other_ids(rows, found):
@@ -156,6 +176,11 @@ def _changes(found: Judgement, rows: Rows, rules: Rules) -> Iterator[list[Change
         yield [(lambda day: (day[0], dataclasses.replace(day[1], range=span)), PERCENT)]
     if rules.may_have_totals and _replaces_executed(found, rows):
         yield [(lambda day: (day[0], dataclasses.replace(day[1], has_totals=True)), TOTALS)]
+    shown = lacking(found, rows)
+    if shown is not None:
+        more, why = shown[0].quantity - rows.quantity, shown[1]
+        whole = _rows(lambda it: _with({"quantity": it.quantity + more}, it), why)
+        yield [whole, (lambda day: with_rests(whole[0](day)), why)]
     lots = ((dict(quantity=it.quantity, surplus=it.surplus), why)
             for it, why in in_shares(rows, lot_of(found)))  # fmt: skip
     yield [_rows(functools.partial(_with, those), why) for those, why in lots]
@@ -329,12 +354,32 @@ def _by_time(rows: Rows) -> Rows:
     return rows.moved(moved)
 
 
+def _numbers_fall(rows: Rows) -> tuple[str, bool]:
+    """That rows of a day without times are in another order than their sequence, and where first;
+    empty where none is. And whether few are.
+    """
+    known = numpy.flatnonzero((rows.kind != BAD) & (rows.number >= 0))
+    falls = numpy.flatnonzero(numpy.diff(rows.number[known]) < 0)
+    if not len(falls) or (rows.time != clocks.NONE).any() or rows.is_odd.any():
+        return "", False
+    one, other = rows.labels[known[falls[0] : falls[0] + 2]]
+    why = f"rows {one} and {other} are in another order than their sequence: say --sort"
+    return why, len(falls) <= max(MOST_FALLS, len(known) // 10)
+
+
+def _by_number(rows: Rows) -> Rows:
+    """The rows in the order of their sequence; one without a number stays below that above it."""
+    known = numpy.where(rows.number >= 0, numpy.arange(len(rows.number)), 0)
+    at = rows.number[numpy.maximum.accumulate(known)]
+    return rows.ordered(numpy.argsort(at, kind="stable"))
+
+
 def all_times(rows: Rows, step: int = 1) -> Ints:
     """The places of all rows by time, of the day where only some have a date, and where times of
     one step in nanoseconds are one; one without a time stays below the one above it.
     """
     is_timed = rows.time != clocks.NONE
-    is_dated = rows.time[is_timed] >= clocks.DAY
+    is_dated = rows.time[is_timed] >= clocks.DATED
     at = rows.time
     if is_dated.any() and not is_dated.all():
         at = numpy.where(is_timed, at % clocks.DAY, clocks.NONE)

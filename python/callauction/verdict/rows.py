@@ -245,6 +245,10 @@ class Rows:
     notes: Counter[str] = dataclasses.field(default_factory=Counter)
     dropped: frozenset[str] = frozenset()
     """The ids of orders in trades and fills that don't meet the conditions."""
+    is_unsaid: bool = False
+    """Whether nothing says which orders are for one auction alone."""
+    has_peaks: bool = False
+    """Whether a column says which orders have hidden shares."""
     makes_results: bool = False
     """Whether auctions that trades name alone have their price."""
     end: End | None = None

@@ -61,7 +61,7 @@ def _fault(key: str, value: Any) -> str:
         return "" if is_good else "a table of texts"
     if key in _LISTS:
         return "" if isinstance(value, list) and _are_texts(value) else "a list of texts"
-    if key == "sort":
+    if key in ("sort", "unrestricted"):
         return "" if isinstance(value, bool) else "true or false"
     if key in _CHOICES:
         return "" if value in _CHOICES[key] else " or ".join(_CHOICES[key])

@@ -1,0 +1,96 @@
+"""Logs of FIX messages that a rotation cut within their last line: that line counts as one that
+isn't read, and condemns no day.
+"""
+import random
+import re
+from collections.abc import Iterator
+from pathlib import Path
+
+import pytest
+from callauction.verdict import Verdict, audit_events, shapes
+from damage import timed_day
+from extracts import Extract
+from logs import FixLog
+from test_doubts import DAYS, SEEDS
+
+HEADS = {
+    35: "MsgType", 34: "MsgSeqNum", 37: "OrderID", 150: "ExecType", 54: "Side", 48: "SecurityID",
+    60: "TransactTime", 40: "OrdType", 44: "Price", 38: "OrderQty", 151: "LeavesQty", 31: "LastPx",
+    59: "TimeInForce", 32: "LastQty", 880: "TrdMatchID", 625: "TradingSessionSubID",
+    17: "ExecID", 448: "PartyID",
+}  # fmt: skip
+
+
+def read_log(content: bytes, day: Extract, folder: Path) -> Verdict:
+    path = folder / "day.log"
+    path.write_bytes(content)
+    return audit_events(path, reference=day.reference, tick_size="0.01", range=day.range,
+                        reading=shapes.reading_of("fix"))  # fmt: skip
+
+
+def text_of(form: str, day: Extract, seed: int) -> str:
+    """The log of a day: with the last field of messages, without it, or as CSV."""
+    log = FixLog(day, seed, seed % 2 == 0)
+    tagged = log.tagged("|")
+    return {
+        "tagged": tagged, "timed": re.sub("^8=", "09:00:00.1 8=", tagged, flags=re.MULTILINE),
+        "bare": tagged.replace("|10=123|", "|"), "csv": log.columns(HEADS),
+    }[form]  # fmt: skip
+
+
+def cuts(seed: int, text: str) -> Iterator[tuple[str, str]]:
+    """The whole lines of a log that was cut, and what is left of the line that was cut."""
+    chance, lines = random.Random(seed), text.splitlines(keepends=True)
+    for place in chance.sample(range(3, len(lines)), min(2, len(lines) - 3)):
+        most = len(lines[place]) - 2
+        for end in {chance.choice([1, 3]), most - chance.randint(0, 8), chance.randint(1, most)}:
+            yield "".join(lines[:place]), lines[place][: max(1, end)]
+
+
+@pytest.mark.parametrize("form", ["tagged", "timed", "bare", "csv"])
+def test_a_last_line_that_is_cut_is_a_row_that_is_not_read(form: str, tmp_path: Path) -> None:
+    for seed in SEEDS[:DAYS // 40]:
+        day = timed_day(seed, 6)
+        for whole, cut in cuts(seed, text_of(form, day, seed)):
+            if form in ("tagged", "timed") and re.search(r"\|10=\d{3}$", cut):
+                continue
+            verdict = read_log((whole + cut).encode(), day, tmp_path)
+            assert verdict.word == "incomplete", f"{cut}\n{verdict}"
+            line = whole.count("\n") + 1
+            lost = [row for row in verdict.bad_rows if row.label == line]
+            assert len(lost) == 1 and "cut" in lost[0].why, f"{cut}\n{verdict.remarks()}"
+
+
+def test_a_fault_above_the_cut_line_is_found(tmp_path: Path) -> None:
+    """Another volume of an auction, whose trades are all there."""
+    count = 0
+    for seed in SEEDS:
+        day = timed_day(seed, 6)
+        log = FixLog(day, seed)
+        results = [it for it in log.messages if (268, "3") in it]
+        if any(outcome.is_interrupted for outcome in day.lawful) or not results:
+            continue
+        place = log.messages.index(results[0])
+        log.messages[place] = [(tag, "9.31" if tag == 270 else text) for tag, text in results[0]]
+        whole = log.tagged("|").splitlines(keepends=True)
+        if count < 6 and len(whole) > place + 9:
+            count += 1
+            verdict = read_log("".join(whole)[:-30].encode(), day, tmp_path)
+            assert verdict.word == "unlawful" and "9.31" in str(verdict), f"{seed}\n{verdict}"
+    assert count > 4
+
+
+def test_a_file_that_is_cut_within_a_letter_is_read(tmp_path: Path) -> None:
+    day = timed_day(3, 6)
+    text = FixLog(day, 3).tagged("|")
+    end = text.index("|10=", text.index("150=F"))
+    content = f"{text[:end]}|58=für".encode()
+    verdict = read_log(content[:-2], day, tmp_path)
+    assert verdict.word == "incomplete" and "cut" in verdict.bad_rows[-1].why
+    path = tmp_path / "day.csv"
+    extract = "event,order,side,price,quantity,member\nnew,A,bid,10,5,Müller"
+    path.write_bytes(extract.encode()[:-5])
+    assert audit_events(path, reference="10").word == "incomplete"
+    path.write_bytes(extract.encode("latin1"))
+    with pytest.raises(ValueError, match="line 2 is no utf-8: say encoding latin-1"):
+        audit_events(path, reference="10")

@@ -1,0 +1,139 @@
+"""Trades that are wrong beside rows that may take them out or correct them and can't be read: each
+such row explains one trade, and no more.
+"""
+import random
+
+import pytest
+from callauction.verdict import Verdict
+from damage import UNREADABLE, places, timed_day
+from extracts import Extract, Rows
+from test_doubts import DAYS, SEEDS
+from test_verdict import judged
+
+CELLS = ("price", "quantity", "bid", "bid_member")
+"""What a trade may have wrong."""
+
+
+def wrong(chance: random.Random, row: dict[str, str], orders: list[str]) -> dict[str, str]:
+    """A trade with another cell."""
+    cell = chance.choice(CELLS)
+    if cell == "price":
+        return {**row, cell: f"{float(row['price']) + chance.choice([-0.02, 0.01, 0.03]):.2f}"}
+    if cell == "quantity":
+        return {**row, cell: str(int(row["quantity"]) + chance.choice([1, 50, 900]))}
+    if cell == "bid":
+        return {**row, cell: chance.choice([it for it in orders if it != row["bid"]] or ["Z"])}
+    return {**row, cell: f"{row['bid_member']}9"}
+
+
+def some_wrong(seed: int, many: int) -> tuple[Extract, Rows] | None:
+    """A day of which so many trades of one auction are wrong, and the right ones."""
+    extract, chance = timed_day(seed), random.Random(seed)
+    orders = [extract.rows[at]["order"] for at in places(extract.rows, "new")]
+    for auction in ("opening", "intraday", "closing"):
+        those = [at for at in places(extract.rows, "trade")
+                 if extract.rows[at]["auction"] == auction]  # fmt: skip
+        if len(those) >= many + 1:
+            picked = chance.sample(those, many)
+            right = [dict(extract.rows[at]) for at in picked]
+            for at in picked:
+                extract.rows[at] = wrong(chance, extract.rows[at], orders)
+            return extract, right
+    return None
+
+
+def corrected(extract: Extract, chance: random.Random, right: dict[str, str]) -> None:
+    """Puts a correction of a trade below it, whose event no audit knows."""
+    own = [at for at, row in enumerate(extract.rows)
+           if row["event"] == "trade" and row["auction"] == right["auction"]]  # fmt: skip
+    row = {**right, "event": chance.choice(["CORRECT", "Trade correction", "TC"])}
+    row["time"] = f"{right['time'][:-2]}59"
+    if chance.random() < 0.3:
+        row["bid"] = row["ask"] = "?"
+    extract.rows.insert(chance.randint(own[-1] + 1, len(extract.rows)), row)
+
+
+@pytest.mark.parametrize("many", [1, 2])
+def test_trades_that_unread_rows_may_correct_condemn_no_day(many: int) -> None:
+    count = 0
+    for seed in range(DAYS // 2):
+        found = some_wrong(seed, many)
+        if found is None or count == DAYS // 12:
+            continue
+        count += 1
+        for right in found[1]:
+            corrected(found[0], random.Random(seed), right)
+        verdict = judged(found[0])
+        assert verdict.word == "incomplete", f"{seed}\n{verdict}"
+    assert count > 5
+
+
+def opening(*rows: dict[str, str]) -> Verdict:
+    """The verdict on an opening of three trades at 10.00, with these rows in place of or below its
+    trades.
+    """
+    cells = dict(price="10.00", quantity="10", time="08:00:00")
+    day: Rows = [
+        dict(event="new", order=f"{side[0].upper()}{number}", side=side, **cells)
+        for number in range(3) for side in ("bid", "ask")
+    ]  # fmt: skip
+    made = dict(cells, time="09:00:00", auction="opening")
+    trades = [dict(made, event="trade", bid=f"B{it}", ask=f"A{it}") for it in range(3)]
+    for row in rows:
+        place = next((at for at, it in enumerate(trades) if it["bid"] == row["bid"]), None)
+        is_trade = row.get("event", "trade") == "trade" and place is not None
+        trades[place if is_trade else len(trades) :][:1] = []
+        if is_trade and place is not None:
+            trades[place] |= row
+        else:
+            trades.append({**made, "time": "09:00:01", **row})
+    day.append(dict(made, event="uncross", quantity="30", surplus="0", side="none", trades="3"))
+    return judged(Extract([*day, *trades], "10.00", None, []), auctions=["opening"])
+
+
+OTHER = {"price": "10.01"}
+
+
+@pytest.mark.parametrize("event, why", [
+    ("CORRECT", "event 'CORRECT' is none of"), ("bust", "quantity '###' is no whole number"),
+])  # fmt: skip
+def test_a_trade_at_another_price_may_be_taken_out(event: str, why: str) -> None:
+    row = {"event": event, "bid": "B1", "ask": "A1", "quantity": UNREADABLE}
+    verdict = opening({"bid": "B1", **OTHER}, row)
+    assert verdict.word == "incomplete", str(verdict)
+    assert f"a row that isn't read may take it out: row 10: {why}" in str(verdict)
+
+
+@pytest.mark.parametrize("event", ["CORRECT", "bust"])
+def test_one_row_takes_no_two_trades_out(event: str) -> None:
+    row = {"event": event, "bid": "B1", "ask": "A2", "quantity": UNREADABLE}
+    both = {"bid": "B1", **OTHER}, {"bid": "B2", "price": "10.02"}
+    assert opening(*both, row).word == "unlawful", str(opening(*both, row))
+    assert opening(*both, row, row).word == "incomplete", str(opening(*both, row, row))
+    assert opening(both[0], row).word == "incomplete"
+
+
+def test_a_row_of_another_trade_takes_none_out() -> None:
+    row = {"event": "CORRECT", "bid": "B2", "ask": "A2"}
+    assert opening({"bid": "B1", **OTHER}, row).word == "unlawful"
+
+
+def test_a_bust_makes_no_other_trade() -> None:
+    """B1 trades with A2 where it should with A1, of which a correction may say the right one."""
+    for event, word in (("CORRECT", "incomplete"), ("bust", "unlawful")):
+        row = {"event": event, "bid": "B1", "ask": "A2", "quantity": UNREADABLE}
+        verdict = opening({"bid": "B1", "ask": "A2", "quantity": "9"}, row)
+        assert verdict.word == word, f"{event}\n{verdict}"
+
+
+def test_a_fault_before_such_a_row_is_certain() -> None:
+    count = 0
+    for seed in SEEDS:
+        found = some_wrong(seed, 2)
+        if found is not None and count < 6:
+            count += 1
+            corrected(found[0], random.Random(seed), found[1][0])
+            result = next(row for row in found[0].rows if row.get("trades", "0") not in ("0", ""))
+            result["surplus"] = str(int(result["surplus"]) + 1)
+            assert judged(found[0]).word == "unlawful", f"{seed}\n{judged(found[0])}"
+    assert count > 3
