@@ -242,6 +242,9 @@ def test_results_among_the_files(program: str, tmp_path: pathlib.Path) -> None:
         ran = command(*words, program=program)
         assert (ran.returncode, ran.stdout) == (2, "") and text in ran.stderr
     assert {file.name for file in folder.iterdir()} == {"A.csv", "B.csv"}
+    (folder / "C.csv").symlink_to(tmp_path / "result.csv")
+    ran = command("audit", folder, "-o", tmp_path / "result.csv", program=program)
+    assert ran.returncode == 2 and "is a file of the market" in ran.stderr
 
 
 def test_a_result_takes_no_place_of_what_is_read(program: str, tmp_path: pathlib.Path) -> None:

@@ -5,7 +5,7 @@ import pathlib
 from collections.abc import Iterator
 
 import pytest
-from callauction.market import task
+from callauction.market import task, workers
 from callauction.market.processes import AHEAD
 from conftest import DONE, write
 
@@ -37,7 +37,7 @@ def test_one_run_ends_before_the_next_begins(
 ) -> None:
     texts = {name: f"day,1,1000,200,64,16,16,\n{DONE}" for name in NAMES}
     paths = write(tmp_path / "journals", texts)
-    found = task.examine(paths, task.Request(forms, str(spanned)))
+    found = workers.examine(paths, task.Request(forms, str(spanned)))
     assert [each.row.instrument for each in found] == [*NAMES]
     assert all(each.row.fault is None and each.row.seconds for each in found)
     lines = spanned.with_name("spans").read_text().splitlines()
@@ -51,7 +51,7 @@ def test_bad_files_stand_where_they_were_asked(program: str, tmp_path: pathlib.P
     paths = write(tmp_path / "journals", dict(sorted(texts.items())))
     paths.insert(2, str(tmp_path / "none.csv"))
     paths.append(str(tmp_path))
-    found = task.examine(paths, task.Request(("results",), program))
+    found = workers.examine(paths, task.Request(("results",), program))
     assert [each.row.instrument for each in found] == [
         pathlib.Path(path).name.removesuffix(".csv") for path in paths
     ]
@@ -76,7 +76,7 @@ def test_a_worker_never_waits_for_a_path_that_isnt_given_yet(
             assert place < len(done) + AHEAD
             yield path
 
-    for path, _ in task.examine_each(given(), task.Request(forms, program)):
+    for path, *_ in task.examine_each(given(), task.Request(forms, program)):
         done.append(path)
     assert sorted(done) == sorted(paths)
 
@@ -89,5 +89,5 @@ def test_a_kernel_that_tells_no_end_is_asked_in_turns(
 
     monkeypatch.setattr(os, "pidfd_open", refused)
     paths = write(tmp_path / "journals", {"A": f"day,1,1000,200,64,16,16,\n{DONE}"})
-    (found,) = task.examine(paths, task.Request(("results",), program))
+    (found,) = workers.examine(paths, task.Request(("results",), program))
     assert (found.row.fault, found.row.entries, found.row.day) == (None, 3, "over")

@@ -84,6 +84,9 @@ def test_an_empty_day_has_all_defaults(tmp_path: pathlib.Path) -> None:
         ("[phases]\ncall = true", "phases: call True is no whole number from 0 to 86400"),
         ("phases = 3", "phases 3 is no table: [phases]"),
         ("[members]\nnames = ['A', 'A']", "members: names 'A' is there twice"),
+        ("[members]\nnames = ['Ann', ' Ann']", "members: names ' Ann' is there twice"),
+        ("[members]\nnames = ['Ann', 'Ann ']", "members: names 'Ann ' is there twice"),
+        ("[members]\nnames = ['A B', 'A  B']", "members: names 'A  B' is there twice"),
         ("[members]\nnames = ['<b>']", "members: names '<b>' has <, > or a control"),
         ("[members]\nnames = ['']", "members: names '' is empty"),
         ("[members]\nnames = [3]", "members: names 3 isn't a text that may be here"),
@@ -134,6 +137,37 @@ def test_each_fault(tmp_path: pathlib.Path, text: str, fault: str) -> None:
     with pytest.raises(ConfigError) as found:
         read(tmp_path, text)
     assert fault in str(found.value)
+
+
+def test_names_are_taken_as_by_a_join(tmp_path: pathlib.Path) -> None:
+    """Without spaces around them, and with one between their words."""
+    found = read(tmp_path, "[members]\nnames = [' Ann', 'Bert  Lee ']")
+    assert found.members.names == ("Ann", "Bert Lee")
+
+
+WIDE = "name,side,price,quantity\nAnn,bid,2.00,5\nBob,ask,1,50,100\n"
+"""A list whose last row has a decimal comma between commas."""
+
+
+@pytest.mark.parametrize("head, cell", [("", "100"), (",", "100"), (",round", "")])
+def test_a_list_has_no_cell_beyond_its_columns(
+    tmp_path: pathlib.Path, head: str, cell: str
+) -> None:
+    """Nor in one that has no name; where a column has one, it is a cell as others are."""
+    (tmp_path / "values.csv").write_text(WIDE.replace("quantity", f"quantity{head}", 1))
+    day = "[[round]]\nvalues = 'list'\nfile = 'values.csv'"
+    if not cell:
+        assert read(tmp_path, day).rounds[0].rule.rows[1].round == 100
+        return
+    with pytest.raises(ConfigError, match="line 3: '100' is in no column: decimal commas need"):
+        read(tmp_path, day)
+
+
+def test_cells_beyond_the_columns_may_be_empty(tmp_path: pathlib.Path) -> None:
+    """As a spreadsheet leaves them."""
+    (tmp_path / "values.csv").write_text("name,side,price,quantity,\nAnn,bid,2.00,5,, ,\n")
+    found = read(tmp_path, "[[round]]\nvalues = 'list'\nfile = 'values.csv'")
+    assert [it.price for it in found.rounds[0].rule.rows] == ["2.00"]
 
 
 def test_a_day_that_windows_wrote(tmp_path: pathlib.Path) -> None:

@@ -19,9 +19,9 @@ from test_robots import until
 CLOCKED = """
 sync = false
 [phases]
-call = 8
+call = 4
 random_end = 2
-extension = 8
+extension = 4
 automatic = true
 [members]
 rate = 1000
@@ -46,11 +46,11 @@ def test_a_day_by_the_clock(tmp_path: pathlib.Path) -> None:
             venue.do("start")
             state = me.look("state")
             assert state["latest"] - state["ends"] == pytest.approx(2.0)
-            assert 0.0 < state["ends"] - state["now"] <= 8.0
+            assert 0.0 < state["ends"] - state["now"] <= 4.0
             me.enter("bid", 10, "3.00")
             other.enter("ask", 10, "3.00")
             until(lambda: phase_of(venue, anna) == ("extended", "opening"))
-            assert 7.9 < time.monotonic() - begin
+            assert 3.9 < time.monotonic() - begin
             assert me.look("state")["results"][0]["auction"] == "interrupted"
             me.enter("bid", 5, "2.99")
             until(lambda: phase_of(venue, anna) == ("waiting", "intraday"))

@@ -5,8 +5,8 @@ import subprocess
 import sys
 
 import served
+from callauction.venue import Client, teaching
 from callauction.venue.config import DayTerms
-from callauction.venue import Client
 from served import Served
 
 DOCUMENT = served.PACKAGE.parent / "docs/VENUE.md"
@@ -46,6 +46,14 @@ def test_the_robot(venue: Served) -> None:
                 venue.do("uncross")
         assert "'quantity': 60, 'price': '2.00'" in child.stdout.read()
         assert child.wait(20) == 0
+
+
+def test_all_words_of_the_operator_are_there() -> None:
+    """Each once in the first column of the table."""
+    text = DOCUMENT.read_text("utf-8").partition("| WORD |")[2].partition("\n\n")[0]
+    first = (row.split("|")[1] for row in text.splitlines()[2:])
+    words = [word for cell in first for word in re.findall(r"\w+", cell)]
+    assert sorted(words) == sorted({*teaching.STEPS, *teaching.WORDS, "uncross", "extend"})
 
 
 def test_the_pictures() -> None:

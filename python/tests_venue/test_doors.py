@@ -14,6 +14,7 @@ import psutil
 import pytest
 import served
 from callauction.venue import AsyncClient, Client, VenueError
+from callauction.venue.serving import Address
 from served import Served
 from test_messages import RECEIVED
 
@@ -256,12 +257,25 @@ def ended(*words: object) -> tuple[int, str]:
         (["--tls-cert", "c.pem"], "--tls-cert and --tls-key go together"),
         (["--tls-cert", "c", "--tls-key", "k", "--insecure"], "--insecure is for no TLS at all"),
         (["--tls-cert", "c", "--tls-key", "k"], "c can't be read: No such file"),
+        (["--name", "a b"], "--name: 'a b' is no name of a host, and no address"),
+        (["--name", "[::1]", "--check"], "--name: '[::1]' is no name of a host, and no address"),
         (["--day", "nothing.toml"], "nothing.toml: No such file or directory"),
     ],
 )
 def test_where_it_doesnt_listen(tmp_path: pathlib.Path, words: list[str], text: str) -> None:
     status, error = ended(*words, "--folder", tmp_path / "venue", "--port", 0)
     assert status in (2, 3) and text in error and len(error.splitlines()) == 1
+
+
+@pytest.mark.parametrize("name", ["class.example", "Class-2.example.", "10.0.0.1", "::1", "a_b"])
+def test_names_of_this_machine(name: str) -> None:
+    Address(names=(name,)).check()
+
+
+def test_a_page_may_have_a_last_slash(venue: Served) -> None:
+    """As an address bar may have it, behind which the token stays."""
+    for page in ("teacher", "beamer"):
+        assert venue.call(f"{page}/") == venue.call(page) and venue.call(page)[0] == 200
 
 
 def test_it_listens_on_loopback_alone(venue: Served) -> None:

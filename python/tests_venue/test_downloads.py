@@ -205,9 +205,8 @@ def test_the_name_of_a_file(
     day = config.DayTerms(title=' Märkte 1: "Stunde/2" ')
     terms, began = day.instruments[0], 1_764_288_000.0
     kept = log.Log(tmp_path / "venue.log")
-    board = instrument.Instrument(
-        instrument.BoardIdentity("XYZ"), terms, day.rounds[0], day, tmp_path, "none", kept, []
-    )
+    common = instrument.Common(day, tmp_path, "none", kept)
+    board = instrument.Instrument(instrument.BoardIdentity("XYZ"), terms, day.rounds[0], common)
     lesson = downloads.Lesson(day, [], Members(day.members, kept), "none", began)
     name = downloads.file_of(kind, lesson, board, language)
     assert name == wanted.format(time.strftime("%Y-%m-%d", time.localtime(began)))

@@ -128,7 +128,7 @@ async def test_the_tables_have_the_trades_of_an_uncross_just_before(tmp_path: pa
     board = venue.rounds.now.boards["XYZ"]
     board.auctions.start_call()
     for name, side in (("Anna", "bid"), ("Bert", "ask")):
-        member, _ = await venue.join(venue.members.codes[""], name)
+        member, _ = await venue.join(venue.members.codes.by_name[""], name)
         answer, _ = venue.submit(member, Order(1, "XYZ", f"enter,{side},5,200"))
         await answer
     assert (await board.auctions.uncross()).endswith(" trades 1")

@@ -136,8 +136,8 @@ def is_silent_once(board: Instrument, patch: pytest.MonkeyPatch) -> None:
 
     async def silent(views: object) -> list[list[str]]:
         patch.setattr(engine, "show", show)
-        assert engine._process is not None
-        engine._process.kill()
+        assert engine.outbox.process is not None
+        engine.outbox.process.kill()
         raise ProcessError(SILENT, FAILED)
 
     patch.setattr(engine, "show", silent)
@@ -193,7 +193,7 @@ async def test_who_comes_during_a_first_look(
     """Who has never had an order is told so, as anybody is who comes before it or after."""
     (folder := tmp_path / "venue").mkdir(0o700)
     async with without_journal(folder) as (venue, board), asyncio.timeout(served.SECONDS):
-        member, _ = await venue.join(venue.members.codes[""], "Bert")
+        member, _ = await venue.join(venue.members.codes.by_name[""], "Bert")
         show, begins, ends = board.engine.show, asyncio.Event(), asyncio.Event()
 
         async def slow(views: Sequence[str]) -> list[list[str]]:
@@ -273,5 +273,6 @@ async def test_a_first_look_that_fails_in_a_round_that_is_over(
         assert halts == {"XYZ": 0, "XYZ of round 1": 1}
         assert await venue.starts.resume() == ["XYZ"]
         assert halts_of(venue) == {} and venue.rounds.are_seen
-        assert board.auctions.results == ["opening no price"] and board.engine.pid is None
+        assert board.auctions.results == ["opening no price"]
+        assert board.engine.outbox.process is None
         assert await venue.starts.resume() == []

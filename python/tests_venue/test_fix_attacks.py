@@ -4,6 +4,7 @@ message, Logons of others, gaps that are asked for again and again and never rea
 import contextlib
 import pathlib
 import re
+import shutil
 import socket
 import ssl
 import subprocess
@@ -16,7 +17,8 @@ import pytest
 import served
 from callauction.fix.connections import REMOVED
 from callauction.fix.wires import ANSWER_SECONDS
-from callauction.venue.gates import IN_VAIN_SECONDS, SLICE, STUCK_SECONDS
+from callauction.venue.gates import STUCK_SECONDS
+from callauction.venue.passing import IN_VAIN_SECONDS, SLICE
 from fixing import SOH, Closed, Pairs, Peer
 from patience import TIMED
 from served import Served
@@ -461,7 +463,11 @@ def test_others_could_read_along(tmp_path: pathlib.Path) -> None:
 
 
 def test_the_module_is_missing(tmp_path: pathlib.Path) -> None:
-    status, text = said_of(tmp_path, fixing.day_of(9878, "ALICE"), CALLAUCTION_FIX=str(tmp_path))
+    package = pathlib.Path(served.environment()["PYTHONPATH"], "callauction")
+    ignored = shutil.ignore_patterns("_quickfix.*", "__pycache__")
+    shutil.copytree(package, tmp_path / "callauction", ignore=ignored)
+    without = {"PYTHONPATH": str(tmp_path), "CALLAUCTION_FIX": ""}
+    status, text = said_of(tmp_path, fixing.day_of(9878, "ALICE"), **without)
     assert status == 2
     assert re.fullmatch(
         r"venue: \[fix\] needs the module of QuickFIX: the package callboard-fix has it, or "

@@ -18,6 +18,7 @@ from patience import TIMED
 from test_fix_operator import day_with_copy, reset
 from test_fix_requests import until_logged
 from test_fix_venue import on
+from test_hangs import ends_in_time
 
 ORDERS = 100
 
@@ -243,3 +244,41 @@ def test_orders_while_the_venue_ends(tmp_path: pathlib.Path) -> None:
         assert answered(peer) == dict.fromkeys(clients, "0")
         journal = (folder / "XYZ.journal.csv").read_text("latin-1")
         assert journal.count(",enter,") == ORDERS
+
+
+SHOWS_NOTHING = """#!/bin/sh
+case " $* " in *" --journal "*) exec "{program}" "$@" ;; esac
+exec sleep 1000
+"""
+"""A program that hangs where it is to show what an uncross did, as one does for long after a long
+day.
+"""
+
+
+@TIMED
+def test_an_end_before_it_is_known_what_an_uncross_did(tmp_path: pathlib.Path) -> None:
+    """It waits for no program, and leaves none behind; the next start sends the reports."""
+    port, program = served.free_port(), tmp_path / "program"
+    program.write_text(SHOWS_NOTHING.format(program=served.program()))
+    program.chmod(0o755)
+    day, alice = fixing.day_of(port, "ALICE"), Peer(port, "ALICE")
+    with served.served(tmp_path, day, CALLBOARD=str(program)) as venue:
+        alice.logon(fixing.token_of(tmp_path / "venue", "ALICE"))
+        venue.do("start")
+        for side in "12":
+            alice.enter(f"a{side}", side, 10, "2.00")
+            alice.take(lambda it: it.get(11) == f"a{side}")
+        venue.do("uncross")
+        while not [it for it in hanging(venue) if "sleep" in it.name()]:
+            time.sleep(0.05)
+        hung = hanging(venue)
+        assert ends_in_time(venue.child) == (0, "")
+        assert not any(it.is_running() for it in hung)
+    with served.served(tmp_path, day):
+        alice.logon(fixing.token_of(tmp_path / "venue", "ALICE"))
+        assert {it[11] for it in alice.all() if it.get(150) == "F"} == {"a1", "a2"}
+
+
+def hanging(venue: served.Served) -> list[psutil.Process]:
+    """The programs that a venue has started."""
+    return psutil.Process(venue.child.pid).children()

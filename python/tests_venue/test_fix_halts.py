@@ -3,13 +3,16 @@ cancel says what it left open, and what waits for one instrument holds up nothin
 """
 import contextlib
 import pathlib
+import time
 from collections.abc import Callable, Iterator
 
 import fixing
 import psutil
 import pytest
 import served
+from callauction.fix.feeds import SEEN_SECONDS
 from fixing import Message, Pairs, Peer
+from patience import TIMED
 from test_fix_operator import reset
 from test_fix_requests import TWO, ask_data, killable, mass_cancel, settled
 from test_fix_venue import on
@@ -191,6 +194,35 @@ def test_what_waits_for_one_instrument_holds_up_no_other(tmp_path: pathlib.Path)
         assert alice.take(of("late"))[150] == "0"
 
 
+@TIMED
+def test_a_subscription_ends_with_its_connection(tmp_path: pathlib.Path) -> None:
+    """Also one for which the market was still looked at then: who comes again hears of no change of
+    what it wasn't shown.
+    """
+    port = served.free_port()
+    with on(tmp_path, fixing.day_of(port, "ALICE", "BOB"), port, "ALICE", "BOB") as (venue, peers):
+        alice, bob = peers
+        venue.do("start")
+        program = program_of(venue, "XYZ")
+        program.suspend()
+        ask_data(alice, "d1", "1", (265, "1"))
+        alice.say("g", [(335, "p1"), (263, "1")])
+        time.sleep(SEEN_SECONDS / 2)
+        alice.close()
+        time.sleep(SEEN_SECONDS)
+        alice.logon(fixing.token_of(tmp_path / "venue", "ALICE"))
+        program.resume()
+        ask_data(alice, "d2", "1", (265, "1"))
+        alice.say("g", [(335, "p2"), (263, "1")])
+        assert alice.take(lambda it: it[35] == "h")[335] == "p2"
+        entered(bob, "b1", "XYZ")
+        assert alice.take(lambda it: it[35] == "X")[262] == "d2"
+        venue.do("uncross")
+        assert alice.take(lambda it: it[35] == "h")[335] == "p2"
+        asked = {it.get(262, it.get(335)) for it in [*alice.got, *alice.all()]}
+        assert asked == {"d2", "p2"}
+
+
 def test_orders_that_are_late_end_with_their_connection(tmp_path: pathlib.Path) -> None:
     """Also those that a halted instrument answers once the member is there again, whose new orders
     stay.
@@ -204,3 +236,17 @@ def test_orders_that_are_late_end_with_their_connection(tmp_path: pathlib.Path) 
         assert gone == {"openABC", "openXYZ", "late"}
         entered(alice, "x1", "XYZ")
         assert [it[11] for it in shown(alice, "s1", (585, "7"))] == ["x1", "a1"]
+
+
+def test_cancels_on_their_way_as_the_connection_ends(tmp_path: pathlib.Path) -> None:
+    """What the venue itself asks then comes behind them: that it is refused is told to nobody."""
+    with hung(tmp_path, (8013, "Y")) as (venue, alice, _):
+        alice.cancel("openXYZ", "f1", "1")
+        alice.all(0.5)
+        alice.close()
+        alice.logon(fixing.token_of(tmp_path / "venue", "ALICE"), (8013, "Y"))
+        program_of(venue, "XYZ").resume()
+        gone = {it[11] for it in settled(alice, 3) if it.get(150) == "4"}
+        assert gone == {"openABC", "f1", "late"}
+        entered(alice, "x1", "XYZ")
+        assert [it for it in alice.got if it[35] == "9"] == []

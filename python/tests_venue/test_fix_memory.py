@@ -1,5 +1,4 @@
 """The module of QuickFIX under the sanitizers of addresses and of undefined behaviour."""
-import os
 import pathlib
 import random
 import subprocess
@@ -10,7 +9,7 @@ import served
 LIBRARIES = ("libasan.so", "libstdc++.so")
 MESSAGES, LEAST_TAKEN = 10_000, 100
 MALLOC = {"PYTHONMALLOC": "malloc"}
-FOLDER = pathlib.Path(os.environ.get("CALLAUCTION_FIX", "")) / "sanitized"
+FOLDER = served.PACKAGE.parent / "out/fix/sanitized"
 
 
 def environment() -> dict[str, str]:

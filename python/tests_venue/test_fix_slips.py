@@ -117,6 +117,34 @@ def test_a_time_that_is_none(tmp_path: pathlib.Path, begin: str, kind: str, valu
     assert not speaker.is_closed and speaker.is_heard()
 
 
+def test_a_type_without_a_value(tmp_path: pathlib.Path, begin: str) -> None:
+    """It is refused as each other tag without one: no refusal of the type could name it."""
+    speaker = Speaker(tmp_path, begin)
+    assert refusal(speaker.say("", ORDER)) == ("2", "", "35", "4")
+    assert refusal(speaker.say("", ORDER, {43: "Y", 122: TIME})) == ("3", "", "35", "4")
+    assert not speaker.is_closed and speaker.is_heard()
+
+
+@pytest.mark.parametrize("kind, pairs, heads", [
+    ("D", ORDER, {}),
+    ("D", [*ORDER, (9999, "x")], {}),
+    ("D", ORDER[1:], {}),
+    ("8", [], {}),
+    ("ZZ", [(58, "text")], {}),
+    ("", ORDER, {}),
+    ("D", ORDER, {52: NONE}),
+])
+def test_a_number_that_is_too_low(
+    tmp_path: pathlib.Path, begin: str, kind: str, pairs: Pairs, heads: Heads
+) -> None:
+    """It ends the session, whatever else is wrong: no refusal can say which message it is of."""
+    speaker = Speaker(tmp_path, begin)
+    speaker.number = 1
+    [found] = speaker.say(kind, pairs, heads)
+    assert (found[35], speaker.is_closed, speaker.expected) == ("5", True, 2)
+    assert found[58].startswith("MsgSeqNum too low, expecting 2 but received 1")
+
+
 def test_what_comes_after_a_logout(tmp_path: pathlib.Path, begin: str) -> None:
     """More than a message ends the connection, and the log says so, once."""
     speaker = Speaker(tmp_path, begin)

@@ -16,8 +16,9 @@ from callauction.fix.build import QUICKFIX
 from callauction.fix.feeds import snapshot
 from callauction.fix.settings import settings_of
 from callauction.fix.tags import FIX44, FIXT
-from fixing import Peer
+from fixing import Pairs, Peer
 from test_fix_operator import reset
+from test_fix_slips import ORDER, Speaker, refusal
 from test_fix_venue import DICTIONARIES, SETTINGS, Initiator
 
 FIELD = re.compile(r"FIELD_SET\(\*this, FIX::(\w+)\)")
@@ -110,6 +111,70 @@ def test_a_session_has_its_version(tmp_path: pathlib.Path) -> None:
         for peer in (Peer(port, "ALICE"), NewPeer(port, "BOB")):
             with pytest.raises(fixing.Closed):
                 peer.logon(fixing.token_of(folder, peer.member), (1137, "9"))
+
+
+OTHERS_OF_FIX = ["0", "6", "7", "8", "10", "FIX.5.0SP2", "09"]
+"""Values of ApplVerID that aren't FIX 5.0SP2's, or none of the standard's."""
+
+
+def logged_on(speaker: Speaker, *more: tuple[int, str]) -> str:
+    """What a Logon with more on a new connection is answered: a Logout's text, empty for a Logon.
+    """
+    if not speaker.is_closed:
+        speaker.engine.lost(speaker.connection)
+    speaker.connection, speaker.is_closed = speaker.engine.connect(), False
+    [found] = speaker.say("A", [(98, "0"), (108, "30"), (554, "any"), *more])
+    assert (found[35] == "5") == speaker.is_closed
+    return found[58] if speaker.is_closed else ""
+
+
+def test_a_logon_of_another_version(tmp_path: pathlib.Path) -> None:
+    """A Logout says what is wanted; then a right Logon is taken under the same number."""
+    speaker = Speaker(tmp_path, FIXT)
+    for value in OTHERS_OF_FIX:
+        text = f"DefaultApplVerID (1137) is {value}, and this session's is 9 (FIX.5.0SP2)"
+        assert logged_on(speaker, (1137, value)) == text
+        speaker.number -= 1
+    assert logged_on(speaker, (1137, "9")) == "" and speaker.is_heard()
+
+
+@pytest.mark.parametrize("kind, pairs", [("D", ORDER), ("V", []), ("ZZ", [(58, "text")])])
+@pytest.mark.parametrize("value", OTHERS_OF_FIX)
+def test_a_message_of_another_version(
+    tmp_path: pathlib.Path, kind: str, pairs: Pairs, value: str
+) -> None:
+    """It is refused by the reason that the standard has for that, wherever the tag is in its head,
+    and what follows is taken; those of the session have no version but their own.
+    """
+    speaker = Speaker(tmp_path, FIXT)
+    for heads in ({1128: value}, {1128: value, 50: "desk"}):
+        number = str(speaker.number)
+        assert refusal(speaker.say(kind, pairs, heads)) == (number, kind, "1128", "18")
+    assert speaker.say("D", ORDER, {1128: "9"}) == [] and len(speaker.engine.said()) == 1
+    [found] = speaker.say("1", [(112, "here")], {1128: value})
+    assert (found[35], found[112]) == ("0", "here") and speaker.is_heard()
+
+
+def test_a_message_of_another_version_out_of_its_turn(tmp_path: pathlib.Path) -> None:
+    """What is before it is asked for, and it is refused once it comes again."""
+    speaker = Speaker(tmp_path, FIXT)
+    speaker.number = 3
+    [asked] = speaker.say("D", ORDER, {1128: "6"})
+    assert (asked[35], asked[7]) == ("2", "2")
+    speaker.number = 2
+    again = {43: "Y", 122: fixing.stamp()}
+    assert speaker.say("D", ORDER, again) == []
+    assert refusal(speaker.say("D", ORDER, {**again, 1128: "6"})) == ("3", "D", "1128", "18")
+    assert [given[34] for _, given, _ in speaker.engine.said()] == ["2"]
+
+
+def test_versions_are_no_tags_of_fix_4_4(tmp_path: pathlib.Path) -> None:
+    speaker = Speaker(tmp_path, FIX44)
+    assert logged_on(speaker, (1137, "9")).endswith(": 1137")
+    speaker.number -= 1
+    assert logged_on(speaker) == ""
+    assert refusal(speaker.say("D", ORDER, {1128: "9"})) == ("3", "D", "1128", "2")
+    assert refusal(speaker.say("D", [*ORDER, (1137, "9")])) == ("4", "D", "1137", "2")
 
 
 def test_quickfix_s_own_initiator(tmp_path: pathlib.Path) -> None:

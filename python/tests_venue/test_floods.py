@@ -22,7 +22,7 @@ import pytest_asyncio
 import served
 import whole
 from aiohttp import web
-from callauction.venue import AsyncClient, Client, VenueError, gates, rates
+from callauction.venue import AsyncClient, Client, VenueError, gates, listening, rates
 from callauction.venue.gates import Gate, Gates, Stage
 from callauction.venue.rates import Guesses
 from conftest import FAST
@@ -160,9 +160,9 @@ def test_a_flood_of_who_looks_at_metrics(tmp_path: pathlib.Path) -> None:
 @pytest_asyncio.fixture
 async def slow(monkeypatch: pytest.MonkeyPatch) -> AsyncIterator[tuple[int, Gates]]:
     """A page behind gates that wait for a fifth of a second, its port and its gates."""
-    for name in ("HEAD_SECONDS", "BODY_SECONDS", "IDLE_SECONDS"):
-        monkeypatch.setattr(gates, name, 0.2)
-    monkeypatch.setattr(gates, "SWEEP_SECONDS", 0.02)
+    monkeypatch.setattr(listening, "HEAD_SECONDS", 0.2)
+    monkeypatch.setattr(gates, "IDLE_SECONDS", 0.2)
+    monkeypatch.setattr(listening, "SWEEP_SECONDS", 0.02)
     application, found = web.Application(), Gates()
 
     async def page(request: web.Request) -> web.Response:
@@ -173,9 +173,9 @@ async def slow(monkeypatch: pytest.MonkeyPatch) -> AsyncIterator[tuple[int, Gate
     application.router.add_get("/", page)
     runner = web.AppRunner(application, access_log=None)
     await runner.setup()
-    sockets = gates.listening("127.0.0.1", 0)
+    sockets = listening.sockets_at("127.0.0.1", 0)
     assert runner.server is not None
-    listener = gates.Listener(found, sockets, runner.server, None)
+    listener = listening.Listener(found, sockets, runner.server, None)
     yield sockets[0].getsockname()[1], found
     listener.close()
     await runner.cleanup()
@@ -224,11 +224,11 @@ async def test_who_takes_a_long_answer_slowly_is_not_sent_away(slow: tuple[int, 
 async def test_a_network_of_ipv6_is_one_address() -> None:
     found = Gates()
     try:
-        sockets = gates.listening("::1", 0)
+        sockets = listening.sockets_at("::1", 0)
     except OSError:
         print("this host has no IPv6")
         return
-    listener = gates.Listener(found, sockets, asyncio.Protocol, None)
+    listener = listening.Listener(found, sockets, asyncio.Protocol, None)
     _, writer = await asyncio.open_connection("::1", sockets[0].getsockname()[1])
     async with asyncio.timeout(served.SECONDS):
         while not len(found):
@@ -242,8 +242,8 @@ async def test_a_network_of_ipv6_is_one_address() -> None:
 async def test_who_comes_at_the_moment_of_an_end_is_no_fault() -> None:
     faults: list[dict[str, Any]] = []
     asyncio.get_running_loop().set_exception_handler(lambda _, fault: faults.append(fault))
-    sockets = gates.listening("127.0.0.1", 0)
-    listener = gates.Listener(Gates(), sockets, asyncio.Protocol, None)
+    sockets = listening.sockets_at("127.0.0.1", 0)
+    listener = listening.Listener(Gates(), sockets, asyncio.Protocol, None)
     await asyncio.sleep(0.1)
     with socket.create_connection(sockets[0].getsockname()):
         await asyncio.sleep(0)  # the loop has seen it by then, and hasn't taken it

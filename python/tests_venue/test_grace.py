@@ -45,7 +45,7 @@ async def halt(venue: Venue, board: Instrument, whose: str, seconds: float) -> N
     if whose == "venue":
         venue.halts.log_failed(SlowWrite())
     else:
-        board.engine._give_up(board.engine._turn, "journal failed")
+        board.engine._give_up("journal failed")
     await asyncio.sleep(seconds)
     if whose == "venue":
         venue.halts.log_goes_on()
@@ -63,7 +63,7 @@ async def test_a_halt_over_the_end_of_a_call(
     monkeypatch.setattr(auctions, "GRACE_SECONDS", GRACE)
     async with in_call(tmp_path, call, True) as venue, asyncio.timeout(served.SECONDS):
         board = venue.rounds.now.boards["XYZ"]
-        member, _ = await venue.join(venue.members.codes[""], "Anna")
+        member, _ = await venue.join(venue.members.codes.by_name[""], "Anna")
         answer, _ = venue.submit(member, Order(1, "XYZ", "enter,bid,1,200"))
         assert (await answer).reply == "entered 1"
         await halt(venue, board, whose, call + 1)
@@ -121,7 +121,7 @@ def test_a_crash_just_before_the_end_of_a_call(tmp_path: pathlib.Path) -> None:
         venue.do("start")
         venue.child.kill()
         venue.child.wait(served.SECONDS)
-    time.sleep(10)
+    time.sleep(6)
     with served.served(tmp_path, day) as venue:
         state = venue.call("api/look/state", token=venue.join("Anna"))[1]
         assert state["phase"] == "call" and 20 - 5 < state["ends"] - state["now"] <= 20, state

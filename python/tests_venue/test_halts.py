@@ -77,16 +77,21 @@ def test_a_resume_where_nothing_has_halted(tmp_path: pathlib.Path) -> None:
 
 
 def test_a_refusal_goes_once_trading_goes_on(tmp_path: pathlib.Path) -> None:
-    """On a member's page and on the teacher's."""
+    """On a member's page and on the teacher's; what was done goes once trading halts."""
     with served.served(tmp_path, DAY) as venue, joined(tmp_path / "anna", venue, "Anna") as anna:
         venue.do("start", instrument="APPLES")
         anna.waits(lambda it: not it.is_off("#send"))
         anna.types(quantity="1", price="2.00")
         with opened(tmp_path / "teacher", f"{venue.url}teacher#{venue.operator}", SCREEN) as page:
             log, other = tmp_path / "venue/venue.log", tmp_path / "moved"
+            page.runs("document.querySelector('[data-do=freeze]').closest('details').open = true")
+            for step in ("freeze", "thaw"):
+                page.waits(lambda it: not it.is_off(f"[data-do={step}]"))
+                page.clicks(f"[data-do={step}]")
+            page.waits(lambda it: it.text("said") == "Done")
             log.rename(other)
             for it in (anna, page):
-                it.waits(lambda it: it.text("phase") == "Halted")
+                it.waits(lambda it: it.text("phase") == "Halted" and it.text("said") == "")
             anna.clicks("#send")
             anna.waits(lambda it: it.text("said").startswith("Trading has halted"))
             page.clicks("[data-do=resume]")

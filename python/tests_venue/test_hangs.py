@@ -212,7 +212,7 @@ def test_a_venue_ends_while_its_disk_hangs(tmp_path: pathlib.Path) -> None:
         halted, _ = asyncio.run(halts(venue, token))
         assert halted == SLOW
         status, error = ends_in_time(venue.child)
-        assert (status, error.splitlines()[-1]) == (3, "venue: something didn't end within 4.5 s")
+        assert (status, error.splitlines()[-1]) == (3, "venue: not ended within 4.5 s: venue.log")
 
 
 def test_a_venue_goes_on_once_its_disk_does(tmp_path: pathlib.Path) -> None:

@@ -24,7 +24,7 @@ async def test_a_book_is_listed_once_after_a_change(
     venue = Venue(DayTerms(is_synced=False, plan=Plan(call=0)), tmp_path, served.program())
     await venue.open()
     board = venue.rounds.now.boards["XYZ"]
-    member, _ = await venue.join(venue.members.codes[""], "Alice")
+    member, _ = await venue.join(venue.members.codes.by_name[""], "Alice")
     venue.audience.watchers[Listener()] = None
     board.auctions.start_call()
     show, asked = board.engine.show, list[str]()

@@ -16,7 +16,7 @@ import pytest
 import pytest_asyncio
 import served
 from callauction.venue import (
-    clock, connection, gates, http, log, rates, serving, teaching, tokens, views,
+    clock, connection, gates, http, listening, log, rates, serving, teaching, tokens, views,
 )
 from callauction.venue.audience import MOST_CONNECTIONS
 from callauction.venue.config import DayTerms, Plan
@@ -61,7 +61,7 @@ async def test_who_answers_no_heartbeat_is_sent_away(
     client: Any, inside: Venue, monkeypatch: pytest.MonkeyPatch
 ) -> None:
     monkeypatch.setattr(connection, "HEARTBEAT", 0.2)
-    _, token = await inside.join(inside.members.codes[""], "Anna")
+    _, token = await inside.join(inside.members.codes.by_name[""], "Anna")
     socket = await client.ws_connect("/api/socket", autoping=False)
     await socket.send_json({"type": "hello", "token": token})
     async with asyncio.timeout(served.SECONDS):
@@ -101,7 +101,7 @@ async def test_what_to_do_about_a_log_that_others_changed(
 
 
 async def test_a_member_is_connected_a_few_times_at_once(client: Any, inside: Venue) -> None:
-    _, token = await inside.join(inside.members.codes[""], "Anna")
+    _, token = await inside.join(inside.members.codes.by_name[""], "Anna")
     sockets = []
     for _ in range(MOST_CONNECTIONS + 1):
         sockets.append(await client.ws_connect("/api/socket"))
@@ -115,7 +115,7 @@ async def test_a_member_is_connected_a_few_times_at_once(client: Any, inside: Ve
 
 
 async def test_a_removed_member_says_nothing_more(inside: Venue) -> None:
-    member, _ = await inside.join(inside.members.codes[""], "Anna")
+    member, _ = await inside.join(inside.members.codes.by_name[""], "Anna")
     board = inside.rounds.now.boards["XYZ"]
     board.auctions.start_call()
     first, _ = inside.submit(member, Order(1, "XYZ", "enter,bid,1,200"))
@@ -129,7 +129,7 @@ async def test_a_removed_member_says_nothing_more(inside: Venue) -> None:
 
 async def in_flight(inside: Venue) -> Member:
     """A member with an order that isn't answered, which would trade with another one's."""
-    code = inside.members.codes[""]
+    code = inside.members.codes.by_name[""]
     (anna, _), (bert, _) = [await inside.join(code, name) for name in ("Anna", "Bert")]
     inside.rounds.now.boards["XYZ"].auctions.start_call()
     assert (await inside.submit(bert, Order(1, "XYZ", "enter,ask,1,200"))[0]).reply == "entered 1"
@@ -150,7 +150,7 @@ async def test_an_order_in_flight_is_deleted_before_an_uncross(inside: Venue) ->
 async def test_an_order_in_flight_is_deleted_after_a_halt(inside: Venue) -> None:
     """Whoever comes again in between: nothing else is taken before."""
     anna, board = await in_flight(inside), inside.rounds.now.boards["XYZ"]
-    board.engine._give_up(board.engine._turn, "for a while")
+    board.engine._give_up("for a while")
     found = await inside.remove([anna])
     assert (found.deleted, found.halted) == ([], ["XYZ"])
     again, _ = await inside.join(await inside.readmit(anna), "")
@@ -166,7 +166,7 @@ async def test_what_is_held_as_it_halts_isnt_done(inside: Venue) -> None:
     await asyncio.sleep(0)
     uncrossing = asyncio.create_task(board.auctions.uncross())
     await asyncio.sleep(0)
-    board.engine._give_up(board.engine._turn, "for a while")
+    board.engine._give_up("for a while")
     with pytest.raises(MessageError) as fault:
         await uncrossing
     assert fault.value.code == "halted"
@@ -188,17 +188,17 @@ async def test_what_waits_as_it_halts_is_answered_once(
     client: Any, inside: Venue, monkeypatch: pytest.MonkeyPatch
 ) -> None:
     """By its entry, once it goes on, as nobody knows before whether it has one."""
-    _, token = await inside.join(inside.members.codes[""], "Anna")
+    _, token = await inside.join(inside.members.codes.by_name[""], "Anna")
     board = inside.rounds.now.boards["XYZ"]
     board.auctions.start_call()
     order = {"type": "enter", "side": "bid", "quantity": 1, "price": "2.00"}
     async with client.ws_connect("/api/socket") as socket:
         await socket.send_json({"type": "hello", "token": token})
         with monkeypatch.context() as held:
-            held.setattr(board.engine, "_send", lambda those, turn: None)
+            held.setattr(board.engine.outbox, "_send", lambda sent: None)
             await socket.send_json(order | {"number": 1})
-            await comes(lambda: board.engine.waiting)
-        board.engine._give_up(board.engine._turn, "for a while")
+            await comes(lambda: board.engine.outbox.waiting)
+        board.engine._give_up("for a while")
         await socket.send_json(order | {"number": 2})
         await asyncio.sleep(0.5)
         await inside.starts.resume()
@@ -234,7 +234,7 @@ async def test_a_log_that_is_moved_is_seen_at_once(inside: Venue) -> None:
 
 async def test_who_joins_as_the_log_fails_is_answered(inside: Venue) -> None:
     """And joins once it goes on: nobody else has the name meanwhile, nor the token."""
-    code = inside.members.codes[""]
+    code = inside.members.codes.by_name[""]
     log, other = inside.folder / "venue.log", inside.folder / "moved"
     await inside.log.written()
     log.rename(other)
@@ -252,8 +252,8 @@ async def test_who_joins_as_the_log_fails_is_answered(inside: Venue) -> None:
 
 async def test_nobody_is_another_by_a_join_that_failed(inside: Venue) -> None:
     """Who comes again by a code of its own as the log fails: its name stays its own."""
-    member, _ = await inside.join(inside.members.codes[""], "Anna")
-    own = inside.members.set_code("Anna", "OWN123")
+    member, _ = await inside.join(inside.members.codes.by_name[""], "Anna")
+    own = inside.members.codes.give("Anna", "OWN123")
     log, other = inside.folder / "venue.log", inside.folder / "moved"
     await inside.log.written()
     log.rename(other)
@@ -262,12 +262,12 @@ async def test_nobody_is_another_by_a_join_that_failed(inside: Venue) -> None:
     other.rename(log)
     await inside.starts.resume()
     with pytest.raises(NameTakenError):
-        await inside.join(inside.members.codes[""], "Anna")
+        await inside.join(inside.members.codes.by_name[""], "Anna")
     assert (await inside.join(own, ""))[0] is member
 
 
 async def test_two_who_join_by_one_name_at_once(inside: Venue) -> None:
-    code = inside.members.codes[""]
+    code = inside.members.codes.by_name[""]
     asked = [inside.join(code, "Anna") for _ in range(2)]
     first, second = await asyncio.gather(*asked, return_exceptions=True)
     assert isinstance(second, NameTakenError) and not isinstance(first, BaseException)
@@ -283,7 +283,7 @@ async def test_what_the_operator_wants_as_the_log_fails_is_answered(inside: Venu
     assert (found.value.code, found.value.text) == ("halted", LATER)
     other.rename(log)
     await inside.starts.resume()
-    assert not inside.members.is_open and '"kind":"door"' in log.read_text()
+    assert not inside.members.codes.is_open and '"kind":"door"' in log.read_text()
 
 
 async def test_who_is_let_in_as_the_log_fails_is_answered(inside: Venue) -> None:
@@ -368,7 +368,7 @@ async def test_looks_at_trades_come_in_pages(client: Any, inside: Venue) -> None
     trades = (views.Trade(it, 2 * it, 2 * it + 1, 1, 200) for it in range(1, 15_001))
     instrument.looks.trades.extend(trades)
     instrument.auctions.start_call()
-    found = [await inside.join(inside.members.codes[""], f"member {it}") for it in range(4)]
+    found = [await inside.join(inside.members.codes.by_name[""], f"member {it}") for it in range(4)]
     (me, _), *others = found
 
     async def look(token: str, first: int) -> list[int]:
@@ -401,7 +401,7 @@ async def test_looks_at_trades_come_in_pages(client: Any, inside: Venue) -> None
 async def test_looks_cost_what_orders_cost(client: Any, inside: Venue) -> None:
     """They come out of the same bucket."""
     inside.members._terms = dataclasses.replace(inside.day.members, rate=0.001, burst=5)
-    member, token = await inside.join(inside.members.codes[""], "Anna")
+    member, token = await inside.join(inside.members.codes.by_name[""], "Anna")
     headers = {"Authorization": f"Bearer {token}"}
     found = []
     for what in ("state", "orders", "fills", "trades", "state", "trades", "orders"):
@@ -440,19 +440,19 @@ async def test_secrets_are_compared_in_a_time_that_says_nothing(
         inside.role_of("guessed")
     with pytest.raises(MessageError):
         await inside.join("WRONGS", "Anna")
-    assert compared == {*inside.secrets.values(), inside.members.codes[""]}
+    assert compared == {*inside.secrets.values(), inside.members.codes.by_name[""]}
 
 
 async def test_who_has_said_who_it_is_may_be_silent(
     inside: Venue, monkeypatch: pytest.MonkeyPatch
 ) -> None:
     """Behind gates that wait for a fifth of a second."""
-    for name in ("HEAD_SECONDS", "IDLE_SECONDS"):
-        monkeypatch.setattr(gates, name, 0.2)
-    monkeypatch.setattr(gates, "SWEEP_SECONDS", 0.02)
-    own = gates.Gates()
+    monkeypatch.setattr(listening, "HEAD_SECONDS", 0.2)
+    monkeypatch.setattr(gates, "IDLE_SECONDS", 0.2)
+    monkeypatch.setattr(listening, "SWEEP_SECONDS", 0.02)
+    own = Gates()
     site = Site(inside, served.program(), frozenset(["127.0.0.1"]), own)
-    _, token = await inside.join(inside.members.codes[""], "Anna")
+    _, token = await inside.join(inside.members.codes.by_name[""], "Anna")
     pages = serving.Pages(site.application(), own)
     port = await pages.begin("127.0.0.1", 0)
     async with aiohttp.ClientSession() as web:
@@ -499,7 +499,7 @@ class GoneSocket:
 
 
 async def test_who_is_gone_as_the_venue_ends_is_no_fault(inside: Venue) -> None:
-    _, token = await inside.join(inside.members.codes[""], "Anna")
+    _, token = await inside.join(inside.members.codes.by_name[""], "Anna")
     faults: list[Any] = []
     asyncio.get_running_loop().set_exception_handler(lambda _, fault: faults.append(fault))
     listening = socket.socket()

@@ -12,7 +12,7 @@ from collections.abc import Iterator
 import psutil
 import pytest
 import served
-from callauction.venue import Client, engine, leftovers
+from callauction.venue import Client, leftovers, runs
 from callauction.venue.config import DayTerms, Plan
 from callauction.venue.leftovers import Program
 from callauction.venue.metrics import halts_of
@@ -201,7 +201,7 @@ async def test_who_has_a_journal_while_the_day_runs(
     tmp_path: pathlib.Path, monkeypatch: pytest.MonkeyPatch, caplog: pytest.LogCaptureFixture
 ) -> None:
     """It is told to operations; to all who ask that another has it."""
-    monkeypatch.setattr(engine, "IN_USE_SECONDS", 1.0)
+    monkeypatch.setattr(runs, "IN_USE_SECONDS", 1.0)
     venue = Venue(DayTerms(is_synced=False, plan=Plan(call=0)), tmp_path, served.program())
     await venue.open()
     board = venue.rounds.now.boards["XYZ"]
@@ -211,10 +211,10 @@ async def test_who_has_a_journal_while_the_day_runs(
             try:
                 assert child.stdout is not None and child.stdout.readline() == b"it waits\n"
                 await asyncio.sleep(0.5)
-                assert board.engine._process is not None
-                board.engine._process.kill()
                 while not halts_of(venue):
-                    await asyncio.sleep(0.05)
+                    if board.engine.outbox.process is not None:  # which may have it sooner again
+                        board.engine.outbox.process.kill()
+                    await asyncio.sleep(0.5)
             finally:
                 child.kill()
         assert halts_of(venue) == {"XYZ": "journal in use"}

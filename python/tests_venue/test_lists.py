@@ -104,3 +104,11 @@ def test_a_round_has_one_value_of_a_name(venue: Served) -> None:
     anna = venue.join("Anna Lee")
     text = "name,side,price,quantity,round\nAnna Lee,ask,1.50,3,1\nAnna Lee,bid,9.00,4,2\n"
     assert venue.do("give", file=text)["given"] == 1 and value(venue, anna) == ANNA
+
+
+def test_a_list_with_a_decimal_comma_between_commas_is_refused(venue: Served) -> None:
+    venue.join("Bob")
+    body = {"do": "give", "file": "name,side,price,quantity\nBob,ask,1,50,100\n"}
+    status, found = venue.call("api/operator", body, venue.operator)
+    assert (status, found["error"]) == (400, "bad_message")
+    assert found["text"] == "line 2: '100' is in no column: decimal commas need semicolons"

@@ -10,7 +10,7 @@ from callauction.venue import recovery
 from callauction.venue.engine import Engine
 from callauction.venue.log import Log
 from callauction.venue.process import Process
-from callauction.venue.recovery import Entry, Mark, Sum
+from callauction.venue.recovery import Entry, Mark
 
 pytestmark = pytest.mark.asyncio
 COUNT = 20_000
@@ -47,7 +47,7 @@ class Read:
 class Ended:
     """In the place of a program that runs."""
 
-    def kill(self) -> None:
+    def give_up(self) -> None:
         pass
 
 
@@ -66,7 +66,8 @@ def engine_of(folder: pathlib.Path, those: list[Entry]) -> Engine:
     journal.write_text(FIRST + "".join(map(line_of, those)) + "\0" * ROOM)
     journal.chmod(0o600)
     found = Engine("XYZ", [], journal, Log(folder / "venue.log", False))
-    found._process, found._sum, found.is_open = cast(Process, Ended()), Sum(those), True
+    found.journal.begin(those)
+    found.outbox.process, found.is_open = cast(Process, Ended()), True
     return found
 
 
@@ -77,15 +78,15 @@ async def test_a_look_reads_a_journal_once(
     read = Read()
     monkeypatch.setattr(recovery, "open", read.opened, raising=False)
     engine = engine_of(tmp_path, entries(1, COUNT))
-    size = engine.journal.stat().st_size - ROOM
+    size = engine.journal.path.stat().st_size - ROOM
     for _ in range(5):
         await engine.look()
         assert (engine.halted, read.count) == (None, size)
     [new] = entries(COUNT + 1, 1)
-    with engine.journal.open("r+b") as journal:
+    with engine.journal.path.open("r+b") as journal:
         journal.seek(size)
         journal.write(line_of(new).encode())
-    engine._sum.add(new)
+    engine.journal.add(new, is_marked=False)
     for _ in range(5):
         await engine.look()
         assert (engine.halted, read.count) == (None, 2 * size + len(line_of(new)))
@@ -104,7 +105,7 @@ async def test_what_others_changed_is_told_beside_the_loop(
 
     monkeypatch.setattr(Mark, "check", checked)
     engine = engine_of(tmp_path, entries(1, COUNT))
-    with engine.journal.open("r+b") as journal:
+    with engine.journal.path.open("r+b") as journal:
         journal.seek(len(FIRST))
         journal.write(b"7")
     halts: list[Any] = []

@@ -3,6 +3,7 @@ back.
 """
 import asyncio
 import contextlib
+import io
 import json
 import logging
 import os
@@ -27,7 +28,7 @@ import psutil
 import pytest
 import served
 from callauction.venue import (
-    AsyncClient, Client, addresses, checking, copies, gates, metrics, notices, process, serving,
+    AsyncClient, Client, addresses, checking, copies, listening, metrics, notices, process, serving,
 )
 from callauction.venue.__main__ import arguments
 from callauction.venue.latency import Times
@@ -423,11 +424,11 @@ def opened(folder: pathlib.Path, mode: int) -> None:
     (folder / "key.pem").chmod(mode)
 
 
-def mixed(folder: pathlib.Path) -> None:
-    """The key of another certificate."""
+def mixed(folder: pathlib.Path, kind: str = ECDSA) -> None:
+    """The key of another certificate, beside one whose key is of this kind."""
     certificate(folder, "third")
     key = (folder / "key.pem").read_bytes()
-    certificate(folder, "fourth")
+    certificate(folder, "fourth", kind=kind)
     (folder / "key.pem").write_bytes(key)
 
 
@@ -462,7 +463,8 @@ def early(folder: pathlib.Path) -> list[str]:
 
 SPOILED: dict[str, Callable[[pathlib.Path], object]] = {
     "cert.pem has no certificate": lambda folder: (folder / "cert.pem").write_text("none"),
-    "can't be used: [X509: KEY_VALUES_MISMATCH] key values mismatch": mixed,
+    "key.pem isn't the key of ": mixed,
+    "cert.pem: put the key there that is": lambda folder: mixed(folder, RSA),
     "has a passphrase": locked,
     "is no regular file": piped,
     "No such file": lambda folder: (folder / "key.pem").unlink(),
@@ -839,7 +841,7 @@ def test_the_port_of_metrics_is_told(tmp_path: pathlib.Path) -> None:
 
 
 def test_all_addresses_of_a_host_have_one_port() -> None:
-    found = gates.listening("localhost", 0)
+    found = listening.sockets_at("localhost", 0)
     assert len({it.getsockname()[1] for it in found}) == 1
     for each in found:
         each.close()
@@ -874,10 +876,13 @@ def test_what_the_operator_does_is_said(tmp_path: pathlib.Path) -> None:
 
 
 def test_whom_the_operators_words_are_about_is_said(tmp_path: pathlib.Path) -> None:
-    """Also in one second, and of what is refused."""
+    """Also in one second, and of what is refused; what is done again is said again."""
     with served.served(tmp_path, FAST, "--log", "json") as venue:
         tokens = [venue.join(name) for name in ("Anna", "Bert", "Eve", "Max")]
-        venue.do("code", member="Eve")
+        for _ in range(3):
+            venue.do("code", member="Eve")
+        venue.do("rename", member="Max", name="Maxi")
+        venue.do("rename", member="Maxi", name="Max")
         venue.do("start")
         with Client(venue.url, tokens[0]) as me:
             me.enter("bid", 1, "2.00")
@@ -896,7 +901,9 @@ def test_whom_the_operators_words_are_about_is_said(tmp_path: pathlib.Path) -> N
     told = [(it["text"].removeprefix(head), it.get("member")) for it in said]
     where = "from 127.0.0.1"
     assert told == [
-        (f"code, {where}: Eve", "Eve"),
+        *[(f"code, {where}: Eve", "Eve")] * 3,
+        (f"rename, {where}: Max is Maxi now", "Max"),
+        (f"rename, {where}: Maxi is Max now", "Maxi"),
         (f"start, {where}", None),
         (f"remove, {where}: Anna: 1 orders deleted", "Anna"),
         (f"remove, {where}: Bert: 0 orders deleted", "Bert"),
@@ -1012,6 +1019,31 @@ def test_the_last_count_of_a_flood_is_written() -> None:
     left = [sparing.filter(record_of("from %s", "more")) for _ in range(3)]
     assert left == [True, False, False]
     assert told(True) == ["venue: from more (and 1 like it, of others too)"]
+
+
+def test_lines_are_in_the_order_of_time() -> None:
+    """Also one that says how many others weren't written."""
+    stream = io.StringIO()
+    handler = notices.Unheld(stream)
+    handler.setFormatter(notices.AsJson())
+    for text in ("first", "first", "second"):
+        handler.handle(record_of(text))
+        time.sleep(0.01)
+    handler.write_left_out(is_end=True)
+    lines = [json.loads(it) for it in stream.getvalue().splitlines()]
+    assert [it["text"] for it in lines] == ["first", "second", "first"]
+    assert [it["time"] for it in lines] == sorted(it["time"] for it in lines)
+
+
+def test_what_is_done_once_is_folded_into_nothing() -> None:
+    """Nor in a flood of other lines."""
+    sparing = notices.Sparing(lambda: 10.0)
+    for each in range(1000):
+        sparing.filter(record_of("from %s", each))
+    for _ in range(3):
+        record = record_of("%s", "the operator: code", level=logging.INFO)
+        record.is_once = True
+        assert sparing.filter(record)
 
 
 @pytest.mark.parametrize("is_killed", [False, True])

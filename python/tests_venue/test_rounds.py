@@ -67,6 +67,11 @@ def test_one_press_begins_the_next_round(venue: Served, tmp_path: pathlib.Path) 
     assert judged.is_lawful(first) and judged.is_lawful(second)
     prices = [judged.entries(it)[-1][1].split()[2] for it in (first, second)]
     assert prices == ["200", "210"]
+    names = [
+        venue.call(f"api/download/members/XYZ{it}", token=venue.operator)[1]
+        for it in ("?round=1", "?round=2", "")
+    ]
+    assert names == ["number,name\n1,Anna\n2,Bert\n", *["number,name\n1,Bert\n2,Anna\n"] * 2]
     kept = [venue.call("api/look/fills", token=it)[1] for it in (anna, bert)]
     paid = sees(venue, "ranking")["rows"]
     assert [(it["name"], it["gain"], it["rank"]) for it in paid] == [

@@ -8,8 +8,8 @@ from collections.abc import Callable
 from typing import Any
 
 import pytest
-from callauction.venue import gates
-from callauction.venue.gates import Gate, Gates, Passed, Stage
+from callauction.venue.gates import Gate, Gates, Stage
+from callauction.venue.passing import HEAD_SLICE, Passed, Secured, size_of_slice
 from callauction.venue.turns import Turns
 from test_operations import certificate
 
@@ -132,7 +132,7 @@ class Far:
         self.line = Line()
         done = asyncio.get_running_loop().create_future()
         gate = Gate("a", socket.socket(), 0.0)
-        self._near = gates.Secured(found, gate, inner(gate), tls, done)
+        self._near = Secured(found, gate, inner(gate), tls, done)
         self._near.connection_made(self.line)
 
     def shake_hands(self) -> None:
@@ -304,10 +304,10 @@ async def test_a_slice_has_one_head_at_most() -> None:
         (REQUEST * 2, len(REQUEST)),
         (REQUEST.replace(b"\r", b"") * 2, len(REQUEST) - 3),
         (b"\r\n\r\n" * 9, 4),
-        (b"x" * 5000, gates.HEAD_SLICE),
-        (b"x" * gates.HEAD_SLICE + b"\n\n", gates.HEAD_SLICE),
+        (b"x" * 5000, HEAD_SLICE),
+        (b"x" * HEAD_SLICE + b"\n\n", HEAD_SLICE),
     ]:
-        assert gates.size_of_slice(bytearray(text)) == size
+        assert size_of_slice(bytearray(text)) == size
 
 
 async def test_who_speaks_gives_way_last() -> None:

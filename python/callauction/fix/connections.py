@@ -14,7 +14,9 @@ from callauction.fix.seats import Seat
 from callauction.fix.sent import MOST_AT_ONCE, Outbound, Sent
 from callauction.fix.tags import Tag, Type, now
 from callauction.fix.wires import STATES, Wire
-from callauction.venue import gates
+from callauction.venue import listening
+from callauction.venue.gates import Gates
+from callauction.venue.lasting import going_on
 from callauction.venue.messages import ERRORS
 from callauction.venue.serving import AddressError
 from callauction.venue.venue import Venue
@@ -46,7 +48,7 @@ class Connections:
     ) -> None:
         self.venue: Venue = venue
         self.start = start
-        self.gates = gates.Gates(MOST_CONNECTIONS, MOST_OF_ADDRESS)
+        self.gates = Gates(MOST_CONNECTIONS, MOST_OF_ADDRESS)
         self.wires: dict[int, Wire] = {}
         self.on: dict[Seat, Wire] = {}
         self.outbound: Outbound = Outbound(sent, self.wires, self.wake)
@@ -56,6 +58,12 @@ class Connections:
         self._due: dict[Seat, None] = {}
         self._turns = 0
         self.news, self.has_begun = asyncio.Event(), asyncio.Event()
+
+    def name(self) -> str:
+        """All that are there, by their CompIDs, else their addresses; empty for none."""
+        wires = [*self.wires.values()]
+        found = ", ".join(it.seat.comp_id if it.seat else it.address for it in wires)
+        return found and f"connections by FIX of {found}"
 
     # ---- who comes and goes
 
@@ -148,8 +156,9 @@ class Connections:
             await self.news.wait()
             self.news.clear()
             for seat, wire in [*self.on.items()]:
-                if not wire.is_slow:
-                    seat.feeds.send(functools.partial(self.outbound.send, seat))
+                with going_on(f"fix: what {seat.name} asked for of what changes"):
+                    if not wire.is_slow:
+                        seat.feeds.send(functools.partial(self.outbound.send, seat))
 
     # ---- what was said
 
@@ -201,7 +210,7 @@ class Door:
     def __init__(self, host: str, port: int) -> None:
         self._host, self._port = host, port
         self._sockets: list[socket.socket] = []
-        self._listener: gates.Listener | None = None
+        self._listener: listening.Listener | None = None
 
     @contextlib.contextmanager
     def _taking(self) -> Iterator[None]:
@@ -209,25 +218,25 @@ class Door:
         try:
             yield
         except OSError as fault:
-            text = gates.why_not(self._host, self._port, fault, "another `address`")
+            text = listening.why_not(self._host, self._port, fault, "another `address`")
             raise AddressError(f"fix: {text}") from None
 
     def bind(self) -> None:
         """Has the address. Raises AddressError where it can't be had."""
         with self._taking():
-            self._sockets = gates.bound(self._host, self._port)
+            self._sockets = listening.bound(self._host, self._port)
 
     def open(self) -> str:
         """Has connections wait: the line that says where. Raises AddressError."""
         with self._taking():
-            gates.listen(self._sockets)
+            listening.listen(self._sockets)
         host = f"[{self._host}]" if ":" in self._host else self._host
         return f"fix      {host}:{self._sockets[0].getsockname()[1]}"
 
-    def listen(self, connections: Connections, tls: gates.Tls | None) -> None:
+    def listen(self, connections: Connections, tls: listening.Tls | None) -> None:
         """Takes connections, with this TLS."""
         made = functools.partial(Wire, connections)
-        self._listener = gates.Listener(connections.gates, self._sockets, made, tls)
+        self._listener = listening.Listener(connections.gates, self._sockets, made, tls)
 
     def shut(self) -> None:
         """Takes no connection more."""

@@ -215,8 +215,9 @@ class Feeds:
 
 
 async def ask_data(seat: "Seat", asked: Pairs, given: Given, number: int) -> None:
-    """MarketDataRequest. Raises MessageError."""
+    """MarketDataRequest. Raises MessageError. What changes is heard by its connection alone."""
     feeds, request, how = seat.feeds, given[Tag.MD_REQ_ID], given[Tag.SUBSCRIPTION_REQUEST_TYPE]
+    wire = seat.connections.on.get(seat)
     if how == OFF:
         if feeds.data.pop(request, None) is None:
             raise SeatError(OTHER, NO_FEED)
@@ -238,12 +239,14 @@ async def ask_data(seat: "Seat", asked: Pairs, given: Given, number: int) -> Non
         feeds.check_room(request, feeds.data)
         seat.connections.watch(seat)
     await asyncio.gather(*map(seen, boards))
+    if seat.connections.on.get(seat) is not wire:
+        return
     for board in boards:
         rows = rows_of(board, feeds.levels(board))
         data.last[board.identity.market] = {it: row for it, row in rows.items() if it in types}
     for market, rows in data.last.items():
         seat.outbound.send(seat, Type.SNAPSHOT, *snapshot(request, market, rows))
-    if how == ON:
+    if how == ON and wire is not None:
         feeds.data[request] = data
 
 
@@ -265,6 +268,6 @@ async def ask_phases(seat: "Seat", rows: Pairs, given: Given, number: int) -> No
     for board in boards:
         phase = phases.last[board.identity.market] = phase_of(venue, board)
         seat.outbound.send(seat, Type.PHASE, [(Tag.TRAD_SES_REQ_ID, request), *phase], [])
-    if how == ON:
+    if how == ON and seat in seat.connections.on:
         feeds.phases[request] = phases
         seat.connections.watch(seat)

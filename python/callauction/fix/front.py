@@ -21,9 +21,11 @@ from callauction.fix.sent import MOST_AT_ONCE, Sent
 from callauction.fix.seats import CopySeat, Seat
 from callauction.fix.settings import settings_of
 from callauction.fix.tags import FIX44, FIXT, pairs_of
-from callauction.venue import gates, tokens
+from callauction.venue import ending, tokens
 from callauction.venue.fix_terms import Terms
 from callauction.venue.book import OPERATOR
+from callauction.venue.lasting import going_on
+from callauction.venue.listening import Tls
 from callauction.venue.messages import MessageError
 from callauction.venue.serving import AddressError
 from callauction.venue.venue import Venue
@@ -86,7 +88,7 @@ class Front:
 
     # ---- begin and end
 
-    async def begin(self, tls: gates.Tls | None) -> str:
+    async def begin(self, tls: Tls | None) -> str:
         """Listens, with this TLS: the line that says where. Raises AddressError."""
         self._door.bind()
         try:
@@ -108,7 +110,7 @@ class Front:
         self._listening = self._start(self._listen(tls))
         return line
 
-    async def _listen(self, tls: gates.Tls | None) -> None:
+    async def _listen(self, tls: Tls | None) -> None:
         """Takes connections, which wait for a while where a session owes reports, as it can't begin
         before they are made again.
         """
@@ -195,12 +197,17 @@ class Front:
         """Lets sessions know the time, and ends the orders of a round that was left."""
         while True:
             await asyncio.sleep(TICK)
-            self._sent.log.retry()
-            self._outbound.engine.tick()
-            self._connections.drain()
-            if not self._outbound.is_writing and self._sent.waits(self._outbound.engine):
-                self._outbound.write()
-            self._reports.end_before(self._venue.rounds.now.number)
+            with going_on("fix: the clock of its sessions"):
+                self._go_by_clock()
+
+    def _go_by_clock(self) -> None:
+        """What a second brings."""
+        self._sent.log.retry()
+        self._outbound.engine.tick()
+        self._connections.drain()
+        if not self._outbound.is_writing and self._sent.waits(self._outbound.engine):
+            self._outbound.write()
+        self._reports.end_before(self._venue.rounds.now.number)
 
     def _start(self, work: "Coroutine[Any, Any, None]") -> "asyncio.Task[None]":
         """Begins a task, which ends with the front; a fault of one ends the front."""
@@ -242,7 +249,10 @@ class Front:
             with contextlib.suppress(RuntimeError):
                 self._outbound.engine.log_out(number, ENDS)
         self._connections.flush()
-        with contextlib.suppress(TimeoutError):
+        with (
+            ending.until_done(self._connections.name),
+            contextlib.suppress(TimeoutError),
+        ):
             async with asyncio.timeout(CLOSE_SECONDS):
                 await self._outbound.written()
         self._end()

@@ -5,7 +5,7 @@ import logging
 from collections.abc import Callable, Mapping
 
 from callauction.fix.connections import Connections
-from callauction.fix.orders import Orders, Report
+from callauction.fix.orders import SAID, Orders, Report
 from callauction.fix.seats import Seat
 from callauction.fix.tags import Pairs, Tag, is_recent, now
 from callauction.fix.uncrosses import seen_at
@@ -46,18 +46,18 @@ class Stream:
     @property
     def is_late(self) -> bool:
         """Whether an entry wasn't sent yet."""
-        return self._place < self.board.engine.count
+        return self._place < self.board.engine.journal.count
 
     async def until_now(self) -> None:
         """Waits until all entries so far were sent."""
         while self.is_late:
             reached: asyncio.Future[None] = asyncio.get_running_loop().create_future()
-            self._waiting.append((self.board.engine.count, reached))
+            self._waiting.append((self.board.engine.journal.count, reached))
             await reached
 
     def end_before(self, number: int) -> None:
         """Sends what ends with the board, where that is of a round before this one."""
-        is_behind = self.board.identity.round < number and self._place >= self.board.engine.count
+        is_behind = self.board.identity.round < number and not self.is_late
         for report in self.orders.over() if is_behind else ():
             self._tell(report)
 
@@ -74,16 +74,19 @@ class Stream:
             self._reach(entry.place)
 
     def _entered(self, message: Message, entry: Entry) -> None:
-        """Sends what the entry of a member came to."""
-        self._tell(self.orders.take(message, entry))
+        """Sends what the entry of a member came to, but that it is refused what the venue itself
+        asked for, as the order had ended before.
+        """
+        report = self.orders.take(message, entry)
+        if not (SAID in message.note and entry.reply.startswith("refused")):
+            self._tell(report)
         self._reach(entry.place)
 
     async def _uncrossed(self, place: int) -> None:
         """Sends what an uncross did."""
         while True:
             try:
-                asked = self.board, self._program, place, self._trades
-                seen = await asyncio.to_thread(seen_at, *asked)
+                seen = await seen_at(self.board, self._program, place, self._trades)
                 break
             except DownloadError as fault:
                 NOTICES.error("what %s did isn't known yet: %s", self.orders.event(place), fault)

@@ -292,7 +292,7 @@ class Seat:
         time = given.get(Tag.TRANSACT_TIME if is_resend else Tag.ORIG_SENDING_TIME)
         if time is None or (is_resend and given[Tag.CL_ORD_ID] in self.clients.numbers):
             return
-        if seconds_of(time) + self.behind < self.venue.starts.began - ROUNDED:
+        if seconds_of(time) + self.behind < self.venue.past.began - ROUNDED:
             raise SeatError(OTHER, MADE_BEFORE if is_resend else OTHER_DAY)
 
     def refuse_type(self, given: Given, event: str) -> None:

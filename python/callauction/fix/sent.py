@@ -29,6 +29,7 @@ MOST_AT_ONCE = 16
 """How many sessions have their turn, and how many reports wait, before the log, the program and the
 clients are given what there is.
 """
+FAILED = "what it was to be sent couldn't be given to it"
 Outgoing = tuple[int, bytes, int, bool]
 """What is to be sent: on which connection, the bytes, up to which number, whether it ends then."""
 New = tuple[int, bytes, bool]
@@ -233,15 +234,15 @@ class Outbound:
         if number in self._held or (wire.seat and not self.sent.is_safe(wire.seat.session, last)):
             self._held.setdefault(number, []).append(those)
         else:
-            wire.send(data, is_last)
+            give(wire, data, is_last)
 
     # ---- what is written
 
     def write(self) -> None:
         """Writes what sessions were sent, and sends then what waits for that."""
-        self.is_writing = True
         seats = (it for it in self.seats.values() if not it.epoch.owed and it not in self.beginning)
         self.sent.write(self.engine, {it.session: it.since for it in seats}, self._written)
+        self.is_writing = True
 
     def _written(self) -> None:
         """What was to be written is."""
@@ -269,6 +270,15 @@ class Outbound:
             path = self.sent.log.path
             NOTICES.error("fix halted: %s can't be written: %s", path, fault.strerror)
         self._has_failed = True
+
+
+def give(wire: "Wire", data: bytes, is_last: bool) -> None:
+    """Sends bytes on a connection; a fault of it ends it, and is nobody else's matter."""
+    try:
+        wire.send(data, is_last)
+    except Exception:
+        NOTICES.critical("fix: a connection of %s has failed", wire.address, exc_info=True)
+        asyncio.get_running_loop().call_soon(wire.cut, FAILED)
 
 
 def comp_id_of(session: str) -> str:

@@ -68,6 +68,8 @@ const std::set<std::string> commands = {"D", "F", "G", "q"};  // of these, those
 const std::set<std::string> passing_types = {"W", "X", "h"};  // what isn't sent again
 const std::set<int> of_parties = {447, 448, 452, 523, 802, 803};  // the tags of a row of NoPartyIDs
 const FIX::ApplVerID version("9");  // that of FIX.5.0SP2, of which messages over FIXT are
+const char* const wanted_version = ", and this session's is 9 (FIX.5.0SP2)";
+const int other_version = 18;  // a SessionRejectReason of the standard that QuickFIX hasn't
 const char* const reject = "3";
 const char* const reject_again = "U3";  // it is sent again, which QuickFIX does with no message of the session
 const int cancels_on_disconnect = 8013;  // Y in a Logon: CancelOrdersOnDisconnect
@@ -189,9 +191,12 @@ const char* said_of(const Slip& slip) {
   switch (slip.reason) {
     case FIX::SessionRejectReason_REQUIRED_TAG_MISSING: return FIX::SessionRejectReason_REQUIRED_TAG_MISSING_TEXT;
     case FIX::SessionRejectReason_INVALID_TAG_NUMBER: return FIX::SessionRejectReason_INVALID_TAG_NUMBER_TEXT;
+    case FIX::SessionRejectReason_TAG_SPECIFIED_WITHOUT_A_VALUE:
+      return FIX::SessionRejectReason_TAG_SPECIFIED_WITHOUT_A_VALUE_TEXT;
     case FIX::SessionRejectReason_VALUE_IS_INCORRECT: return FIX::SessionRejectReason_VALUE_IS_INCORRECT_TEXT;
     case FIX::SessionRejectReason_TAG_APPEARS_MORE_THAN_ONCE:
       return FIX::SessionRejectReason_TAG_APPEARS_MORE_THAN_ONCE_TEXT;
+    case other_version: return "Invalid or unsupported application version";
     default: return FIX::SessionRejectReason_SENDINGTIME_ACCURACY_PROBLEM_TEXT;
   }
 }
@@ -218,6 +223,8 @@ bool is_first_later(const FIX::Header& head) {
 Slip slip_of(const FIX::Header& head, bool is_expected, bool is_back) {
   for (const int tag : {FIX::FIELD::SenderCompID, FIX::FIELD::TargetCompID, FIX::FIELD::SendingTime})
     if (!head.isSetField(tag)) return {tag, FIX::SessionRejectReason_REQUIRED_TAG_MISSING};
+  if (head.getField(FIX::FIELD::MsgType).empty())
+    return {FIX::FIELD::MsgType, FIX::SessionRejectReason_TAG_SPECIFIED_WITHOUT_A_VALUE};
   const bool is_again = head.isSetField(FIX::FIELD::PossDupFlag) && head.getField(FIX::FIELD::PossDupFlag) == "Y";
   if (!is_expected || !is_again || head.getField(FIX::FIELD::MsgType) == "4") return {};
   const int first = FIX::FIELD::OrigSendingTime;
@@ -909,10 +916,19 @@ class Engine : public FIX::Application, FIX::LogFactory {
     wire.again = Again();
   }
 
-  // Whether a message has in its head what each must have, as far as a look says, and isn't sent again.
+  // Whether a message has in its head what each must have, as far as a look says, names no version, and isn't sent
+  // again.
   static bool has_head(const std::string& text) {
+    if (type_of(text).empty()) return false;
     for (const char* tag : {"\00149=", "\00152=", "\00156="}) if (text.find(tag) == std::string::npos) return false;
-    return is_count(value_of(text, "34")) && value_of(text, "43") != "Y";
+    return is_count(value_of(text, "34")) && value_of(text, "43") != "Y" && value_of(text, "1128").empty();
+  }
+
+  // Whether a message that isn't the session's own names another version than the session's.
+  static bool is_of_other_version(const FIX::Session& session, const std::string& text) {
+    const std::string named = value_of(text, "1128");
+    if (named.empty() || named == version.getValue() || !session.getSessionID().isFIXT()) return false;
+    return !FIX::Message::isAdminMsgType(type_of(text));
   }
 
   // Whether QuickFIX is to have a message: not one that has no number, which ends the session, nor one that has another
@@ -1013,7 +1029,8 @@ class Engine : public FIX::Application, FIX::LogFactory {
     const int place = FIX::IntConvertor::convert(number);
     const bool is_expected = place == wire.session->getExpectedTargetNum();
     const bool is_back = is_set_back(*wire.session, head);
-    const Slip slip = unread.tag ? unread : slip_of(head, is_expected, is_back);
+    Slip slip = unread.tag ? unread : slip_of(head, is_expected, is_back);
+    if (!slip.tag && is_of_other_version(*wire.session, text)) slip = {FIX::FIELD::ApplVerID, other_version};
     if (!is_expected && is_out_of_turn(wire, text, place, slip.tag)) return false;
     const std::string type = type_of(text);
     const bool is_checked = type != "2" && type != "4" && type != "5";  // by QuickFIX, which would end the session
@@ -1031,12 +1048,11 @@ class Engine : public FIX::Application, FIX::LogFactory {
   }
 
   // Whether a message of a member that is refused has come out of its turn, as it comes again or came before: of one
-  // that is too early, what is before it is asked for.
+  // that is too early, what is before it is asked for, and one that is too late and isn't sent again ends the session.
   bool is_out_of_turn(Wire& wire, const std::string& text, int number, bool has_slip) {
-    const bool is_early = number > wire.session->getExpectedTargetNum();
-    if (FIX::Message::isAdminMsgType(type_of(text)) || (!is_early && value_of(text, "43") != "Y")) return false;
-    if (!has_slip && is_known(*wire.session, text)) return false;
-    if (is_early) ask_before(wire, number);
+    if (FIX::Message::isAdminMsgType(type_of(text)) || (!has_slip && is_known(*wire.session, text))) return false;
+    if (number > wire.session->getExpectedTargetNum()) ask_before(wire, number);
+    else if (value_of(text, "43") != "Y") hand(wire, gap_of(wire, number, number + 1));
     return true;
   }
 
@@ -1070,7 +1086,7 @@ class Engine : public FIX::Application, FIX::LogFactory {
     FIX::Message message;
     message.getHeader().setField(FIX::MsgType(reject));
     message.setField(FIX::FIELD::RefSeqNum, number);
-    message.setField(FIX::FIELD::RefMsgType, type);
+    if (!type.empty()) message.setField(FIX::FIELD::RefMsgType, type);
     if (slip.tag > 0) message.setField(FIX::RefTagID(slip.tag));
     message.setField(FIX::SessionRejectReason(slip.reason));
     message.setField(FIX::Text(text));
@@ -1118,7 +1134,10 @@ class Engine : public FIX::Application, FIX::LogFactory {
     const std::string first = head.getField(number), often = message.isSetField(beats) ? message.getField(beats) : "";
     if (!first.empty() && !is_count(first)) return named(FIX::IncorrectDataFormat(number, first), number);
     const bool is_whole = !often.empty() && often.find_first_not_of("-0123456789") == std::string::npos;
-    return is_whole && !is_count(often) ? "HeartBtInt (108) is " + often + ", and may be" + seconds : "";
+    if (is_whole && !is_count(often)) return "HeartBtInt (108) is " + often + ", and may be" + seconds;
+    const std::string named = head.getField(FIX::FIELD::BeginString) == "FIXT.1.1" ? shown(text, "1137") : "";
+    const bool is_other = !named.empty() && named != version.getValue();
+    return is_other ? "DefaultApplVerID (1137) is " + named + wanted_version : "";
   }
 
   // Sends a Logout that says why the connection ends: false.

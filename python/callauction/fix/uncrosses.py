@@ -1,8 +1,8 @@
 """What an uncross did, as the program shows it: a second run of it, on the journal's commands up to
 there, shows the open orders before and after, the trades, and where the day is.
 """
+import asyncio
 import dataclasses
-import subprocess
 from collections.abc import Sequence
 
 from callauction.venue import replay, views
@@ -29,31 +29,35 @@ class Seen:
     is_over: bool
 
 
-def seen_at(board: Instrument, program: str, place: int, known: int) -> Seen:
+async def seen_at(board: Instrument, program: str, place: int, known: int) -> Seen:
     """What the uncross at this place of the journal, from 1, did, once the program has said it;
-    `known` trades were made before. A journal may be long. Raises DownloadError.
+    `known` trades were made before. A journal may be long, and others have their turn meanwhile.
+    Raises DownloadError.
     """
+    records = await asyncio.to_thread(asked_of, board, place, known)
+    words = [program, "--live", *RESERVE, *board.terms.words()]
+    try:
+        async with asyncio.timeout(MOST_SECONDS):
+            said = await replay.output(words, records)
+    except TimeoutError:
+        raise DownloadError(f"the program hasn't ended for {MOST_SECONDS:g} s") from None
+    except OSError as fault:
+        raise DownloadError(str(fault)) from None
+    return await asyncio.to_thread(seen_in, said)
+
+
+def asked_of(board: Instrument, place: int, known: int) -> list[str]:
+    """What the program is asked for that. Raises DownloadError."""
     commands = [record for record, _ in replay.entries_of(board)[:place]]
     asked = ["show,orders", commands[-1], "show,orders", f"show,trades,{known + 1}", "show,day"]
-    words = [program, "--live", *RESERVE, *board.terms.words()]
-    said = output(words, [*commands[:-1], *asked])
+    return [*commands[:-1], *asked]
+
+
+def seen_in(said: Sequence[str]) -> Seen:
+    """What the program has said of an uncross."""
     before, after, trades, day = [*replay.shows_of(said)]
     is_over = views.DayView.of(day[0]).auction == OVER
     return Seen(open_of(before), open_of(after), views.trades_of(trades), is_over)
-
-
-def output(words: Sequence[str], records: Sequence[str]) -> list[str]:
-    """The lines that the program prints of these records. Raises DownloadError."""
-    text = "".join(f"{it}\n" for it in records)
-    try:
-        ran = subprocess.run(
-            words, input=text, capture_output=True, encoding="ascii", timeout=MOST_SECONDS
-        )
-    except (OSError, subprocess.TimeoutExpired) as fault:
-        raise DownloadError(str(fault)) from None
-    if ran.returncode != 0:
-        raise DownloadError(ran.stderr.strip().partition("\n")[0])
-    return ran.stdout.splitlines()
 
 
 def open_of(lines: Sequence[str]) -> Open:

@@ -24,6 +24,8 @@ ANSWER_SECONDS = 5.0
 """How long the connection of a session that logs on once more may say nothing: then nobody is there
 any more, and the next Logon is taken.
 """
+CLOSE_SECONDS = 5.0
+"""How long a connection that was ended may stay where its client doesn't end it too."""
 UNREAD = f"it left more than {MOST_UNSENT} bytes unread"
 SILENT = f"it said nothing for {ANSWER_SECONDS:g} s, and its session logs on once more"
 NOTICES = logging.getLogger("callauction.venue")
@@ -114,6 +116,8 @@ class Wire(asyncio.Protocol):
 
     def send(self, data: bytes, is_last: bool) -> None:
         """Sends bytes; nothing more is said after the last ones."""
+        if self._transport.is_closing():
+            return
         if self._is_full:
             self._is_full = False
             self._host.news.set()
@@ -121,7 +125,7 @@ class Wire(asyncio.Protocol):
         if self._transport.get_write_buffer_size() > MOST_UNSENT:
             self.cut(UNREAD)
         elif is_last:
-            self._transport.close()
+            self.end()
         elif self._is_left:
             asyncio.get_running_loop().call_soon(self.go_on)
 
@@ -152,8 +156,19 @@ class Wire(asyncio.Protocol):
         self._is_asked = False
 
     def end(self) -> None:
-        """Ends once all was sent."""
-        self._transport.close()
+        """Ends once all was sent, and soon after that where its client doesn't end it too."""
+        if not self._transport.is_closing():
+            self._transport.close()
+            asyncio.get_running_loop().call_later(CLOSE_SECONDS, self._check_ended)
+
+    def _check_ended(self) -> None:
+        """Ends at once, where all was sent and it is still there."""
+        if self.number not in self._host.wires:
+            return
+        if self._transport.get_write_buffer_size():
+            asyncio.get_running_loop().call_later(CLOSE_SECONDS, self._check_ended)
+        else:
+            self._transport.abort()
 
     def cut(self, why: str) -> None:
         """Ends at once, for this reason."""

@@ -1,7 +1,6 @@
 """The command line of a market: `python3 -m callauction.market audit DIR`; --help has the rest."""
 import argparse
 import io
-import logging
 import pathlib
 import sys
 
@@ -88,7 +87,6 @@ def arguments() -> argparse.ArgumentParser:
 def main() -> int:
     """Runs the command line of a market; answers the status."""
     asked = arguments().parse_args()
-    logging.disable(logging.CRITICAL)  # Dask logs lost workers; here rows name them
     for stream in (sys.stdout, sys.stderr):
         if isinstance(stream, io.TextIOWrapper):
             stream.reconfigure(errors="backslashreplace")

@@ -2,7 +2,6 @@
 it is started and limited by calls of the system, and not by Popen and the command prlimit, which
 take longer than the program takes on a small file.
 """
-import contextlib
 import functools
 import os
 import resource
@@ -59,8 +58,6 @@ class Child:
         """The status with which it ends, below 0 for a signal. Raises StillRuns where it hasn't
         ended at this moment of time.monotonic.
         """
-        with contextlib.suppress(OSError):
-            self.watch(deadline)
         while self.status is None:
             ended, status = os.waitpid(self.process, os.WNOHANG)
             if ended:
@@ -68,14 +65,18 @@ class Child:
             elif time.monotonic() >= deadline:
                 raise StillRuns
             else:
-                time.sleep(ENDED_LATE)
+                self.watch(deadline)
         return self.status
 
     def watch(self, deadline: float) -> None:
-        """Returns when it has ended, or at the deadline. Raises OSError where the kernel doesn't
-        tell: before Linux 5.3, and where a sandbox forbids the call.
+        """Returns when it has ended, or at the deadline. Where the kernel doesn't tell, before
+        Linux 5.3 and where a sandbox forbids the call, it returns after a while.
         """
-        end = os.pidfd_open(self.process)
+        try:
+            end = os.pidfd_open(self.process)
+        except OSError:
+            time.sleep(ENDED_LATE)
+            return
         try:
             poll = select.poll()
             poll.register(end, select.POLLIN)

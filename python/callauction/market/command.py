@@ -1,15 +1,14 @@
 """What the command line does: see examine and split_table."""
 import argparse
 import contextlib
+import glob
 import os
 import pathlib
 import re
 import sys
 import time
 from collections.abc import Iterable, Iterator
-from typing import TYPE_CHECKING, NoReturn
-
-from tqdm import tqdm
+from typing import TYPE_CHECKING
 
 from callauction import finder
 from callauction.market.expected import compared_with, read_list
@@ -17,9 +16,8 @@ from callauction.market.files import InUse, locked, with_end
 from callauction.market.log import RunLog
 from callauction.market.names import SUFFIX, line_of
 from callauction.market.processes import Processes
-from callauction.market.rows import Row, write_rows
+from callauction.market.rows import Found, Row, write_rows
 from callauction.market.runs import AUDIT, files_of
-from callauction.market.splitting import TableError, split
 from callauction.market.summary import Summary
 from callauction.market.task import MIB, Request
 from callauction.market.workers import MarketError, Workers, connected
@@ -47,8 +45,10 @@ def journals(paths: Iterable[str]) -> dict[str, str]:
     """
     found: list[str] = []
     for path in map(pathlib.Path, paths):
-        those = path.glob(f"*{SUFFIX}") if path.is_dir() else [path]
-        found += [str(each) for each in those if not each.name.startswith(".")]
+        if path.is_dir():
+            found += [os.path.join(path, name) for name in glob.glob(f"*{SUFFIX}", root_dir=path)]
+        elif not path.name.startswith("."):
+            found.append(str(path))
     if not found:
         raise MarketError(f"there is no {SUFFIX} file in {', '.join(paths)}")
     return files_of(found)
@@ -69,7 +69,8 @@ def checked_output(path: pathlib.Path, asked: argparse.Namespace, files: Iterabl
     if not path.parent.is_dir():
         raise MarketError(f"no result can be written to {path}")
     place = path.parent.resolve() / path.name
-    if str(place) in {os.path.realpath(each) for each in files}:
+    likely = [each for each in files if os.path.basename(each) == path.name or os.path.islink(each)]
+    if any(os.path.realpath(each) == str(place) for each in likely):
         raise MarketError(f"{path} would be the result and is a file of the market")
     folders = [os.path.realpath(each) for each in asked.paths if os.path.isdir(each)]
     if str(place.parent) in folders:
@@ -120,6 +121,9 @@ def workers_of(asked: argparse.Namespace) -> Iterator[Workers]:
     if not asked.scheduler:
         yield Processes(asked.workers)
         return
+    import logging
+
+    logging.disable(logging.CRITICAL)  # Dask logs lost workers; here rows name them
     with connected(asked.scheduler, security) as cluster:
         yield cluster
 
@@ -142,10 +146,17 @@ def request_of(asked: argparse.Namespace) -> Request:
 # ---- the run
 
 
-def show(files: dict[str, str], taken: int) -> "tqdm[NoReturn]":
-    """A progress bar on standard error, if that is a terminal."""
-    is_shown = sys.stderr.isatty()
-    return tqdm(total=len(files), initial=taken, unit=" instruments", disable=not is_shown)
+def shown(results: Iterator[list[Found]], all_files: int, taken: int) -> Iterator[list[Found]]:
+    """The same results, behind a progress bar on standard error, if that is a terminal."""
+    if not sys.stderr.isatty():
+        yield from results
+        return
+    from tqdm import tqdm
+
+    with tqdm(total=all_files, initial=taken, unit=" instruments") as bar:
+        for found in results:
+            yield found
+            bar.update(len(found))
 
 
 def log_path(output: pathlib.Path) -> pathlib.Path:
@@ -173,14 +184,12 @@ def run_market(asked: argparse.Namespace, files: dict[str, str], rows: list[Row]
             stack.enter_context(log.begun(taken))
             for fault in log.faults:
                 warn(f"{log.path}: {fault}")
-        bar = stack.enter_context(show(files, len(taken)))
         done = {each.row.instrument for each in taken}
         left = [path for instrument, path in files.items() if instrument not in done]
-        for found in crew.results(left, request):
+        for found in shown(crew.results(left, request), len(files), len(taken)):
             if log:
                 log.add(found)
             summary.add(each.row for each in found)
-            bar.update(len(found))
         summary.seconds = time.perf_counter() - begin
         if asked.output:
             write_rows(summary.rows, asked.output)
@@ -220,6 +229,8 @@ def examine(asked: argparse.Namespace) -> int:
 
 def split_table(asked: argparse.Namespace) -> int:
     """Writes a journal for each instrument of a table, and prints how many: the status."""
+    from callauction.market.splitting import TableError, split
+
     try:
         paths = split(
             asked.table, asked.by, days=asked.days, ignore=asked.ignore, folder=asked.into

@@ -2,21 +2,16 @@
 time.
 """
 import contextlib
-import datetime
 import fcntl
-import hashlib
 import os
 import pathlib
 import pwd
-import secrets
-import socket
+import time
 from collections.abc import Iterator
 from typing import IO
 
 from callauction.market.names import line_of
 
-BLOCK = 1 << 20
-"""How many bytes are read at a time."""
 OWN = 0o600
 """The mode of a file that only its owner may read and write."""
 OF_OTHERS = 0o022
@@ -29,7 +24,7 @@ class InUse(Exception):
 
 def fresh(folder: pathlib.Path) -> pathlib.Path:
     """A name in a folder that nobody can foresee."""
-    return folder / f".callauction-{secrets.token_hex(16)}"
+    return folder / f".callauction-{os.urandom(16).hex()}"
 
 
 def created(folder: pathlib.Path, mode: int) -> tuple[pathlib.Path, IO[bytes]]:
@@ -73,9 +68,8 @@ def locked(result: pathlib.Path) -> Iterator[None]:
     file = take_lock(path, result)
     try:
         os.ftruncate(file, 0)
-        user, now = user_of(os.getuid()), datetime.datetime.now().astimezone()
-        owner = f"process {os.getpid()} of {user} on {socket.gethostname()} since {now:%F %T %z}"
-        os.write(file, owner.encode())
+        user, host, now = user_of(os.getuid()), os.uname().nodename, time.strftime("%F %T %z")
+        os.write(file, f"process {os.getpid()} of {user} on {host} since {now}".encode())
         yield
     finally:
         with contextlib.suppress(FileNotFoundError):
@@ -121,12 +115,3 @@ def is_own(file: int) -> bool:
     """
     found = os.fstat(file)
     return found.st_uid == os.geteuid() and not found.st_mode & OF_OTHERS
-
-
-def digest_of(file: IO[bytes]) -> str:
-    """The SHA-256 of an open file, from its beginning on, in hexadecimal digits. Raises OSError."""
-    file.seek(0)
-    found = hashlib.sha256()
-    while block := file.read(BLOCK):
-        found.update(block)
-    return found.hexdigest()

@@ -1,12 +1,12 @@
 """The forms in which the program is run on a file, and what of its output goes into a row."""
-import dataclasses
 import re
 from collections.abc import Callable, Iterator
-from typing import Any, Protocol
+from typing import Any, NamedTuple, Protocol
 
-from callauction.market.rows import OVER
-from callauction.words import AUCTIONS
-
+AUCTIONS = "opening", "intraday", "closing"
+"""The auctions of a day in their order, as in callauction.words, which takes long to import."""
+OVER = "over"
+"""The state of a day whose closing auction ended."""
 BLOCK = 1 << 18
 """How many bytes of the program's output are looked at together."""
 AUDIT_END = 5
@@ -55,8 +55,7 @@ class OutputFault(Exception):
     """What was printed isn't of the form that was asked for."""
 
 
-@dataclasses.dataclass(frozen=True, slots=True)
-class Form:
+class Form(NamedTuple):
     """A form: the words that ask the program for it, what reads the output, what the name of a file
     that keeps the output ends with, and how many shares of memory it needs.
     """

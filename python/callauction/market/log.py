@@ -1,5 +1,4 @@
 """What a run keeps of its rows as they come, so that another run goes on where it stopped."""
-import concurrent.futures
 import contextlib
 import csv
 import hashlib
@@ -7,9 +6,9 @@ import os
 import pathlib
 from collections.abc import Iterable, Iterator, Sequence
 
-from callauction.market.files import OWN, created, digest_of, is_own
+from callauction.market.files import OWN, created, is_own
 from callauction.market.rows import COLUMNS, Found, Row, cells, read_cell, record_of
-from callauction.market.task import ProgramFault, Request, opened
+from callauction.market.task import ProgramFault, Request, digest_of, opened
 
 VERSION = "2"
 """Of the log's form."""
@@ -70,6 +69,8 @@ class RunLog:
         """What an earlier run found of files that needn't be run again: those without a fault that
         are the same byte for byte. Raises OSError where the log can't be read.
         """
+        import concurrent.futures
+
         known = self.read() if self.path.exists() else {}
         candidates = [(path, known[name]) for name, path in files.items() if name in known]
         with concurrent.futures.ThreadPoolExecutor() as pool:

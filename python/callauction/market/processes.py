@@ -2,25 +2,27 @@
 after another. Nothing listens; what is asked and found goes through pipes.
 """
 import collections
+import contextlib
 import os
 import pickle
-import queue
+import select
 import signal
 import subprocess
 import sys
-import threading
 from collections.abc import Iterator
 
 from callauction import finder
-from callauction.market.names import instrument_of
-from callauction.market.rows import Found, Row
-from callauction.market.task import Request
+from callauction.market.rows import Found, found_of
+from callauction.market.task import Answer, Request
+from callauction.market.worker import LENGTH
 from callauction.market.workers import WORKERS_ENDED, MarketError, largest_first
 
 WORKER = "callauction.market.worker"
 """The module that a worker runs."""
 AHEAD = 3
 """How many files a worker has at once: one that the program runs on, one before, one after."""
+BLOCK = 1 << 16
+"""How many bytes of answers are read at a time."""
 
 
 class Worker:
@@ -28,45 +30,53 @@ class Worker:
     runs, and whose end ends both. Raises OSError where it can't be started.
     """
 
-    def __init__(self, request: Request) -> None:
+    def __init__(self, request: Request, is_alone: bool) -> None:
+        """A worker is alone with a file on which another one ended."""
         paths = os.pathsep.join(filter(None, sys.path))
         self.process = subprocess.Popen(
             [sys.executable or "python3", "-P", "-m", WORKER],
             stdin=subprocess.PIPE,
             stdout=subprocess.PIPE,
+            bufsize=0,
             env={**os.environ, "PYTHONPATH": paths},
             start_new_session=True,
         )
+        assert self.process.stdin is not None and self.process.stdout is not None
+        self.asked, self.out = self.process.stdin, self.process.stdout
+        self.name = f"{os.uname().nodename}:{self.process.pid}:{self.process.pid}"
+        self.is_alone = is_alone
+        self.paths: list[str] = []
+        """The files that it has."""
+        self.rest = b""
+        """A part of an answer."""
         self.send(request)
 
     def send(self, value: object) -> None:
-        """Gives the process a value. One that has ended takes none, and what is asked of it next
-        says so.
-        """
-        assert self.process.stdin is not None
-        try:
-            pickle.dump(value, self.process.stdin)
-            self.process.stdin.flush()
-        except BrokenPipeError:
-            pass
+        """Gives the process a value. One that has ended takes none, which is heard from it next."""
+        with contextlib.suppress(BrokenPipeError):
+            self.asked.write(pickle.dumps(value))
 
-    def answer(self) -> tuple[str, Found]:
-        """A path that it was given, and what is found of its file. Raises EOFError where the
-        process ends before.
-        """
-        assert self.process.stdout is not None
-        try:
-            found: tuple[str, Found] = pickle.load(self.process.stdout)
-        except pickle.UnpicklingError as fault:  # a part of an answer
-            raise EOFError(str(fault)) from None
+    def give(self, path: str) -> None:
+        """Gives the process a file."""
+        self.paths.append(path)
+        self.send(path)
+
+    def answers(self) -> list[Answer]:
+        """What it says since this was asked. Raises EOFError where it has ended."""
+        text = os.read(self.out.fileno(), BLOCK)
+        if not text:
+            raise EOFError
+        self.rest += text
+        found = []
+        while len(self.rest) >= (end := LENGTH + int.from_bytes(self.rest[:LENGTH], "little")):
+            found.append(pickle.loads(self.rest[LENGTH:end]))
+            self.rest = self.rest[end:]
         return found
 
     def end(self) -> None:
-        """Ends the process, and the program that it runs."""
-        try:
+        """Ends the process, and the program that it runs, and waits until it has ended."""
+        with self.process, contextlib.suppress(ProcessLookupError):
             os.killpg(self.process.pid, signal.SIGKILL)
-        except ProcessLookupError:
-            pass
 
 
 class Crew:
@@ -75,93 +85,80 @@ class Crew:
     def __init__(self, request: Request, files: list[str]) -> None:
         self.request = request
         self.left = collections.deque(path for _, path in largest_first(files))
-        self.results: "queue.SimpleQueue[Found | Exception]" = queue.SimpleQueue()
-        self.lock = threading.Lock()
-        self.all: set[Worker] = set()
-        self.is_over = False
-
-    def work(self) -> None:
-        """Has files examined by one worker, or by another one where that ends, until none is left.
-        What is found is among the results, and at last what keeps it from going on.
+        self.suspects: collections.deque[str] = collections.deque()
+        """Files of workers that ended. Each gets one of its own, so that none has to answer for
+        another one.
         """
-        try:
-            while self.left:
-                self.examine_some()
-        except Exception as fault:
-            self.results.put(fault)
+        self.all: dict[int, Worker] = {}
+        """The workers by what is read of them."""
+        self.poll = select.poll()
 
-    def examine_some(self) -> None:
-        """Has files examined by a new worker until none is left, or it ends. Each file that it had
-        then is examined by a worker of its own, so that none has to answer for another one. Raises
-        MarketError where there can't be a worker.
+    def start(self, count: int) -> None:
+        """Starts a worker with this many files, fewer where no more are left, and none where none
+        is. Raises MarketError.
         """
-        worker = self.started()
-        asked: list[str] = []
+        files = self.suspects or self.left
+        if not files:
+            return
         try:
-            self.ask(worker, asked, AHEAD)
-            while asked:
-                path, found = worker.answer()
-                asked.remove(path)
-                self.results.put(found)
-                self.ask(worker, asked, 1)
-        except EOFError:
-            self.dismiss(worker)
-            for path in asked:
-                self.results.put(self.examine(path))
-
-    def ask(self, worker: Worker, asked: list[str], count: int) -> None:
-        """Gives a worker this many more files, and a None where there are no more."""
-        for _ in range(count):
-            try:
-                asked.append(self.left.popleft())
-            except IndexError:
-                worker.send(None)
-                return
-            worker.send(asked[-1])
-
-    def examine(self, path: str) -> Found:
-        """What is found of a file by a worker that has no other. Raises MarketError."""
-        worker = self.started()
-        worker.send(path)
-        worker.send(None)
-        try:
-            return worker.answer()[1]
-        except EOFError:
-            return Found(Row(instrument_of(path), fault=WORKERS_ENDED))
-        finally:
-            self.dismiss(worker)
-
-    def started(self) -> Worker:
-        """A new worker; one that comes after the run's end ends at once. Raises MarketError."""
-        try:
-            worker = Worker(self.request)
+            worker = Worker(self.request, files is self.suspects)
         except OSError as fault:
             raise MarketError(f"a worker can't be started: {fault.strerror}") from fault
-        with self.lock:
-            self.all.add(worker)
-            if self.is_over:
-                worker.end()
-        return worker
+        self.all[worker.out.fileno()] = worker
+        self.poll.register(worker.out, select.POLLIN)
+        worker.give(files.popleft())
+        for _ in range(1, count):
+            self.ask(worker)
 
-    def dismiss(self, worker: Worker) -> None:
-        """Ends a worker, and waits until it has ended."""
+    def ask(self, worker: Worker) -> None:
+        """Gives a worker one more file, and a None where there are no more for it."""
+        if self.left and not worker.is_alone:
+            worker.give(self.left.popleft())
+        else:
+            worker.send(None)
+
+    def heard(self, worker: Worker) -> list[Found]:
+        """What a worker says, which gets more files; of one that ended see ended. Raises
+        MarketError.
+        """
+        try:
+            answers = worker.answers()
+        except EOFError:
+            return self.ended(worker)
+        for path, *_ in answers:
+            worker.paths.remove(path)
+            self.ask(worker)
+        return [found_of(answer, worker.name) for answer in answers]
+
+    def ended(self, worker: Worker) -> list[Found]:
+        """What is known of the files of a worker that ended, which another one follows. Raises
+        MarketError.
+        """
+        self.poll.unregister(worker.out)
+        del self.all[worker.out.fileno()]
         worker.end()
-        worker.process.communicate()
-        with self.lock:
-            self.all.discard(worker)
+        if not worker.is_alone:
+            self.suspects += worker.paths
+        self.start(AHEAD)
+        lost = worker.paths if worker.is_alone else []
+        return [found_of((path, {"fault": WORKERS_ENDED}, None, ""), "") for path in lost]
 
-    def end(self) -> None:
-        """Ends all workers, and those that are still to be started."""
-        self.left.clear()
-        with self.lock:
-            self.is_over = True
-            for worker in self.all:
+    def results(self, count: int) -> Iterator[list[Found]]:
+        """What is found of the files by this many workers. Raises MarketError."""
+        missing = len(self.left)
+        try:
+            for _ in range(count):
+                self.start(1)
+            for worker in [*self.all.values()] * (AHEAD - 1):
+                self.ask(worker)
+            while missing:
+                for number, _ in self.poll.poll():
+                    found = self.heard(self.all[number])
+                    missing -= len(found)
+                    yield found
+        finally:
+            for worker in self.all.values():
                 worker.end()
-
-    def leave(self) -> None:
-        """Waits for the workers, which have ended."""
-        for worker in [*self.all]:
-            self.dismiss(worker)
 
 
 class Processes:
@@ -178,19 +175,5 @@ class Processes:
             raise MarketError(f"there is no program: {fault}") from fault
 
     def results(self, files: list[str], request: Request) -> Iterator[list[Found]]:
-        """What was found of the files, one by one as they are done. Raises MarketError."""
-        crew = Crew(request, files)
-        threads = [threading.Thread(target=crew.work) for _ in files[: self.count]]
-        try:
-            for thread in threads:
-                thread.start()
-            for _ in files:
-                found = crew.results.get()
-                if isinstance(found, Exception):
-                    raise found
-                yield [found]
-        finally:
-            crew.end()
-            for thread in filter(threading.Thread.is_alive, threads):
-                thread.join()
-            crew.leave()
+        """What was found of the files, some at a time as they are done. Raises MarketError."""
+        return Crew(request, files).results(self.count)

@@ -9,14 +9,13 @@ from collections.abc import Iterable
 from typing import TYPE_CHECKING, Any
 
 from callauction.market.files import whole
-from callauction.market.names import guarded, unguarded
-from callauction.words import AUCTIONS
+from callauction.market.forms import OVER
+from callauction.market.names import guarded, instrument_of, line_of, unguarded
 
 if TYPE_CHECKING:
     import pandas
 
-OVER = "over"
-"""The state of a day whose closing auction ended."""
+    from callauction.market.task import Answer
 
 
 @dataclasses.dataclass(frozen=True, slots=True)
@@ -78,6 +77,14 @@ class Found:
     """The SHA-256 of the file, empty where it wasn't asked for."""
 
 
+def found_of(answer: "Answer", worker: str) -> Found:
+    """What this worker found of a file."""
+    path, columns, size, digest = answer
+    if "fault" in columns:
+        columns["fault"] = line_of(columns["fault"])
+    return Found(Row(instrument_of(path), **columns), worker, size, digest)
+
+
 COLUMNS = {field.name: field.type for field in dataclasses.fields(Row)}
 """The columns of a row with their types."""
 WRITTEN = [name for name in COLUMNS if name != "seconds"]
@@ -89,14 +96,7 @@ def cells(row: Row, names: Iterable[str]) -> list[object]:
     runs a text.
     """
     values = (getattr(row, name) for name in names)
-    return [cell_of(value) for value in values]
-
-
-def cell_of(value: object) -> object:
-    """The field of a record with this value."""
-    if isinstance(value, str):
-        return guarded(value)
-    return "" if value is None else value
+    return ["" if it is None else guarded(it) if isinstance(it, str) else it for it in values]
 
 
 def read_cell(name: str, cell: str) -> Any:

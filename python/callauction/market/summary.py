@@ -1,7 +1,8 @@
 """What is said of a whole market. See Summary."""
 from collections.abc import Iterable
 
-from callauction.market.rows import OVER, Row
+from callauction.market.forms import OVER
+from callauction.market.rows import Row
 from callauction.statuses import BAD_FILE, DONE, INCOMPLETE, UNLAWFUL
 
 MOST_NAMED = 20

@@ -1,23 +1,19 @@
-"""What a worker does: it runs the program on some files, one after the other. See examine_each."""
+"""What a worker does: it runs the program on some files, one after the other. See examine_each. A
+worker starts for each run of a market, so this imports little.
+"""
 import collections
 import contextlib
-import dataclasses
 import enum
+import hashlib
 import os
-import pathlib
 import select
 import signal
-import socket
 import stat
-import tempfile
-import threading
 import time
 from collections.abc import Generator, Iterable, Iterator
-from typing import IO
+from typing import IO, NamedTuple
 
-from callauction.finder import program
 from callauction.market.child import Child, StillRuns
-from callauction.market.files import digest_of, whole
 from callauction.market.forms import (
     BLOCK,
     FORMS,
@@ -28,8 +24,6 @@ from callauction.market.forms import (
     blocks_of,
     read_nothing,
 )
-from callauction.market.names import instrument_of, line_of
-from callauction.market.rows import Found, Row
 from callauction.statuses import DONE, INCOMPLETE, UNLAWFUL
 
 MIB = 1 << 20
@@ -49,8 +43,7 @@ some 100,000 entries.
 """
 
 
-@dataclasses.dataclass(frozen=True, slots=True)
-class Request:
+class Request(NamedTuple):
     """What is asked of each file. It is small, since it goes along with each task."""
 
     forms: tuple[str, ...]
@@ -70,7 +63,7 @@ class Request:
         """The request with the limits for a run in this form on a file of `size` bytes."""
         memory = self.memory or form.shares * (LEAST_MEMORY + MEMORY_OF_BYTE * size)
         seconds = self.seconds or LEAST_SECONDS + 60 * (size // BYTES_OF_MINUTE)
-        return dataclasses.replace(self, memory=memory, seconds=seconds)
+        return self._replace(memory=memory, seconds=seconds)
 
 
 class Step(enum.Enum):
@@ -95,8 +88,9 @@ def started(
     """The program in this form on an open file, within the request's memory. It is killed where the
     block is left before it ends. Raises ProgramFault where it can't be started.
     """
+    assert request.program is not None
     try:
-        child = Child([request.program or program(), *form.words], file, errors)
+        child = Child([request.program, *form.words], file, errors)
     except OSError as fault:
         raise ProgramFault(f"the program can't be started: {fault.strerror}") from fault
     with contextlib.closing(child):
@@ -142,7 +136,7 @@ def fault_of(status: int, errors: bytes, request: Request) -> str:
         return f"the program ended with status {status}"
     if lines[0] == NO_MEMORY and request.memory:
         return f"{NO_MEMORY}: it may have {request.memory // MIB} MiB"
-    return line_of(lines[0])
+    return lines[0]
 
 
 def read_run(
@@ -174,7 +168,7 @@ def run_form(
     ran. Raises ProgramFault, OutputFault, and OSError where its output can't be kept.
     """
     file.seek(0)
-    with tempfile.TemporaryFile() as errors:
+    with open(os.memfd_create("errors"), "w+b", 0) as errors:
         yield Step.START
         begin = time.perf_counter()
         with started(form, request, file, errors) as child:
@@ -199,6 +193,10 @@ def keeper(path: str, form: Form, request: Request) -> Iterator[IO[bytes] | None
     if request.into is None:
         yield None
         return
+    import pathlib
+
+    from callauction.market.files import whole
+
     name = f"{pathlib.PurePath(path).stem}.{form.suffix}"
     with whole(pathlib.Path(request.into, name)) as out:
         yield out
@@ -223,11 +221,24 @@ def stamp(file: IO[bytes]) -> tuple[int, int, int]:
     return found.st_size, found.st_mtime_ns, found.st_ctime_ns
 
 
-Examination = Generator[Step, None, Found]
+def digest_of(file: IO[bytes]) -> str:
+    """The SHA-256 of an open file, from its beginning on, in hexadecimal digits. Raises OSError."""
+    file.seek(0)
+    found = hashlib.sha256()
+    while block := file.read(MIB):
+        found.update(block)
+    return found.hexdigest()
+
+
+Answer = tuple[str, Columns, int | None, str]
+"""A file's path, columns of its row, its bytes, and its SHA-256 where that is asked for. After a
+fault there are no bytes and no SHA-256.
+"""
+Examination = Generator[Step, None, Answer]
 """The steps of the examination of one file, each of which says what the next one does."""
 
 
-def examine_file(path: str, request: Request, worker: str) -> Examination:
+def examine_file(path: str, request: Request) -> Examination:
     """What the program says of a file. Raises OSError, OutputFault, ProgramFault."""
     with opened(path) as file:
         before = stamp(file)
@@ -246,18 +257,18 @@ def examine_file(path: str, request: Request, worker: str) -> Examination:
             seconds += ran
         if stamp(file) != before:
             raise ProgramFault("the file was changed meanwhile")
-    return Found(Row(instrument_of(path), seconds=seconds, **columns), worker, size, digest)
+    return path, columns | {"seconds": seconds}, size, digest
 
 
-def examined(path: str, request: Request, worker: str) -> Examination:
+def examined(path: str, request: Request) -> Examination:
     """What the program says of a file; of a bad one its fault."""
     try:
-        return (yield from examine_file(path, request, worker))
+        return (yield from examine_file(path, request))
     except (ProgramFault, OutputFault) as fault:
         text = str(fault)
     except OSError as fault:
-        text = fault.strerror or line_of(str(fault))
-    return Found(Row(instrument_of(path), fault=text), worker)
+        text = fault.strerror or str(fault)
+    return path, {"fault": text}, None, ""
 
 
 class Turns:
@@ -268,75 +279,60 @@ class Turns:
     def __init__(self, paths: Iterable[str], request: Request) -> None:
         self.paths = iter(paths)
         self.request = request
-        self.worker = name_of_worker()
-        self.ready: collections.deque[tuple[str, Examination]] = collections.deque()
-        self.found: list[tuple[str, Found]] = []
+        self.ready: collections.deque[Examination] = collections.deque()
+        self.found: list[Answer] = []
 
-    def step(self, path: str, examination: Examination) -> Step | None:
+    def step(self, examination: Examination) -> Step | None:
         """Goes on with an examination: what it does next, or None, as it is over."""
         try:
             step = next(examination)
         except StopIteration as end:
-            self.found.append((path, end.value))
+            self.found.append(end.value)
             return None
         if step == Step.START:
-            self.ready.append((path, examination))
+            self.ready.append(examination)
         return step
 
     def prepare(self) -> bool:
         """Makes one more file ready, or finds why it can't be: whether there was one."""
         path = next(self.paths, None)
         if path is not None:
-            self.step(path, examined(path, self.request, self.worker))
+            self.step(examined(path, self.request))
         return path is not None
 
-    def started(self) -> tuple[str, Examination] | None:
+    def started(self) -> Examination | None:
         """Starts the program for the next examination that is ready, if there is one, and if it
         can be started.
         """
         if not self.ready:
             return None
         first = self.ready.popleft()
-        return first if self.step(*first) == Step.READ else None
+        return first if self.step(first) == Step.READ else None
 
-    def all(self) -> Iterator[tuple[str, Found]]:
-        """What was found of each file with its path, as they are done. Of the paths that it has
-        taken two at most aren't answered, so that whoever gives one for each answer, after a few
-        in advance, is never waited for in vain.
+    def all(self) -> Iterator[Answer]:
+        """What was found of each file, as they are done. Of the paths that it has taken two at most
+        aren't answered, so that whoever gives one for each answer, after a few in advance, is never
+        waited for in vain.
         """
-        ended: tuple[str, Examination] | None = None
+        ended: Examination | None = None
         is_more = True
         while is_more or self.ready or self.found or ended:
             runs = self.started()
             if ended:
-                self.step(*ended)
+                self.step(ended)
             yield from self.taken()
             if not self.ready:
                 is_more = self.prepare()
-            ended = runs if runs and self.step(*runs) == Step.FINISH else None
+            ended = runs if runs and self.step(runs) == Step.FINISH else None
 
-    def taken(self) -> list[tuple[str, Found]]:
+    def taken(self) -> list[Answer]:
         """What was found since this was asked."""
         found, self.found = self.found, []
         return found
 
 
-def examine_each(paths: Iterable[str], request: Request) -> Iterator[tuple[str, Found]]:
-    """What the program says of each of these files with its path, as they are done: a bad one gives
-    a row with its fault. Raises FileNotFoundError where this machine has no program.
+def examine_each(paths: Iterable[str], request: Request) -> Iterator[Answer]:
+    """What the program, which the request names, says of each of these files, as they are done: a
+    bad one gives its fault.
     """
-    request = dataclasses.replace(request, program=request.program or program())
     return Turns(paths, request).all()
-
-
-def examine(paths: list[str], request: Request) -> list[Found]:
-    """What examine_each says of these files, in their order. Raises FileNotFoundError where this
-    machine has no program.
-    """
-    found = dict(examine_each(paths, request))
-    return [found[path] for path in paths]
-
-
-def name_of_worker() -> str:
-    """The machine, the process and the thread that run this."""
-    return f"{socket.gethostname()}:{os.getpid()}:{threading.get_native_id()}"

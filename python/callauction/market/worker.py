@@ -1,8 +1,8 @@
 """A worker of a market on one machine: `python3 -m callauction.market.worker`.
 
 It reads pickles from standard input, a request and then the paths of files until a None, and writes
-each path with what was found of its file to standard output. Processes starts it, in the process
-that asked for the market, so both trust each other.
+an answer for each file to standard output, behind how many bytes it has. Processes starts it, in
+the process that asked for the market, so both trust each other.
 """
 import os
 import pickle
@@ -11,6 +11,9 @@ from collections.abc import Iterator
 from typing import IO
 
 from callauction.market.task import examine_each
+
+LENGTH = 4
+"""How many bytes say how many an answer has, the lowest first."""
 
 
 def paths_of(asked: IO[bytes]) -> Iterator[str]:
@@ -24,8 +27,8 @@ def main() -> None:
     asked, out = sys.stdin.buffer, sys.stdout.buffer
     try:
         request = pickle.load(asked)
-        for found in examine_each(paths_of(asked), request):
-            pickle.dump(found, out)
+        for answer in map(pickle.dumps, examine_each(paths_of(asked), request)):
+            out.write(len(answer).to_bytes(LENGTH, "little") + answer)
             out.flush()
     except (EOFError, BrokenPipeError):
         os._exit(0)  # without another try to write what is left

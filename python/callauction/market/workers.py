@@ -3,13 +3,14 @@ the workers of a Dask client. Dask is imported where a client is given, or a sch
 """
 import contextlib
 import os
+import threading
 from collections.abc import Iterator
 from typing import TYPE_CHECKING, Protocol
 
 from callauction import finder
 from callauction.market.names import instrument_of, line_of
-from callauction.market.rows import Found, Row
-from callauction.market.task import Request, examine
+from callauction.market.rows import Found, Row, found_of
+from callauction.market.task import Request, examine_each
 
 if TYPE_CHECKING:
     from distributed import Client, Future, Security
@@ -72,6 +73,21 @@ def batches_of(files: list[str], threads: int) -> list[list[str]]:
         batches[-1].append(path)
         room -= size + START
     return batches
+
+
+def name_of_worker() -> str:
+    """The machine, the process and the thread that run this."""
+    return f"{os.uname().nodename}:{os.getpid()}:{threading.get_native_id()}"
+
+
+def examine(paths: list[str], request: Request) -> list[Found]:
+    """What the program says of these files, in their order. Raises FileNotFoundError where this
+    machine has none.
+    """
+    request = request._replace(program=request.program or finder.program())
+    worker = name_of_worker()
+    found = {each[0]: found_of(each, worker) for each in examine_each(paths, request)}
+    return [found[path] for path in paths]
 
 
 class Cluster:

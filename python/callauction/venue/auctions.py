@@ -11,6 +11,7 @@ from typing import Any, Self
 from callauction.venue import clock, config, views
 from callauction.venue.book import OPERATOR, Book
 from callauction.venue.engine import Engine
+from callauction.venue.lasting import going_on
 from callauction.venue.log import SOURCE
 from callauction.venue.messages import MessageError
 from callauction.venue.phases import Phase, PhaseError, State
@@ -62,6 +63,7 @@ class Auctions:
         self.has_venue_halted: Callable[[], bool] = lambda: False
         self._random = random.SystemRandom()
         self._uncrosses, self._is_uncrossing = 0, False
+        self._has_stood = False  # its clock, since it was looked at last
 
     def check_open(self) -> None:
         """Raises MessageError where no member's order is taken now."""
@@ -192,20 +194,24 @@ class Auctions:
 
     async def run(self) -> None:
         """Ends calls when they are due, and uncrosses them where the plan says so."""
-        has_stood = False
         while True:
             await asyncio.sleep(TICK)
-            has_stood |= self._stands_still
-            if self._stands_still or self._is_uncrossing:
-                continue
-            now = clock.now()
-            if has_stood:
-                self._give_time(now)
-            has_stood = False
-            self.keep_time(now)
-            if self.plan.is_automatic and self.state.phase is Phase.ENDED:
-                with contextlib.suppress(MessageError, PhaseError):
-                    await self.uncross()
+            with going_on(f"{self._engine.name}: the clock of its calls"):
+                await self._go_by_clock()
+
+    async def _go_by_clock(self) -> None:
+        """What is due now, unless the clock does nothing."""
+        self._has_stood |= self._stands_still
+        if self._stands_still or self._is_uncrossing:
+            return
+        now = clock.now()
+        if self._has_stood:
+            self._give_time(now)
+        self._has_stood = False
+        self.keep_time(now)
+        if self.plan.is_automatic and self.state.phase is Phase.ENDED:
+            with contextlib.suppress(MessageError, PhaseError):
+                await self.uncross()
 
     def keep_time(self, now: float) -> None:
         """What the clock says has to be done."""

@@ -1,46 +1,24 @@
 """Who is connected to a venue, and what each of them sees."""
-from collections.abc import Callable, Iterator
-from typing import Protocol
+from collections.abc import Iterator
 
-from callauction.venue import addresses, clock, config, results, shown
+from callauction.venue import clock, config, shown
 from callauction.venue.halts import Halts
 from callauction.venue.instrument import Instrument
 from callauction.venue.log import Log
 from callauction.venue.members import Member, Members
-from callauction.venue.messages import MessageError
+from callauction.venue.paid import Paid
 from callauction.venue.rounds import Rounds
+from callauction.venue.screen import Screen
+from callauction.venue.standing import Standing
+from callauction.venue.watchers import Watcher, Watchers
 
 MOST_CONNECTIONS = 8
 """Connections of one member."""
-SHOWN = ("indication", "all")
-"""What the beamer shows of a call: the indication alone, or also the book."""
-PAYOFFS = ("none", "own", "ranking")
-"""What members see of payoffs: nothing, their own, or their place among all, which the screen shows
-too.
-"""
-
-
-class Watcher(Protocol):
-    """Somebody who is connected: `role` is member, operator or beamer."""
-
-    role: str
-    member: Member | None
-    topics: frozenset[str]
-
-    @property
-    def is_leaving(self) -> bool:
-        """Whether the connection is to end."""
-
-    def offer(self, key: str, message: shown.Json) -> None:
-        """Shows a message, unless a later one with its key comes before it is sent."""
-
-    def leave(self, code: str) -> None:
-        """Ends the connection, for one of the ERRORS of messages."""
 
 
 class Audience:
-    """The watchers of a venue, whose rounds and members they see, and what the operator lets them
-    see; `late` has why calls are late and what comes of them, by the names of their boards.
+    """The watchers of a venue, and what each sees: boards and members, where the venue stands, what
+    is paid, and what the screen shows.
     """
 
     def __init__(
@@ -48,11 +26,10 @@ class Audience:
     ) -> None:
         self._day, self._log = day, log
         self._members, self._rounds, self._halts = members, rounds, halts
-        self.watchers: dict[Watcher, None] = {}
-        self.beamer_shows = SHOWN[0]
-        self.payoffs_shown = PAYOFFS[0]
-        self.late: dict[str, tuple[str, str]] = {}
-        self.urls: Callable[[], list[str]] = lambda: ["http://localhost/"]
+        self.watchers: Watchers = {}
+        self.screen = Screen(members, rounds)
+        self.standing = Standing(day, rounds, self.watchers)
+        self.paid = Paid(day, members, rounds, self.watchers)
 
     def watching(self, instrument: Instrument) -> Iterator[Watcher]:
         """Who sees a board."""
@@ -69,14 +46,9 @@ class Audience:
     def has_viewers(self) -> bool:
         """Whether somebody may see the book."""
         roles = {it.role for it in self.watchers}
-        is_shown = "beamer" in roles and self.is_book_on_screen
+        is_shown = "beamer" in roles and self.screen.has_book
         is_open = "member" in roles and self._rounds.now.is_open_book
         return "operator" in roles or is_shown or is_open
-
-    @property
-    def is_book_on_screen(self) -> bool:
-        """Whether the beamer shows the book: where the operator wants it, or where all see it."""
-        return self.beamer_shows == "all" or self._rounds.now.is_open_book
 
     # ---- a board
 
@@ -87,9 +59,9 @@ class Audience:
 
     def show_state(self, instrument: Instrument) -> None:
         """Shows all what everybody may see."""
-        if instrument.identity.name in self.late and not instrument.auctions.is_late:
-            del self.late[instrument.identity.name]
-            self.show_round_to_operator()
+        if instrument.identity.name in self.standing.late and not instrument.auctions.is_late:
+            del self.standing.late[instrument.identity.name]
+            self.standing.show_to_operator()
         state = self.state_of(instrument)
         for watcher in self.watching(instrument):
             if "states" in watcher.topics:
@@ -102,7 +74,7 @@ class Audience:
             self.show_state(instrument)
             instrument.looks.touch()
         elif instrument.identity.round < self._rounds.now.number:
-            self.show_round_to_operator()
+            self.standing.show_to_operator()
 
     def show_news(self, instrument: Instrument, members: frozenset[str], traded: bool) -> None:
         """The program has shown something new; of an earlier round it is what that came to, and of
@@ -110,7 +82,7 @@ class Audience:
         """
         if instrument not in self._rounds.now.boards.values():
             if instrument.identity.round < self._rounds.now.number:
-                self.show_payoffs()
+                self.paid.show()
             return
         self.show_state(instrument)
         name = instrument.terms.name
@@ -138,7 +110,7 @@ class Audience:
                 elif "fills" in watcher.topics:
                     watcher.offer(f"fills {name}", shown.fills_of(instrument, watcher.member.name))
         self.show_members()
-        self.show_payoffs()
+        self.paid.show()
 
     def _show_book(self, instrument: Instrument, watcher: Watcher, is_all: bool) -> None:
         """Shows the operator, or others as far as the operator lets them, the course and the book;
@@ -152,7 +124,7 @@ class Audience:
             return
         watcher.offer(f"course {name}", shown.course_of(instrument))
         is_operator = watcher.role == "operator"
-        if instrument.looks.is_ladder_seen and (is_operator or self.is_book_on_screen):
+        if instrument.looks.is_ladder_seen and (is_operator or self.screen.has_book):
             watcher.offer(f"ladder {name}", shown.ladder_of(instrument, is_operator))
         if is_all:
             last = instrument.looks.trades[-shown.MOST_SHOWN :]
@@ -191,88 +163,12 @@ class Audience:
         """Shows the operator who is there, and the screen how many."""
         there = {it.member for it in self.watchers}
         found = shown.members_of(self._members, there, self._rounds)
-        screen = self._screen_shown(there)
+        screen = self.screen.shown(there, self.paid.shows)
         for watcher in self.watchers:
             if watcher.role == "operator":
                 watcher.offer("members", found)
             if watcher.member is None:
                 watcher.offer("beamer", screen)
-
-    def _screen_shown(self, there: set[Member | None]) -> shown.Json:
-        """What the screen shows of the venue: the address at which to join, a QR code of it that
-        has the code too, all other addresses, how many have joined, and how many robots there are.
-        """
-        code, (url, *others) = self._members.code, self.urls()
-        robots = [it for it in self._members.all if it.robot]
-        picture = addresses.code_of(f"{url}#{code}" if code else url)
-        return {
-            "type": "beamer",
-            "shows": self.beamer_shows,
-            "code": code,
-            "url": url,
-            "others": others,
-            "qr": picture and {"size": picture[0], "path": picture[1]},
-            "members": len(self._members.all) - len(robots),
-            "robots": len(robots),
-            "here": len(there - {None}),
-            "payoffs": self.payoffs_shown,
-        }
-
-    def show_round(self) -> None:
-        """Shows all which round it is."""
-        for watcher in self.watchers:
-            self._offer_round(watcher)
-
-    def _offer_round(self, watcher: Watcher) -> None:
-        """Shows somebody which round it is; the operator the next one too."""
-        if "rounds" not in watcher.topics:
-            return
-        found = shown.round_of(self._rounds.now)
-        if watcher.role == "operator":
-            following = self._day.treatment(self._rounds.now.number + 1)
-            found |= {"next": shown.treatment_of(following), "planned": len(self._day.rounds)}
-            found["late"] = self._late_shown()
-            found["halts"] = [shown.halt_of(it, why) for it, why in self._rounds.early_halts]
-        watcher.offer("round", found)
-
-    def show_round_to_operator(self) -> None:
-        """Shows the operator which round it is, and what is said of others and of late calls."""
-        for watcher in self.watchers:
-            if watcher.role == "operator":
-                self._offer_round(watcher)
-
-    def _late_shown(self) -> list[shown.Json]:
-        """What is said of calls whose end had passed as the venue, or their board, began, and what
-        comes of them, until something does.
-        """
-        return [
-            {"instrument": name, "why": why, "does": does}
-            for name, (why, does) in self.late.items()
-            if (board := self._rounds.now.boards.get(name)) is not None and board.auctions.is_late
-        ]
-
-    def show_payoffs(self) -> None:
-        """Shows members what they are paid, as far as the operator lets them, and the operator all
-        of it, once that is known.
-        """
-        if not self._rounds.are_seen:
-            return
-        if self.payoffs_shown == "none" and not any(it.role == "operator" for it in self.watchers):
-            return
-        paid = results.payoffs(self._day, self._rounds.all, self._members)
-        for watcher in self.watchers:
-            self._offer_payoffs(watcher, paid)
-
-    def _offer_payoffs(self, watcher: Watcher, paid: "list[results.Payoff]") -> None:
-        """Shows somebody what it may see of what members are paid."""
-        has_ranks = self.payoffs_shown == "ranking"
-        if watcher.member is not None:
-            if self.payoffs_shown != "none" and "payoffs" in watcher.topics:
-                for it in paid:
-                    if it.member == watcher.member.name:
-                        watcher.offer("payoff", shown.payoff_of(it, len(paid), has_ranks))
-        elif watcher.role == "operator" or has_ranks:
-            watcher.offer("ranking", shown.ranking_of(paid))
 
     def welcome_of(self, watcher: Watcher) -> shown.Json:
         """What is answered to a hello: who this is, the greatest number of its messages so far, and
@@ -291,17 +187,14 @@ class Audience:
 
     def greet(self, watcher: Watcher) -> None:
         """Shows somebody who has come what it may see."""
-        self._offer_round(watcher)
+        self.standing.offer(watcher)
         member = watcher.member
         for instrument in self._rounds.boards_of(member).values():
             if "states" in watcher.topics:
                 watcher.offer(f"state {instrument.terms.name}", self.state_of(instrument))
             self._greet_with_lists(watcher, instrument)
             instrument.looks.touch([member.name] if member else [])
-        is_shown = watcher.role == "operator" or self.payoffs_shown != "none"
-        if is_shown and self._rounds.are_seen:
-            paid = results.payoffs(self._day, self._rounds.all, self._members)
-            self._offer_payoffs(watcher, paid)
+        self.paid.show_to([watcher])
         self.show_members()
 
     def show_all(self) -> None:
@@ -332,9 +225,7 @@ class Audience:
 
     def show_on_beamer(self, what: str) -> None:
         """What the beamer shows. Raises MessageError."""
-        if what not in SHOWN:
-            raise MessageError("bad_message", f"shows is one of {', '.join(SHOWN)}")
-        self.beamer_shows = what
+        self.screen.choose(what)
         self._log.note(kind="beamer", shows=what)
         for watcher in self.watchers:
             if watcher.member is None:
@@ -342,9 +233,7 @@ class Audience:
 
     def show_paid(self, what: str) -> None:
         """What members see of payoffs. Raises MessageError."""
-        if what not in PAYOFFS:
-            raise MessageError("bad_message", f"shows is one of {', '.join(PAYOFFS)}")
-        self.payoffs_shown = what
+        self.paid.choose(what)
         self._log.note(kind="payoffs", shows=what)
-        self.show_payoffs()
+        self.paid.show()
         self.show_members()

@@ -12,12 +12,12 @@ import time
 from collections.abc import Collection, Iterable, Iterator, Sequence
 
 from callauction.statuses import FAILED
-from callauction.venue import begun, config, copies, gates, owned, room, tokens
+from callauction.venue import begun, config, copies, listening, owned, room, tokens
 from callauction.venue.begun import OtherDayError, date_of
-from callauction.venue.engine import JOURNAL
 from callauction.venue.fields import ConfigError
 from callauction.venue.fix_terms import SENT
 from callauction.venue.halts import PUT_BACK
+from callauction.venue.journal import JOURNAL
 from callauction.venue.log import Line, check_version, read_lines, taking
 from callauction.venue.phases import Phase, State
 from callauction.venue.process import OPENED, START_SECONDS, ProcessError
@@ -138,11 +138,11 @@ def check_ports(day: config.DayTerms, address: Address, runs: bool) -> None:
     faults = []
     for host, port in places:
         try:
-            for each in gates.listening(host, port):
+            for each in listening.sockets_at(host, port):
                 each.close()
         except OSError as fault:
             if not (runs and fault.errno == errno.EADDRINUSE):
-                faults.append(gates.why_not(host, port, fault))
+                faults.append(listening.why_not(host, port, fault))
     if faults:
         raise AddressError("; ".join(faults))
 
@@ -259,11 +259,12 @@ async def rehearse(
         venue = Venue(day, pathlib.Path(place), program)
         venue.rounds.learn(known)
         boards = venue.rounds.boards
-        venue.starts.replay(known, {key: [] for key in boards})
+        venue.past.replay(known, {key: [] for key in boards})
         for key in [it for it in found if it in boards]:
             with starting(key):
-                journal, words = boards[key].engine.journal, boards[key].engine.words
-                check_first(words, folder / journal.name, journal)
+                engine = boards[key].engine
+                copy = engine.journal.path
+                check_first(engine.runs.words, folder / copy.name, copy)
         venue.log.close()
     return venue.rounds.now
 

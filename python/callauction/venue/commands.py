@@ -137,12 +137,12 @@ class Commands:
     def hold_for(self, members: Iterable[str]) -> None:
         """Takes no command of anybody but deletions of these members' orders, who were removed."""
         self._leaving.update(members)
-        self._engine.hold()
+        self._engine.outbox.hold()
 
     def release_after(self, members: Iterable[str]) -> None:
         """Takes what came meanwhile, once these members' orders are to be deleted."""
         self._leaving.difference_update(members)
-        self._engine.release()
+        self._engine.outbox.release()
 
     # ---- what is left
 
@@ -175,7 +175,7 @@ class Commands:
     @property
     def left(self) -> int:
         """How many commands members have left, below 0 where some are kept that the day hasn't."""
-        left = self._terms.calls - self._engine.count - self._engine.waiting
+        left = self._terms.calls - self._engine.journal.count - self._engine.outbox.waiting
         return left - self._reserve - self._book.count - self._entering
 
     def _used(self, member: str) -> int:
@@ -197,7 +197,7 @@ class Commands:
         file allows.
         """
         count, terms = self._book.count, self._terms
-        used = self._engine.count + self._reserve + count
+        used = self._engine.journal.count + self._reserve + count
         for key, what, found, most in (
             ("open", "orders are open", count, terms.open),
             ("calls", "commands are used or kept", used, terms.calls),

@@ -17,8 +17,8 @@ import time
 from callauction.statuses import BAD_DAY, BAD_FILE, FAILED
 from callauction.venue import owned, tokens
 from callauction.venue.downloads import NAMES_FILE, RESULTS_FILE
-from callauction.venue.engine import JOURNAL
 from callauction.venue.fix_terms import SENT
+from callauction.venue.journal import JOURNAL
 from callauction.venue.log import Line, LogError, read_lines, text_of
 from callauction.venue.owned import OwnerError
 from callauction.venue.recovery import (

@@ -2,6 +2,7 @@
 members; of all rounds what members traded, gained and are paid, the trades, and a report.
 """
 import asyncio
+import contextlib
 import csv
 import dataclasses
 import io
@@ -126,17 +127,24 @@ def disposition(name: str) -> str:
 def journal_of(board: Instrument) -> bytes:
     """The whole lines of a journal. Raises DownloadError."""
     try:
-        journal = board.engine.journal.read_bytes()
+        journal = board.engine.journal.path.read_bytes()
     except OSError as fault:
         raise DownloadError(f"the journal can't be read: {fault.strerror}") from None
     return journal[: journal.rfind(b"\n") + 1]
 
 
-async def output(words: list[str], given: bytes) -> bytes:
-    """What a command prints of an input. Raises DownloadError."""
+async def output(words: Sequence[str], given: bytes) -> bytes:
+    """What a command prints of an input; where nobody waits for that any more it is ended. Raises
+    DownloadError.
+    """
     pipe = asyncio.subprocess.PIPE
     child = await asyncio.create_subprocess_exec(*words, stdin=pipe, stdout=pipe, stderr=pipe)
-    out, error = await child.communicate(given)
+    try:
+        out, error = await child.communicate(given)
+    except asyncio.CancelledError:
+        with contextlib.suppress(ProcessLookupError):
+            child.kill()
+        raise
     if child.returncode != 0:
         last = error.decode("utf-8", "replace").strip().rpartition("\n")[2]
         raise DownloadError(last or f"{words[0]} ended with status {child.returncode}")

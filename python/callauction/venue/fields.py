@@ -4,6 +4,7 @@ from decimal import Decimal
 from typing import Any
 
 from callauction.prices import BadCellError, decimal_of
+from callauction.venue.names import tidy
 
 MEMBER_NAME = re.compile(r"[^\x00-\x1f\x7f<>]{1,40}")
 TITLE = re.compile(r"[^\x00-\x1f\x7f<>]{0,60}")
@@ -118,7 +119,7 @@ class Fields:
         return float(found)
 
     def names(self, name: str) -> tuple[str, ...]:
-        """Names of members, each once. Raises ConfigError."""
+        """Names of members as a join takes them, each once. Raises ConfigError."""
         found = self.left.pop(name, [])
         if not isinstance(found, list):
             raise self.fault(name, f"{shown(found)} is no list")
@@ -126,9 +127,9 @@ class Fields:
         for each in found:
             if not isinstance(each, str) or not MEMBER_NAME.fullmatch(each):
                 raise self.fault(name, f"{shown(each)} {flaw_of(each, MEMBER_NAME)}")
-            if each in seen:
+            if (wanted := tidy(each) or each) in seen:
                 raise self.fault(name, f"{shown(each)} is there twice")
-            seen[each] = None
+            seen[wanted] = None
         return tuple(seen)
 
     def table(self, name: str) -> dict[str, Any]:

@@ -2,36 +2,22 @@
 import asyncio
 import contextlib
 
-from callauction.venue import config
-from callauction.venue.audience import Audience
 from callauction.venue.gains import Value
-from callauction.venue.halts import Halts
-from callauction.venue.log import Log
-from callauction.venue.members import Member, Members
+from callauction.venue.members import Member
+from callauction.venue.parts import Parts
 from callauction.venue.phases import PhaseError
-from callauction.venue.rounds import Rounds, by_side, dealt
+from callauction.venue.rounds import by_side, dealt
 from callauction.venue.starts import Starts
 from callauction.venue.treatments import Treatment
-from callauction.venue.values import Values
 
 
 class Groups:
     """The groups of a venue's members, of which one changes at a time."""
 
-    def __init__(
-        self,
-        day: config.DayTerms,
-        log: Log,
-        members: Members,
-        rounds: Rounds,
-        audience: Audience,
-        values: Values,
-        halts: Halts,
-        starts: Starts,
-    ) -> None:
-        self._day, self._log, self._members, self._rounds = day, log, members, rounds
-        self._audience, self._halts = audience, halts
-        self._values, self._starts = values, starts
+    def __init__(self, parts: Parts, starts: Starts) -> None:
+        self._day, self._log, self._halts = parts.day, parts.log, parts.halts
+        self._members, self._rounds = parts.members, parts.rounds
+        self._audience, self._values, self._starts = parts.audience, parts.values, starts
         self._changing = asyncio.Lock()
 
     async def place(self, newcomers: list[Member]) -> None:

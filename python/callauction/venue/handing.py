@@ -164,12 +164,23 @@ def rows_of(text: str) -> tuple[ListedValue, ...]:
     lines: dict[str, dict[int | None, int]] = {}
     try:
         for row in reader:
+            check_columns(row, reader.line_num)
             it = row_of(row, reader.line_num, mark == ";")
             check_once(it, reader.line_num, lines.setdefault(folded(it.member), {}))
             found.append(it)
     except csv.Error as fault:
         raise HandError(f"line {reader.line_num}: {fault}") from None
     return tuple(found)
+
+
+def check_columns(row: Mapping[str | None, str | list[str] | None], line: int) -> None:
+    """Raises HandError where a cell of a row that has something is in no column: where a price has
+    a decimal comma between commas, what follows it would be taken for another.
+    """
+    beyond, unnamed = row.get(None) or (), row.get("") or ""
+    found = next((it for it in (unnamed, *beyond) if it.strip()), None)
+    if found is not None:
+        raise HandError(f"line {line}: {found!r} is in no column: decimal commas need semicolons")
 
 
 def check_once(it: ListedValue, line: int, lines: dict[int | None, int]) -> None:

@@ -118,6 +118,8 @@ class Site:
         found.on_shutdown.append(self._wrong_codes.end)
         for path, name in PAGES.items():
             found.router.add_get(path, self._page(name))
+            if path != "/":
+                found.router.add_get(f"{path}/", self._page(name))
         found.router.add_get("/pages/{name}", self._file)
         found.router.add_get("/api/schema", self._schema)
         found.router.add_get("/api/day", self._day)

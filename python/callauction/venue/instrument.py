@@ -9,14 +9,15 @@ import functools
 import pathlib
 from collections.abc import Callable, Iterable, Mapping
 
-from callauction.venue import clock, config
+from callauction.venue import clock, config, ending
 from callauction.venue.accounts import Accounts
 from callauction.venue.auctions import Auctions, Point
 from callauction.venue.book import OPERATOR, Book
 from callauction.venue.commands import Commands
-from callauction.venue.engine import JOURNAL, Engine
+from callauction.venue.engine import Engine
 from callauction.venue.gains import Value
 from callauction.venue.handing import Rule
+from callauction.venue.journal import JOURNAL
 from callauction.venue.log import Line, Log
 from callauction.venue.looks import Looks
 from callauction.venue.members import Member
@@ -51,9 +52,22 @@ class BoardIdentity:
         return self.name if self.round == 1 else f"{self.name}.round{self.round}"
 
 
+@dataclasses.dataclass(frozen=True)
+class Common:
+    """What the boards of a venue have in common: its day, its folder, their program, its log, and
+    that log's lines of the restores of the day.
+    """
+
+    day: config.DayTerms
+    folder: pathlib.Path
+    program: str
+    log: Log
+    restores: list[Line] = dataclasses.field(default_factory=list)
+
+
 class Instrument:
-    """An instrument of a day in a round, which follows from the log and from its journal in this
-    folder; its program isn't started yet. `restores` are the log's lines of those of the day.
+    """An instrument of a day in a round, which follows from the log and from its journal in the
+    folder; its program isn't started yet.
     """
 
     def __init__(
@@ -61,26 +75,23 @@ class Instrument:
         identity: BoardIdentity,
         terms: config.InstrumentTerms,
         treatment: Treatment,
-        day: config.DayTerms,
-        folder: pathlib.Path,
-        program: str,
-        log: Log,
-        restores: list[Line],
+        common: Common,
     ) -> None:
         terms = dataclasses.replace(terms.in_round(treatment), name=identity.name)
-        journal = folder / f"{identity.key}{JOURNAL}"
-        words = [program, "--live", "--journal", str(journal), "--reserve", str(day.reserve)]
-        words += [] if day.is_synced else ["--sync", "none"]
-        engine = Engine(identity.key, [*words, *terms.words()], journal, log)
+        journal, day = common.folder / f"{identity.key}{JOURNAL}", common.day
+        words = [common.program, "--live", "--journal", str(journal)]
+        words += ["--reserve", str(day.reserve), *([] if day.is_synced else ["--sync", "none"])]
+        engine = Engine(identity.key, [*words, *terms.words()], journal, common.log)
         self.identity, self.terms, self.engine = identity, terms, engine
-        self._restores, self.has_run = restores, False
+        self._restores, self.has_run = common.restores, False
         self.book, self.accounts = Book(), Accounts(terms.uncovered)
         self.commands = Commands(terms, treatment, day, engine, self.book, self.accounts)
         self.auctions = Auctions(plan_of(day.plan, treatment), engine, self.book)
         self.looks = Looks(terms, engine, self.book, self.accounts, self.auctions)
         self._tasks: list[asyncio.Task[None]] = []
         self.on_entry: Callable[[Message, Entry | None], None] = lambda message, entry: None
-        engine.on_entry, self.auctions.on_change = self._entered, self.looks.touch
+        engine.outbox.on_entry = self._entered
+        self.auctions.on_change = self.looks.touch
 
     def key_at(self, place: int) -> str:
         """Its key in the ids of an entry: with the mark of the last restore that had none of this
@@ -121,8 +132,9 @@ class Instrument:
         for task in self._tasks:
             task.cancel()
         looking = asyncio.create_task(self.looks.look())
-        await asyncio.wait({looking}, timeout=LAST_SECONDS)
-        await self.engine.close()
+        with ending.until_done(lambda: f"the program of {self.identity.key}"):
+            await asyncio.wait({looking}, timeout=LAST_SECONDS)
+            await self.engine.close()
         looking.cancel()
         with contextlib.suppress(ProcessError, asyncio.CancelledError):
             await looking

@@ -16,7 +16,8 @@ import pathlib
 from collections.abc import Callable, Iterator, Mapping
 from typing import Any
 
-from callauction.venue import clock, leftovers, owned
+from callauction.venue import clock, ending, leftovers, owned
+from callauction.venue.lasting import going_on
 
 VERSION = 2
 Line = dict[str, Any]
@@ -236,7 +237,8 @@ class Log:
                 return
             for _, then in taken:
                 if then is not None:
-                    then()
+                    with going_on("what follows from a line of the log"):
+                        then()
 
     async def _is_written(self, data: bytes) -> bool:
         """Writes bytes, again and again where that fails, until it is closed: whether they are
@@ -247,7 +249,7 @@ class Log:
             self._is_slow = False
             slow = loop.call_later(WRITE_SECONDS, self._slow)
             try:
-                await loop.run_in_executor(self._thread, self._write, data)
+                await self._in_thread(functools.partial(self._write, data))
                 if self._is_slow:
                     self.on_written()
                 return True
@@ -258,6 +260,15 @@ class Log:
             finally:
                 slow.cancel()
             await self._retries.wait()
+
+    async def _in_thread(self, work: Then) -> None:
+        """Does some work of its in its thread. Raises OSError."""
+
+        def done() -> None:
+            with ending.until_done(lambda: self.path.name):
+                work()
+
+        await asyncio.get_running_loop().run_in_executor(self._thread, done)
 
     def _failed(self, fault: OSError) -> None:
         """A write has failed: nothing is written until it is tried again."""
@@ -276,7 +287,7 @@ class Log:
     async def look(self) -> None:
         """Takes it for failed where others have changed it, as at the next write."""
         try:
-            await asyncio.get_running_loop().run_in_executor(self._thread, self._check)
+            await self._in_thread(self._check)
         except OSError as fault:
             if self._fault is None and not self._is_closed:
                 self._failed(fault)

@@ -10,6 +10,7 @@ from callauction.venue.accounts import Accounts, Fill
 from callauction.venue.auctions import TICK, Auctions
 from callauction.venue.book import Book
 from callauction.venue.engine import Engine
+from callauction.venue.lasting import going_on
 from callauction.venue.messages import MessageError
 from callauction.venue.process import ProcessError
 
@@ -75,16 +76,17 @@ class Looks:
             await self._wakes.wait()
             self._wakes.clear()
             begin = time.monotonic()
-            try:
-                await self.look()
-            except ProcessError:
-                self._wakes.set()
+            with going_on(f"{self._engine.name}: a look at the program"):
+                try:
+                    await self.look()
+                except ProcessError:
+                    self._wakes.set()
             took = time.monotonic() - begin
             await asyncio.sleep(max(LEAST_PAUSE, BUSY_SHARE * took))
 
     async def settle(self) -> None:
         """Waits until all that was sent is answered, and sees it. Raises MessageError."""
-        while self._engine.waiting:
+        while self._engine.outbox.waiting:
             if self._engine.halted is not None:
                 raise self._engine.refusal
             await asyncio.sleep(TICK)
@@ -127,7 +129,7 @@ class Looks:
         if has_ladder:
             records.append("show,ladder")
         sees_book, is_hidden = not book.is_known, has_ladder and book.has_icebergs
-        entries, count = book.entries, self._engine.count
+        entries, count = book.entries, self._engine.journal.count
         sees_hidden = is_hidden and self._listed != count
         if sees_book or sees_hidden:
             records.append("show,orders")

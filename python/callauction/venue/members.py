@@ -5,22 +5,20 @@ A member's `name` is the one by which it joined, which the log has; its `title` 
 import asyncio
 import dataclasses
 import logging
-import unicodedata
 from collections.abc import Mapping
 
 from callauction.venue import arrivals, config, fields, tokens
 from callauction.venue.arrivals import Arrivals
+from callauction.venue.codes import Codes
 from callauction.venue.log import Line, Log
 from callauction.venue.messages import MessageError
-from callauction.venue.names import folded, is_role, is_seen
+from callauction.venue.names import folded, is_role, is_seen, tidy
 from callauction.venue.rates import Bucket
 from callauction.venue.recovery import Entry
 
 NOTICES = logging.getLogger("callauction.venue")
 HELLO_RATE, HELLO_BURST = 2.0, 20
 """How often a member may say who it is, or come again by its code, a second and at once."""
-
-
 UNSEEN = "a name has a letter or a digit, few marks on one letter, and nothing that isn't drawn"
 
 
@@ -80,9 +78,7 @@ class Members:
         self._by_name: dict[str, Member] = {}
         self._by_token: dict[str, Member] = {}
         self._former: set[str] = set()
-        self.codes: dict[str, str] = {}
-        self._code_of_file = ""
-        self.is_open = terms.is_open
+        self.codes = Codes(terms, log)
         self.arrivals = Arrivals(terms.joins)
 
     @property
@@ -94,11 +90,6 @@ class Members:
     def all(self) -> list[Member]:
         """All members that weren't removed, in the order in which they came."""
         return [it for it in self.everybody if not it.is_removed]
-
-    @property
-    def code(self) -> str:
-        """The code by which members join now, empty where none does."""
-        return self.codes.get("", "") if self.is_open else ""
 
     def named(self, name: str) -> Member | None:
         """The member of this name."""
@@ -129,50 +120,15 @@ class Members:
         """Whether a token was a member's who has another one since."""
         return tokens.digest(token) in self._former
 
-    # ---- codes
-
-    def open_codes(self) -> None:
-        """Gives a code to the day and to each name that has none; where the day's file has another
-        one than before, that.
-        """
-        code = self._terms.code
-        if self._terms.is_open and code and code != self._code_of_file:
-            self.set_code("", code)
-            self._log.note(kind="code_of_file", code=code)
-        elif self._terms.is_open and "" not in self.codes:
-            self.set_code("", tokens.new_code())
-        for name in self._terms.names:
-            if name not in self.codes:
-                self.set_code(name, tokens.new_code())
-
-    def set_code(self, name: str, code: str) -> str:
-        """Gives a member, or the day, this code: the code."""
-        self.codes[name] = code
-        self._log.note(kind="code", name=name, code=code)
-        return code
-
-    def open_door(self, is_open: bool) -> None:
-        """Lets new members join, by a code that there is from then on, or no more."""
-        self.is_open = is_open
-        if is_open and "" not in self.codes:
-            self.set_code("", self._terms.code or tokens.new_code())
-        self._log.note(kind="door", open=is_open)
-
     # ---- joining
 
     def join(self, code: str, name: str, address: str = "") -> tuple[Member, str]:
         """A member and its new token: a new member by the day's code, or one that comes again by a
         code of its own, from this address. Raises MessageError.
         """
-        typed = code.strip().upper()
-        for own, kept in self.codes.items():
-            if own and tokens.is_same(typed, kept):
-                return self._come_again(own)
-        if "" not in self.codes or not tokens.is_same(typed, self.codes[""]):
-            raise MessageError("bad_code")
-        if not self.is_open:
-            raise MessageError("joining_closed")
-        wanted = unicodedata.normalize("NFC", " ".join(name.split()))
+        if own := self.codes.whose(code):
+            return self._come_again(own)
+        wanted = tidy(name)
         left = [it.name for it in self.all if it.is_unanswered and it.title == wanted]
         if left:
             return self._come_again(left[0])
@@ -189,7 +145,7 @@ class Members:
 
     def _new_title(self, name: str) -> str:
         """A name as others read it. Raises MessageError where it can't be one, or is taken."""
-        wanted = unicodedata.normalize("NFC", " ".join(name.split()))
+        wanted = tidy(name)
         if not fields.MEMBER_NAME.fullmatch(wanted):
             raise MessageError("bad_name")
         if not is_seen(wanted):
@@ -278,23 +234,17 @@ class Members:
         member = self._by_name[name]
         member.is_removed = True
         self._by_token.pop(member.token, None)
-        self.codes.pop(name, None)
+        self.codes.by_name.pop(name, None)
 
     def replay(self, line: Line) -> bool:
         """Takes a line of the log: whether it is one about members."""
         kind = line["kind"]
         if kind == "member":
             self.learn(line["name"], line["token"], line["robot"])
-        elif kind == "code":
-            self.codes[line["name"]] = line["code"]
-        elif kind == "code_of_file":
-            self._code_of_file = line["code"]
-        elif kind == "door":
-            self.is_open = line["open"]
         elif kind == "rename":
             self._by_name[line["name"]].title = line["title"]
         elif kind == "removed":
             self.forget(line["name"])
         else:
-            return False
+            return self.codes.replay(line)
         return True

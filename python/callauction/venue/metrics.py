@@ -119,7 +119,7 @@ class Measures:
         what = "from a message's arrival to its answer"
         found = HistogramMetricFamily(f"{PREFIX}_answer_seconds", what, labels=OF_INSTRUMENTS)
         for name, instrument in self._venue.rounds.now.boards.items():
-            times = instrument.engine.times
+            times = instrument.engine.outbox.times
             found.add_metric([name], [*times.buckets()], times.total)
         return found
 
@@ -144,12 +144,12 @@ def value_of(instrument: Instrument, name: str) -> float:
     engine = instrument.engine
     values = {
         "halted": int(engine.halted is not None),
-        "waiting": engine.waiting,
+        "waiting": engine.outbox.waiting,
         "calls_left": instrument.looks.day.left,
         "calls_left_to_members": max(0, instrument.commands.left),
         "orders_open": instrument.book.count,
         "orders_left": instrument.terms.open - instrument.book.count,
-        "orders": engine.count,
+        "orders": engine.journal.count,
         "trades": len(instrument.looks.trades),
         "restarts": engine.restarts,
     }

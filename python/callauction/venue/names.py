@@ -19,6 +19,11 @@ ROLES = frozenset(
 FORMULA = re.compile("(^|[;,|\t])(\\s*)(?=[=+\\-@'\uff1d\uff0b\uff0d\uff20])")
 
 
+def tidy(name: str) -> str:
+    """A name without spaces around it, and with one between its words."""
+    return unicodedata.normalize("NFC", " ".join(name.split()))
+
+
 def folded(name: str) -> str:
     """A name without what makes two names look alike."""
     plain = INVISIBLE.sub("", unicodedata.normalize("NFKC", name)).casefold()

@@ -13,6 +13,8 @@ import time
 from collections.abc import Callable
 from typing import TextIO
 
+from callauction.venue.lasting import going_on
+
 PAUSE = 1.0
 """Seconds between two lines that say the same."""
 LOCK_SECONDS = 0.1
@@ -50,7 +52,8 @@ class Folded:
 class Sparing(logging.Filter):
     """Lets a record through that says the same as another once in PAUSE seconds, and counts the
     others: the same text, or what it says that it is `of`, of the same member. In a flood of other
-    lines one below ERROR counts as the same where its text is, but for what stands in it.
+    lines one below ERROR counts as the same where its text is, but for what stands in it. One that
+    says that it `is_once` is no other's.
     """
 
     def __init__(self, clock: Callable[[], float] = time.monotonic) -> None:
@@ -61,6 +64,8 @@ class Sparing(logging.Filter):
 
     def filter(self, record: logging.LogRecord) -> bool:
         """Whether a record is written; `left_out` says how many weren't since the last."""
+        if getattr(record, "is_once", False):
+            return True
         now = self._clock()
         line, again = self._line_of(record, now)
         found = self._lines.get(line)
@@ -148,6 +153,7 @@ class Unheld(logging.StreamHandler[TextIO]):
         if self.lock.acquire(timeout=LOCK_SECONDS):
             try:
                 for record in self._sparing.left_out(is_end):
+                    record.created = time.time()  # lines are in the order of time
                     self.emit(record)
             finally:
                 self.lock.release()
@@ -164,7 +170,8 @@ async def write_counts() -> None:
     """Writes again and again how often lines came that weren't written."""
     while True:
         await asyncio.sleep(PAUSE)
-        write_left_out(is_end=False)
+        with going_on("the count of lines that weren't written"):
+            write_left_out(is_end=False)
 
 
 class Plain(logging.Formatter):

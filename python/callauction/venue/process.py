@@ -71,6 +71,11 @@ class Pipe:
         self._blocks: collections.deque[bytes] = collections.deque()
         self._waits = False
 
+    @property
+    def is_open(self) -> bool:
+        """Whether the program's input goes on."""
+        return self._file >= 0
+
     def write(self, records: Sequence[str]) -> None:
         """Writes these records, now or as soon as there is room."""
         block = b""
@@ -105,7 +110,7 @@ class Pipe:
 
     def close(self) -> None:
         """Ends the program's input."""
-        if self._file < 0:
+        if not self.is_open:
             return
         if self._waits:
             asyncio.get_running_loop().remove_writer(self._file)
@@ -125,6 +130,7 @@ class Process:
         self._answers: collections.deque[Answer] = collections.deque()
         self._listed: list[str] = []
         self._missing = 0
+        self._views: set[asyncio.Future[None]] = set()
         self._rest = b""
         self._error = b""
         self._since = self._due = 0.0
@@ -186,6 +192,11 @@ class Process:
         """The number of its process."""
         return self._child.pid
 
+    @property
+    def takes_more(self) -> bool:
+        """Whether it runs, and its input hasn't ended."""
+        return not self.has_ended and self._pipe.is_open
+
     def send(self, records: Sequence[str], answer: Sequence[Answer]) -> None:
         """Sends records, and gives each answer to the function of its record."""
         loop = asyncio.get_running_loop()
@@ -195,6 +206,29 @@ class Process:
         self._pipe.write(records)
         if self._watch is None:
             self._look_in(ANSWER_SECONDS)
+
+    async def show(self, views: Sequence[str]) -> list[list[str]]:
+        """What it answers to these views, all of one moment. Raises ProcessError where it ends
+        meanwhile, or knows no such view.
+        """
+        found: list[list[str]] = []
+        shown: asyncio.Future[None] = asyncio.get_running_loop().create_future()
+
+        def take(lines: list[str]) -> None:
+            found.append(lines)
+            if len(found) == len(views) and not shown.done():
+                shown.set_result(None)
+
+        self._views.add(shown)
+        self.send(views, [take] * len(views))
+        try:
+            await shown
+        finally:
+            self._views.discard(shown)
+        for view, lines in zip(views, found):
+            if not lines[0].startswith("show "):
+                raise ProcessError(f"the program answers '{lines[0]}' to {view}", 2)
+        return found
 
     def _look_in(self, seconds: float) -> None:
         """Looks at the program in a while."""
@@ -245,11 +279,23 @@ class Process:
             self.kill()
             await asyncio.wait({self._task}, timeout=KILL_SECONDS)
 
+    def give_up(self) -> None:
+        """Kills it. Nothing more of it is taken, and its end isn't told."""
+        self._leave(ProcessError("the program was given up", -1))
+        self.kill()
+
+    def _leave(self, fault: ProcessError) -> None:
+        """Nothing more of it is taken."""
+        self.has_ended = True
+        self._answers.clear()
+        for shown in self._views:
+            if not shown.done():
+                shown.set_exception(fault)
+
     def _end(self, fault: ProcessError) -> None:
-        """It has ended, or is given up: nothing more of it is taken."""
+        """It has ended, which is told, where it wasn't given up."""
         if not self.has_ended:
-            self.has_ended = True
-            self._answers.clear()
+            self._leave(fault)
             self._on_end(fault)
 
     async def _read(self) -> None:

@@ -160,13 +160,13 @@ def entries_in(text: str) -> list[Entry]:
     return found
 
 
-def matched(
-    messages: Iterable[Message], entries: Sequence[Entry]
-) -> list[tuple[Message, Entry | None]]:
-    """Each message with its entry, None where it was not executed. Raises RecoveryError where an
-    entry is left.
-    """
-    found: list[tuple[Message, Entry | None]] = []
+Settled = list[tuple[Message, Entry | None]]
+"""Messages with their entries, None for one that was not executed."""
+
+
+def matched(messages: Iterable[Message], entries: Sequence[Entry]) -> Settled:
+    """Each message with its entry. Raises RecoveryError where an entry is left."""
+    found: Settled = []
     place = 0
     for message in messages:
         is_next = place < len(entries) and entries[place].record == message.record
@@ -185,14 +185,12 @@ class Run:
     messages: list[Message] = dataclasses.field(default_factory=list)
 
 
-def settled(
-    runs: Sequence[Run], entries: Sequence[Entry]
-) -> list[tuple[Message, Entry | None]]:
+def settled(runs: Sequence[Run], entries: Sequence[Entry]) -> Settled:
     """What became of all messages of some runs, each of which ended where the next one begins, and
     the last one at the journal's end. Raises RecoveryError.
     """
     ends = [*(run.begin for run in runs[1:]), len(entries)]
-    found: list[tuple[Message, Entry | None]] = []
+    found: Settled = []
     if not runs and entries:
         raise RecoveryError("the journal has entries, and the log none of its messages")
     for run, end in zip(runs, ends):

@@ -4,12 +4,12 @@ import os
 
 from callauction.statuses import BAD_DAY, BAD_FILE, FAILED, UNLAWFUL
 from callauction.venue.begun import OtherDayError
-from callauction.venue.engine import InUseError
 from callauction.venue.fields import ConfigError
 from callauction.venue.log import LogError, LogInUse, OtherVersion
 from callauction.venue.owned import OwnerError
 from callauction.venue.process import ProcessError
 from callauction.venue.recovery import RecoveryError
+from callauction.venue.runs import InUseError
 from callauction.venue.serving import AddressError
 from callauction.venue.tokens import TokenError
 

@@ -5,7 +5,7 @@ import asyncio
 import csv
 from collections.abc import Iterable, Iterator, Sequence
 
-from callauction.venue import shown, views
+from callauction.venue import downloads, ending, shown, views
 from callauction.venue.downloads import DownloadError
 from callauction.venue.instrument import Instrument
 from callauction.venue.phases import UNCROSSED
@@ -65,7 +65,8 @@ def session(commands: Sequence[str], begin: int) -> Iterator[str]:
 def entries_of(instrument: Instrument) -> list[tuple[str, str]]:
     """The command and the reply of each whole entry of the journal. Raises DownloadError."""
     try:
-        text = instrument.engine.journal.read_text(encoding="ascii")
+        with ending.until_done(lambda: f"the journal of {instrument.identity.key}"):
+            text = instrument.engine.journal.path.read_text(encoding="ascii")
     except OSError as fault:
         raise DownloadError(f"the journal can't be read: {fault.strerror}") from None
     lines = text[: text.rfind("\n") + 1].splitlines()[1:]
@@ -79,17 +80,12 @@ def places(begin: int, end: int) -> range:
 
 
 async def output(words: Sequence[str], records: Iterable[str]) -> list[str]:
-    """The lines that the program prints of these records. Raises DownloadError."""
-    pipe = asyncio.subprocess.PIPE
-    child = await asyncio.create_subprocess_exec(*words, stdin=pipe, stdout=pipe, stderr=pipe)
-    try:
-        out, error = await child.communicate("".join(f"{it}\n" for it in records).encode("ascii"))
-    except asyncio.CancelledError:
-        child.kill()
-        raise
-    if child.returncode != 0:
-        raise DownloadError(error.decode("utf-8", "replace").strip().partition("\n")[0])
-    return out.decode("ascii").splitlines()
+    """The lines that the program prints of these records, of which there may be many: others have
+    their turn meanwhile. Raises DownloadError.
+    """
+    given = await asyncio.to_thread("\n".join, [*records, ""])
+    printed = await downloads.output(words, given.encode("ascii"))
+    return await asyncio.to_thread(printed.decode("ascii").splitlines)
 
 
 def frames_of(

@@ -9,6 +9,7 @@ from callauction.venue import clock
 from callauction.venue.gains import Value
 from callauction.venue.halts import Halts
 from callauction.venue.instrument import Instrument
+from callauction.venue.lasting import going_on
 from callauction.venue.members import Member, Members
 from callauction.venue.messages import MessageError, Order
 from callauction.venue.recovery import Entry
@@ -43,13 +44,18 @@ class Robots:
         """Enters orders of robots when their time has come."""
         while True:
             await asyncio.sleep(PAUSE)
-            for member, board in self._turns():
-                turn = member.name, board.identity.key, board.auctions.state.auction
-                if turn not in self._due:
-                    self._due[turn] = clock.now() + CHANCE.random() * window(board)
-                if self._due[turn] <= clock.now():
-                    self._due[turn] = float("inf")
-                    self._play(member, board)
+            with going_on("the robots' turn"):
+                for member, board in self._turns():
+                    self._look(member, board)
+
+    def _look(self, member: Member, board: Instrument) -> None:
+        """Enters a robot's order where its time has come."""
+        turn = member.name, board.identity.key, board.auctions.state.auction
+        if turn not in self._due:
+            self._due[turn] = clock.now() + CHANCE.random() * window(board)
+        if self._due[turn] <= clock.now():
+            self._due[turn] = float("inf")
+            self._play(member, board)
 
     def _turns(self) -> Iterator[tuple[Member, Instrument]]:
         """The robots that may enter an order, and where."""

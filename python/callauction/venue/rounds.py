@@ -7,7 +7,7 @@ from collections.abc import Callable, Iterable, Mapping, Sequence
 
 from callauction.venue import config
 from callauction.venue.gains import Value
-from callauction.venue.instrument import BoardIdentity, Instrument
+from callauction.venue.instrument import BoardIdentity, Common, Instrument
 from callauction.venue.log import Line, Log, taking
 from callauction.venue.members import Member
 from callauction.venue.messages import MessageError
@@ -91,9 +91,9 @@ class Rounds:
     """
 
     def __init__(self, day: config.DayTerms, folder: pathlib.Path, program: str, log: Log) -> None:
-        self._day, self._folder, self._program, self._log = day, folder, program, log
-        self.all: list[Round] = []
-        self.restores: list[Line] = []
+        self._day, self._log, self.all = day, log, list[Round]()
+        self._common = Common(day, folder, program, log)
+        self.restores = self._common.restores
         self.on_board: Callable[[Instrument], None] = lambda board: None
 
     @property
@@ -120,8 +120,7 @@ class Rounds:
         added = []
         for terms in self._day.instruments:
             identity = BoardIdentity(terms.name, group, round_.number)
-            own = self._day, self._folder, self._program, self._log, self.restores
-            board = Instrument(identity, terms, round_.treatment, *own)
+            board = Instrument(identity, terms, round_.treatment, self._common)
             self.on_board(board)
             round_.boards[identity.name] = board
             added.append(board)

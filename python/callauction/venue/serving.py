@@ -18,7 +18,7 @@ from typing import Any, Protocol
 from aiohttp import web
 
 from callauction.statuses import FAILED
-from callauction.venue import addresses, gates, notices, owned, supervising
+from callauction.venue import addresses, ending, gates, listening, notices, owned, supervising
 from callauction.venue.begun import date_of
 from callauction.venue.heads import GRACE, Handler
 from callauction.venue.http import Site
@@ -31,6 +31,8 @@ from members.
 """
 MOST_PEM = 1 << 20
 """The bytes that a file of a certificate or of a key may have."""
+OTHER_KEY = frozenset({"KEY_VALUES_MISMATCH", "KEY_TYPE_MISMATCH", "NO_CERTIFICATE_ASSIGNED"})
+"""What OpenSSL says of a key that is another certificate's, of the same kind or another."""
 HOSTS = ("DNS", "IP Address")
 """The kinds of names in a certificate by which it is for a host."""
 COLLECTED = 10_000, 5, 2
@@ -76,6 +78,9 @@ class Address:
             raise AddressError(f"--metrics: port {self.port} is the members': take another")
         if bool(self.cert) != bool(self.key):
             raise AddressError("--tls-cert and --tls-key go together")
+        for name in self.names:
+            if not addresses.is_host(name):
+                raise AddressError(f"--name: {name!r} is no name of a host, and no address")
         if self.cert and self.is_insecure:
             raise AddressError("--insecure is for no TLS at all: leave it out")
         if not addresses.is_loopback(self.host) and not self.cert and not self.is_insecure:
@@ -113,6 +118,9 @@ class Address:
         except owned.OwnerError as fault:
             raise AddressError(str(fault)) from None
         except ssl.SSLError as fault:
+            if fault.reason in OTHER_KEY:
+                why = f"{self.key} isn't the key of {self.cert}: put the key there that is"
+                raise AddressError(why) from None
             why = f"{self._unusable(cert, key)}: {fault}"
             raise AddressError(f"{why}: put a PEM file of each there") from None
         except OSError as fault:
@@ -223,7 +231,7 @@ class Front(Door, Protocol):
 
     files: int
 
-    async def begin(self, tls: gates.Tls | None) -> str:
+    async def begin(self, tls: listening.Tls | None) -> str:
         """Listens, with this TLS: the line that says where. Raises AddressError."""
 
     def measures(self) -> Mapping[str, tuple[str, float]]:
@@ -237,18 +245,18 @@ class Pages:
 
     def __init__(self, application: web.Application, found: gates.Gates) -> None:
         self._runner, self._gates = web.AppRunner(application), found
-        self._listener: gates.Listener | None = None
+        self._listener: listening.Listener | None = None
 
-    async def begin(self, host: str, port: int, tls: gates.Tls | None = None) -> int:
+    async def begin(self, host: str, port: int, tls: listening.Tls | None = None) -> int:
         """Listens: the port. Raises AddressError."""
         await self._runner.setup()
         assert self._runner.server is not None
         try:
-            sockets = gates.listening(host, port)
+            sockets = listening.sockets_at(host, port)
         except OSError as fault:
-            raise AddressError(gates.why_not(host, port, fault)) from None
+            raise AddressError(listening.why_not(host, port, fault)) from None
         handler = functools.partial(Handler, self._runner.server)
-        self._listener = gates.Listener(self._gates, sockets, handler, tls)
+        self._listener = listening.Listener(self._gates, sockets, handler, tls)
         return int(sockets[0].getsockname()[1])
 
     def shut(self) -> None:
@@ -258,10 +266,11 @@ class Pages:
 
     async def end(self) -> None:
         """Ends all connections, once their requests are answered or GRACE has passed."""
-        await self._runner.shutdown()
-        if self._runner.server is not None:
-            await self._runner.server.shutdown(GRACE)
-        await self._runner.cleanup()
+        with ending.until_done(self._gates.name):
+            await self._runner.shutdown()
+            if self._runner.server is not None:
+                await self._runner.server.shutdown(GRACE)
+            await self._runner.cleanup()
 
 
 def lines_of_begin(venue: Venue, entries: int) -> list[str]:
@@ -270,10 +279,10 @@ def lines_of_begin(venue: Venue, entries: int) -> list[str]:
     without = f" but for {unknown}" if unknown else ""
     lines = [f"{venue.day.title}: {venue.folder}, {entries} entries so far{without}"]
     if count := len(venue.members.all):
-        goes_on = f"goes on with what was begun on {date_of(venue.starts.began)}"
+        goes_on = f"goes on with what was begun on {date_of(venue.past.began)}"
         round_ = f"round {venue.rounds.now.number}, members: {count}"
         lines.append(f"{goes_on}: {round_}; --folder NEW begins anew")
-    if changes := ", ".join(venue.starts.changes):
+    if changes := ", ".join(venue.past.changes):
         lines.append(f"the day has changed since it was last opened: {changes}")
     return lines
 
@@ -286,11 +295,11 @@ def url_of_metrics(address: Address, port: int) -> str:
 
 def lines_of_address(venue: Venue, address: Address, fronts: Sequence[str]) -> list[str]:
     """The lines that say where the venue is, with those of its other fronts."""
-    url, *others = venue.audience.urls()
+    url, *others = venue.audience.screen.urls()
     lines = [f"members  {url}"]
     lines += [f"or       {other}" for other in others]
     lines += fronts
-    if code := venue.members.codes.get("", ""):
+    if code := venue.members.codes.by_name.get("", ""):
         lines.append(f"code     {code}")
     if address.hides_tokens:
         lines.append(f"tokens   in {venue.folder}/operator.token and beamer.token")
@@ -302,22 +311,21 @@ def lines_of_address(venue: Venue, address: Address, fronts: Sequence[str]) -> l
     return lines
 
 
-def end_in_time() -> None:
-    """Ends this process in a while, where it hasn't ended by itself: what was answered is in the
-    journals by then.
+def end_in_time(asked: threading.Lock) -> None:
+    """Ends this process END_SECONDS after this lock was released, where it hasn't ended by itself:
+    what was answered is in the journals by then.
     """
-
-    def end() -> None:
+    asked.acquire()
+    time.sleep(END_SECONDS)
+    try:
+        left = "; ".join(ending.left())
         kill_all()
         notices.write_left_out()
-        text = f"venue: something didn't end within {END_SECONDS:g} s"
         if notices.has_room(sys.stderr):
+            text = notices.shortened(f"venue: not ended within {END_SECONDS:g} s: {left}")
             print(text, file=sys.stderr, flush=True)
+    finally:
         os._exit(FAILED)
-
-    timer = threading.Timer(END_SECONDS, end)
-    timer.daemon = True
-    timer.start()
 
 
 async def unless(stopped: asyncio.Event, work: Coroutine[Any, Any, None]) -> bool:
@@ -338,7 +346,7 @@ async def begin(
     venue: Venue,
     program: str,
     address: Address,
-    tls: gates.Tls | None,
+    tls: listening.Tls | None,
     fronts: Sequence[Front],
     doors: list[Door],
 ) -> None:
@@ -355,7 +363,8 @@ async def begin(
     pages = Pages(Site(venue, program, address.hosts(), own).application(), own)
     doors.append(pages)
     port = await pages.begin(address.host, address.port, tls)
-    venue.audience.urls = functools.partial(address.urls, port, lambda: venue.certificate_names)
+    urls = functools.partial(address.urls, port, lambda: venue.certificate_names)
+    venue.audience.screen.urls = urls
     for front in fronts:
         others.append(await front.begin(tls))
         doors.append(front)
@@ -414,7 +423,7 @@ def take(venue: Venue, address: Address) -> None:
         NOTICES.warning(text)
 
 
-def reload(venue: Venue, address: Address, tls: gates.Tls | None) -> None:
+def reload(venue: Venue, address: Address, tls: listening.Tls | None) -> None:
     """Takes the certificate anew, for connections from now on."""
     if tls is None:
         NOTICES.warning("there is no certificate that could be taken anew")
@@ -437,16 +446,21 @@ def on_signal(number: signal.Signals, act: Callable[[], None]) -> None:
 
 
 def stopped_by_signals() -> asyncio.Event:
-    """What is set by the first signal from now on that ends the venue, within END_SECONDS."""
-    stopped = asyncio.Event()
+    """What is set by the first signal from now on that ends the venue, within END_SECONDS, also
+    where the loop stands still.
+    """
+    stopped, asked = asyncio.Event(), threading.Lock()
+    asked.acquire()
+    threading.Thread(target=end_in_time, args=(asked,), daemon=True).start()
+    loop = asyncio.get_running_loop()
 
-    def stop() -> None:
-        if not stopped.is_set():
-            stopped.set()
-            end_in_time()
+    def stop(*_: object) -> None:
+        if asked.locked():
+            asked.release()
+        loop.call_soon_threadsafe(stopped.set)
 
     for number in ENDING:
-        on_signal(number, stop)
+        signal.signal(number, stop)
     return stopped
 
 
@@ -461,7 +475,7 @@ async def serve(
     terminal has ended. Raises AddressError, and what Venue.open and close raise.
     """
     context = address.context()
-    tls = gates.Tls(context) if context else None
+    tls = listening.Tls(context) if context else None
     take(venue, address)
     if tls is not None or sys.stdin is None or not sys.stdin.isatty():
         on_signal(signal.SIGHUP, functools.partial(reload, venue, address, tls))

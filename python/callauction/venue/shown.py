@@ -258,12 +258,12 @@ def members_of(members: Members, there: Container[Member | None], rounds: Rounds
         }
         for member in members.everybody
     ]
-    codes = {members.title_of(name): code for name, code in members.codes.items()}
+    codes = {members.title_of(name): code for name, code in members.codes.by_name.items()}
     slowed = [
         {"address": address, "count": len(names), "last": last_of(names)}
         for address, names in members.arrivals.slowed().items()
     ]
-    found = {"type": "members", "members": rows, "codes": codes, "open": members.is_open}
+    found = {"type": "members", "members": rows, "codes": codes, "open": members.codes.is_open}
     return found | {"most": members.most, "slowed": slowed}
 
 

@@ -1,31 +1,23 @@
-"""How a venue starts from what its log and its journals have of earlier runs, and how its boards
-do: then, in a new round or group, and again after a halt.
+"""How the boards of a venue start: from what its log and their journals have of earlier runs, in a
+new round or group, and again after a halt.
 """
 import asyncio
 import contextlib
-import pathlib
-import time
-from collections.abc import Callable, Coroutine, Iterable, Iterator
+from collections.abc import Callable, Coroutine, Iterator
 from typing import Any
 
-from callauction.venue import begun, config
-from callauction.venue.audience import Audience
-from callauction.venue.engine import Settled
-from callauction.venue.halts import Halts
 from callauction.venue.instrument import Instrument
 from callauction.venue.leaving import withdrawn
-from callauction.venue.log import Line, Log, taking
-from callauction.venue.members import Done, Members
+from callauction.venue.log import Line
 from callauction.venue.messages import MessageError
 from callauction.venue.owned import OwnerError
+from callauction.venue.parts import Parts
+from callauction.venue.past import Past
 from callauction.venue.process import ProcessError
 from callauction.venue.recovery import (
-    Entry, Mark, Message, RecoveryError, RolledBackError, mark_of, program_of, runs_of,
+    Mark, RecoveryError, RolledBackError, Settled, mark_of, program_of, runs_of,
 )
-from callauction.venue.rounds import Round, Rounds
 from callauction.venue.timekeeping import is_shift
-from callauction.venue.treatments import Treatment
-from callauction.venue.values import Values
 
 RESUME_SECONDS = 20.0
 """How long a program that is tried again is waited for, longer than it may wait for its journal."""
@@ -35,98 +27,18 @@ Begun = Callable[[Coroutine[Any, Any, None]], "asyncio.Task[None]"]
 
 
 class Starts:
-    """The starts of a venue, whose folder `began` then, and of whose day these `changes` were made
-    since; and those of its boards, of which one after the other is opened again (`reopening`), with
-    the lines of the log that are `waiting` until it is known what the journal has. `on_reopened` is
-    called once one was.
+    """The starts of a venue's boards, of which one after the other is opened again (`reopening`),
+    with the lines of the log that are `waiting` until it is known what the journal has.
+    `on_reopened` is called once one was.
     """
 
-    def __init__(
-        self,
-        day: config.DayTerms,
-        log: Log,
-        members: Members,
-        rounds: Rounds,
-        audience: Audience,
-        values: Values,
-        halts: Halts,
-        begun: Begun,
-    ) -> None:
-        self._day, self._log, self._members, self._rounds = day, log, members, rounds
-        self._audience, self._values, self._halts, self._begun = audience, values, halts, begun
-        self.began, self.changes = time.time(), list[str]()
+    def __init__(self, parts: Parts, past: Past, begun: Begun) -> None:
+        self._log, self._halts = parts.log, parts.halts
+        self._members, self._rounds = parts.members, parts.rounds
+        self._past, self._begun = past, begun
         self.waiting: dict[str, list[Line]] = {}
         self.reopening = asyncio.Lock()
         self.on_reopened: Callable[[], None] = lambda: None
-
-    # ---- what was recorded
-
-    def learn_day(self, lines: list[Line], folder: pathlib.Path) -> None:
-        """Learns when the folder was begun, and what of its day is another since. Raises
-        OtherDayError, and LogError.
-        """
-        changes = begun.changes(self._day, lines, folder)
-        if changes is None or changes or not begun.has_sessions(lines):
-            self._log.note(kind="day", **begun.kept(self._day))
-        self.changes = changes or []
-        self.began = next((line["time"] for line in lines if "time" in line), self.began)
-
-    def replay(self, lines: Iterable[Line], settled: dict[str, Settled]) -> None:
-        """Takes what the log's lines say, in their order."""
-        became = {key: iter(those) for key, those in settled.items()}
-        boards = self._rounds.boards
-        for line in lines:
-            board = boards.get(line.get("instrument", ""))
-            with taking(line):
-                if self._members.replay(line):
-                    continue
-                if is_shift(line):
-                    for key in settled:
-                        boards[key].auctions.set_back(line["behind"])
-                elif board is None:
-                    self._replay_venue(line)
-                elif board.identity.key not in settled:
-                    continue
-                elif line["kind"] == "sent":
-                    self._replay_message(board, *next(became[board.identity.key]))
-                else:
-                    board.replay_line(line)
-
-    def _replay_venue(self, line: Line) -> None:
-        """Takes a line of the log about the venue."""
-        kind = line["kind"]
-        if kind == "round" and line["groups"] == 1:
-            for member in self._members.everybody:
-                member.group = 1
-        elif kind == "beamer":
-            self._audience.beamer_shows = line["shows"]
-        elif kind == "payoffs":
-            self._audience.payoffs_shown = line["shows"]
-        elif kind in ("treat", "message", "dealt", "listed", "deal"):
-            self._replay_round(self._rounds.all[line["round"] - 1], line)
-
-    def _replay_round(self, round_: Round, line: Line) -> None:
-        """Takes a line of the log about a round."""
-        if line["kind"] == "treat":
-            round_.treat(Treatment.of(line["treatment"]), self._day.plan)
-        elif line["kind"] == "message":
-            round_.message = line["text"]
-        elif line["kind"] == "deal":
-            self._members.move(line["groups"])
-            round_.move(line["groups"])
-        else:
-            self._values.replay(round_, line)
-
-    def _replay_message(self, board: Instrument, message: Message, entry: Entry | None) -> None:
-        """Takes a message of an earlier run, and its entry; one that wasn't executed never was."""
-        if entry is not None:
-            board.replay(message, entry)
-            if member := self._members.named(message.member):
-                answer = asyncio.get_running_loop().create_future()
-                answer.set_result(entry)
-                rest = message.record.partition(",")[2]
-                member.keep(message.number, Done(board.identity.market, rest, answer))
-        board.on_entry(message, entry)
 
     # ---- one board
 
@@ -138,7 +50,7 @@ class Starts:
         own = [line for line in lines if line.get("instrument") == key or is_shift(line)]
         try:
             runs = runs_of(own).get(key, [])
-            _, found = await board.engine.open(runs, mark_of(own), program_of(own))
+            found = await board.engine.open(runs, mark_of(own), program_of(own))
         except RolledBackError as fault:
             self.waiting[key] = own
             board.engine.halt(str(fault))
@@ -183,7 +95,7 @@ class Starts:
             try:
                 found = await self.opened(board, lines)
                 if found is not None:
-                    self.replay(lines, {key: found})
+                    self._past.replay(lines, {key: found})
                     await self._log.written()  # the program runs from then on
                     await self.begin(board)
                     self.on_reopened()

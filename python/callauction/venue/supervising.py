@@ -4,6 +4,8 @@ import contextlib
 import os
 import socket
 
+from callauction.venue.lasting import going_on
+
 SOCKET, WATCHDOG = "NOTIFY_SOCKET", "WATCHDOG_USEC"
 
 
@@ -30,5 +32,6 @@ def watchdog_seconds() -> float | None:
 async def live(seconds: float) -> None:
     """Gives signs of life, as long as the loop of this venue turns."""
     while True:
-        notify("WATCHDOG=1")
+        with going_on("a sign of life"):
+            notify("WATCHDOG=1")
         await asyncio.sleep(seconds)

@@ -76,7 +76,11 @@ def refusing() -> Iterator[None]:
 
 
 def told(found: shown.Json) -> str:
-    """What became of the orders of members who were removed, empty where nobody was."""
+    """What became of the orders of members who were removed, or the name of one who was renamed;
+    else empty.
+    """
+    if "name" in found:
+        return f" is {found['name']} now"
     if "deleted" not in found:
         return ""
     later = f", and those of {', '.join(found['halted'])} later" if "halted" in found else ""
@@ -90,7 +94,7 @@ def say(level: int, message: dict[str, Any], outcome: str = "") -> None:
     listed = f": {', '.join(map(str, names))}" if isinstance(names, list) and names else ""
     asked = f"the operator: {message['do']}{whose}, from {SOURCE.get()}{listed}{outcome}"
     about = {"member": str(message["member"])} if message.get("member") else {}
-    NOTICES.log(level, "%s", asked, extra={"of": asked} | about)
+    NOTICES.log(level, "%s", asked, extra={"is_once": True} | about)
 
 
 # ---- the auctions
@@ -123,7 +127,7 @@ async def step(venue: Venue, word: str, message: dict[str, Any]) -> shown.Json:
             faults.append(fault)
     if len(faults) == len(boards):
         raise faults[0]
-    venue.audience.show_round()
+    venue.audience.standing.show()
     if not replies:
         return {}
     return {"reply": next(iter(replies.values())), "replies": replies}
@@ -180,7 +184,7 @@ async def announce(venue: Venue, message: dict[str, Any]) -> shown.Json:
     if not SENTENCE.fullmatch(text):
         raise MessageError("bad_message", f"text {flaw_of(text, SENTENCE)}")
     venue.rounds.announce(text)
-    venue.audience.show_round()
+    venue.audience.standing.show()
     return {}
 
 
@@ -213,9 +217,9 @@ async def new_code_of(venue: Venue, message: dict[str, Any]) -> shown.Json:
     """
     title = text_of(message, "member", "")
     name = title
-    if title and title not in venue.members.codes:
+    if title and title not in venue.members.codes.by_name:
         name = venue.members.called(title).name
-    code = venue.members.set_code(name, new_code())
+    code = venue.members.codes.give(name, new_code())
     venue.audience.show_members()
     return {"code": code}
 
@@ -225,7 +229,7 @@ async def open_door(venue: Venue, message: dict[str, Any]) -> shown.Json:
     is_open = message.get("open")
     if not isinstance(is_open, bool):
         raise MessageError("bad_message", "open is neither true nor false")
-    venue.members.open_door(is_open)
+    venue.members.codes.open(is_open)
     venue.audience.show_members()
     return {}
 

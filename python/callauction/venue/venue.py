@@ -9,18 +9,20 @@ import pathlib
 from collections.abc import Awaitable, Callable, Coroutine, Iterator
 from typing import Any
 
-from callauction.venue import config, downloads, owned, room, shares, tokens
+from callauction.venue import config, downloads, ending, owned, room, shares, tokens
 from callauction.venue.auctions import TICK
 from callauction.venue.audience import Audience
-from callauction.venue.engine import Settled
 from callauction.venue.groups import Groups
 from callauction.venue.halts import Halts
 from callauction.venue.instrument import Instrument
+from callauction.venue.lasting import going_on
 from callauction.venue.leaving import Removal
 from callauction.venue.log import VERSION, Log, check_version
 from callauction.venue.members import Done, Member, Members, NameTakenError
 from callauction.venue.messages import MessageError, Order
-from callauction.venue.recovery import Entry, Message
+from callauction.venue.parts import Parts
+from callauction.venue.past import Past
+from callauction.venue.recovery import Entry, Message, Settled
 from callauction.venue.robots import Robots
 from callauction.venue.rounds import Rounds
 from callauction.venue.sheets import SIGNATURE
@@ -56,9 +58,10 @@ class Venue:
         whom = self.log, self.members, self.rounds
         self.audience = Audience(day, *whom, self.halts)
         self.values = Values(*whom, self.audience)
-        seen = self.audience, self.values, self.halts
-        self.starts = Starts(day, *whom, *seen, self._begun)
-        self.groups = Groups(day, *whom, *seen, self.starts)
+        parts = Parts(day, *whom, self.audience, self.values, self.halts)
+        self.past = Past(parts)
+        self.starts = Starts(parts, self.past, self._begun)
+        self.groups = Groups(parts, self.starts)
         self.certificate_ends: float | None = None
         self.certificate_names: list[str] = []
         self.on_entry: Heard = lambda board, message, entry: None
@@ -92,7 +95,7 @@ class Venue:
         here = [it.name for it in there if it.group == board.identity.group]
         later = [name for name, it in members.items() if it is None]
         names = [*here, *later][: config.MOST_TRADERS]
-        has_class = self.day.members.is_open or "" in self.members.codes
+        has_class = self.day.members.is_open or "" in self.members.codes.by_name
         return [*[shares.CLASS] * has_class, *names]
 
     def _changed(self, board: Instrument) -> None:
@@ -107,8 +110,8 @@ class Venue:
 
     def _is_late(self, board: Instrument) -> None:
         """A call has ended before those who were away could do anything."""
-        self.audience.late[board.identity.name] = self.time.say_late(board)
-        self.audience.show_round_to_operator()
+        self.audience.standing.late[board.identity.name] = self.time.say_late(board)
+        self.audience.standing.show_to_operator()
 
     # ---- begin and end
 
@@ -122,7 +125,7 @@ class Venue:
         if not lines:
             self.log.note(kind="venue", version=VERSION)
         check_version(lines, self.log.path)
-        self.starts.learn_day(lines, self.folder)
+        self.past.learn_day(lines, self.folder)
         if not any(line["kind"] == "round" for line in lines):
             self.rounds.note(self.rounds.now)
         self.rounds.learn(lines)
@@ -135,8 +138,8 @@ class Venue:
                 settled[key] = found
         if "behind" not in boot:  # a start that is refused leaves the log as it was
             self.log.note(**boot)
-        self.starts.replay(lines, settled)
-        self.members.open_codes()
+        self.past.replay(lines, settled)
+        self.members.codes.begin()
         await self.log.check_written()
         self._remove_tables()
         for key in settled:
@@ -146,7 +149,7 @@ class Venue:
         self.groups.begin()
         self._begun(self._robots.run())
         self._begun(self._look())
-        return sum(board.engine.count for board in self.rounds.boards.values())
+        return sum(board.engine.journal.count for board in self.rounds.boards.values())
 
     async def _look(self) -> None:
         """Looks every few seconds whether the machine's clock was set, and whether the journals and
@@ -155,15 +158,18 @@ class Venue:
         while True:
             length = self.log.length
             await asyncio.sleep(LOOK_SECONDS)
-            self.time.look()
-            self._look_at_disk()
-            if self.members.arrivals.has_changed():
-                self.audience.show_members()
-            if self.log.length == length:
-                self.time.note(self.rounds.now.boards.values())
+            with going_on("the look at the clock and the disk"):
+                self.time.look()
+                self._look_at_disk()
+                if self.members.arrivals.has_changed():
+                    self.audience.show_members()
+                if self.log.length == length:
+                    self.time.note(self.rounds.now.boards.values())
             for board in [*self.rounds.now.boards.values()]:
-                await board.engine.look()
-            await self.log.look()
+                with going_on(f"the look at the journal of {board.engine.name}"):
+                    await board.engine.look()
+            with going_on("the look at the log"):
+                await self.log.look()
 
     def _look_at_disk(self) -> None:
         """Says once that the disk gets full, until there is room again."""
@@ -196,19 +202,20 @@ class Venue:
         own = {*self._tasks}
         for task in own:
             task.cancel()
-        ending = [asyncio.create_task(work) for work in fronts]
+        closing = [asyncio.create_task(work) for work in fronts]
         programs = [asyncio.create_task(board.end()) for board in self.rounds.boards.values()]
         await asyncio.wait(programs, timeout=CLOSE_SECONDS)
         try:
             self._leave_tables()
         finally:
-            if beside := {*own, *ending}:
+            if beside := {*own, *closing}:
                 await asyncio.wait(beside, timeout=last - loop.time())
+            ending.leave()
             self.time.note(self.rounds.now.boards.values())
             self.log.close()
             if self._log_task is not None:
                 await asyncio.wait([self._log_task], timeout=LOG_SECONDS)
-        for task in (*programs, *ending):
+        for task in (*programs, *closing):
             if task.done():
                 task.result()
 
@@ -228,11 +235,12 @@ class Venue:
         """Writes the tables beside the journals. Raises OSError, which names those that can't be.
         """
         faults: dict[str, OSError] = {}
-        for name, content in self._tables():
-            try:
-                owned.write(self.folder / name, content)
-            except OSError as fault:
-                faults[str(self.folder / name)] = fault
+        with ending.until_done(lambda: "the tables of results"):
+            for name, content in self._tables():
+                try:
+                    owned.write(self.folder / name, content)
+                except OSError as fault:
+                    faults[str(self.folder / name)] = fault
         for first in faults.values():
             raise OSError(first.errno, first.strerror, ", ".join(faults))
 
@@ -326,7 +334,7 @@ class Venue:
 
     async def readmit(self, member: Member) -> str:
         """Lets a member that was removed come again: its code."""
-        code = self.members.set_code(member.name, tokens.new_code())
+        code = self.members.codes.give(member.name, tokens.new_code())
         self.audience.show_members()
         return code
 
@@ -350,7 +358,7 @@ class Venue:
     def lesson(self, program: str) -> downloads.Lesson:
         """What the operator may take home."""
         rounds = [it for it in self.rounds.all if it.has_begun]
-        return downloads.Lesson(self.day, rounds, self.members, program, self.starts.began)
+        return downloads.Lesson(self.day, rounds, self.members, program, self.past.began)
 
 
 async def no_sessions(name: str) -> None:

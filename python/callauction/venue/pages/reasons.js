@@ -63,6 +63,8 @@ const GERMAN = {
   "line {}: quantity {} is no number of shares": "Zeile {}: Menge {} ist keine Zahl von Stücken",
   "line {}: round {} is no number of a round": "Zeile {}: Runde {} ist keine Nummer einer Runde",
   "line {}: {} is in line {} too": "Zeile {}: {} steht schon in Zeile {}",
+  "line {}: {} is in no column: decimal commas need semicolons":
+    "Zeile {}: {} steht in keiner Spalte: Zu Dezimalkommas gehören Strichpunkte",
   "line {}: {}": "Zeile {}: {}",
   "the value {} isn't from {} to {}": "der Wert {} liegt nicht zwischen {} und {}",
   "the reference {} isn't from {} to {}": "die Referenz {} liegt nicht zwischen {} und {}",

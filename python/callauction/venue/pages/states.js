@@ -76,8 +76,8 @@ export function phaseText(state) {
 // What the teacher is to do under a halt: the first that fits why it halted.
 const HALTS = [[/waits for the disk/, "halt_slow"], [/^journal in use/, "halt_in_use"],
   [/: chmod go-w$|, then chown$/, "halt_rights"], [/changed by others/, "halt_file"],
-  [/^journal failed|log can't be written|hasn't answered|No space/, "halt_disk"],
-  [/^the program/, "halt_program"], [/./, "halt_file"]];
+  [/^journal failed|log can't be written|No space/, "halt_disk"],
+  [/^the program hasn't/, "halt_hung"], [/^the program/, "halt_program"], [/./, "halt_file"]];
 
 export const isOfVenue = (why) => why?.startsWith("the venue") ?? false;
 

@@ -146,11 +146,12 @@ function take(message) {
   draw();
 }
 
-// What was refused in a halt isn't said any more once it goes on.
+// What was done isn't said any more in a halt, nor what was refused in it once it goes on.
 function keep(message) {
   const those = said[message.type], before = those[message.instrument];
   those[message.instrument] = message;
-  if (before?.halted && !message.halted && find("said").classList.contains("bad")) say("");
+  const isBad = find("said").classList.contains("bad");
+  if (before && Boolean(before.halted) !== Boolean(message.halted) && isBad === Boolean(before.halted)) say("");
 }
 
 function welcome(message) {

@@ -21,6 +21,8 @@ export const TEXTS = {
     halt_rights: "Nothing is executed on such a file. See that nobody has changed it, and do this; then press “{0}”.",
     halt_in_use: "What was answered is kept. Another process has the journal: standard error of the venue names it. "
       + "End it; then press “{0}”.",
+    halt_hung: "What was answered is kept. The machine has too much to do, or its disk or the program hangs. See to "
+      + "that; then press “{0}”.",
     halt_program: "What was answered is kept. Press “{0}”; where it halts again, memory is short, or the program "
       + "is damaged.",
     random: "ends at random", price: "Price", volume: "Volume", surplus: "Surplus", surplus_bid: "to buy",
@@ -217,6 +219,8 @@ export const TEXTS = {
       + "tun; dann „{0}“ drücken.",
     halt_in_use: "Was beantwortet wurde, bleibt. Ein anderer Prozess hat das Journal; die Fehlerausgabe des "
       + "Handelsplatzes nennt ihn. Ihn beenden; dann „{0}“ drücken.",
+    halt_hung: "Was beantwortet wurde, bleibt. Die Maschine ist überlastet, oder der Datenträger oder das Programm "
+      + "hängt. Dafür sorgen, dass es weitergeht; dann „{0}“ drücken.",
     halt_program: "Was beantwortet wurde, bleibt. „{0}“ drücken; hält es wieder an, fehlt Speicher, "
       + "oder das Programm ist beschädigt.",
     random: "endet zufällig", price: "Preis", volume: "Volumen", surplus: "Überhang", surplus_bid: "Kauf",

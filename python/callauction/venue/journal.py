@@ -1,0 +1,132 @@
+"""The journal of an instrument, as far as its program has answered its entries: the log has marks
+of these, by which an older journal is known, or another one.
+"""
+import asyncio
+import dataclasses
+import errno
+import glob
+import os
+import pathlib
+from collections.abc import Callable, Iterable
+from typing import Any, ParamSpec, TypeVar
+
+from callauction.venue import ending, owned
+from callauction.venue.log import Log, text_of
+from callauction.venue.recovery import (
+    Entry, OTHER_FIRST, Mark, RolledBackError, Sum, known_entries, sums_of,
+)
+
+JOURNAL = ".journal.csv"
+"""How the name of each journal ends."""
+MARK_SECONDS = 0.05
+"""How long after an entry the log has a mark of it."""
+
+P = ParamSpec("P")
+T = TypeVar("T")
+
+
+class Journal:
+    """The journal of the instrument of this name; `first` is the SHA-256 of its first line, empty
+    until that is known.
+    """
+
+    def __init__(self, name: str, path: pathlib.Path, log: Log) -> None:
+        self.name, self.path, self._log = name, path, log
+        self.first = ""
+        self._sum, self._is_marked = Sum(), True
+        self._looked: object = None
+
+    @property
+    def count(self) -> int:
+        """How many entries it has, as far as they were answered."""
+        return self._sum.count
+
+    @property
+    def mark(self) -> Mark:
+        """The mark of these entries."""
+        return self._sum.mark
+
+    def begin(self, entries: Iterable[Entry]) -> None:
+        """It has these entries, from earlier runs."""
+        self._sum = Sum(entries)
+
+    def add(self, entry: Entry, is_marked: bool) -> None:
+        """It has one entry more, of which the log has a mark at once, or soon."""
+        self._sum.add(entry)
+        if self._is_marked:
+            self._is_marked = False
+            asyncio.get_running_loop().call_later(MARK_SECONDS, self.note_mark)
+        if is_marked:
+            self.note_mark()
+
+    def note_mark(self) -> None:
+        """Writes a mark of the entries so far, where the log has none."""
+        if not self._is_marked:
+            self._is_marked = True
+            self._log.append(self.line("mark"))
+
+    def line(self, kind: str, **more: Any) -> str:
+        """The log's line of the entries so far, and of more."""
+        mark = self.mark
+        kept = {"entries": mark.entries, "sha256": mark.sha256}
+        return text_of({"kind": kind, "instrument": self.name} | kept | more)
+
+    # ---- what is on the disk
+
+    async def known_entries(self, mark: Mark) -> list[Entry]:
+        """The entries that it has, which begin with those of the mark. Raises RolledBackError where
+        they don't, OwnerError where it is another user's, OSError.
+        """
+        if owned.check_file(self.path):
+            return await self.in_thread(known_entries, self.path, mark)
+        mark.check([], is_there=False)
+        return []
+
+    async def check(self) -> None:
+        """Raises RolledBackError, or OwnerError, where it isn't as its program has written it, as
+        far as it was answered, and OSError. It is read where something has changed since the last
+        look.
+        """
+        mark, size = self.mark, self._sum.size
+        state = state_of(self.path), mark
+        if state == self._looked:
+            return
+        if not owned.check_file(self.path):
+            await self.known_entries(mark)  # which says that it is missing
+            raise RolledBackError("the journal is missing")
+        first, rest = await self.in_thread(sums_of, self.path, size)
+        self.first = self.first or first
+        if (first, rest) != (self.first, mark.sha256):
+            await self.known_entries(dataclasses.replace(mark, first=self.first))
+            raise RolledBackError(OTHER_FIRST)
+        self._looked = state
+
+    def cut_off(self) -> set[str]:
+        """The files in which its program has kept ends of it that were no whole lines."""
+        names = glob.escape(self.path.name)
+        return {it.name for it in self.path.parent.glob(f"{names}.cut-*")}
+
+    async def in_thread(self, work: Callable[P, T], *args: P.args, **kw: P.kwargs) -> T:
+        """What some work comes to that takes long where there are many entries: others' orders are
+        served meanwhile. Raises what it raises, and OSError where there is no thread.
+        """
+
+        def done() -> T:
+            with ending.until_done(lambda: f"the journal of {self.name}"):
+                return work(*args, **kw)
+
+        try:
+            return await asyncio.to_thread(done)
+        except RuntimeError as fault:
+            raise OSError(errno.EAGAIN, str(fault), str(self.path)) from None
+
+
+def state_of(path: pathlib.Path) -> tuple[int, ...]:
+    """What tells that a file was changed, or another one put into its place; empty where there is
+    none. Raises OSError.
+    """
+    try:
+        found = os.lstat(path)
+    except FileNotFoundError:
+        return ()
+    return found.st_ino, found.st_size, found.st_mtime_ns, found.st_ctime_ns

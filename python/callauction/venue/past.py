@@ -1,0 +1,95 @@
+"""The past of a venue: when its folder was begun, what of its day is another since, and what the
+lines of its log say.
+"""
+import asyncio
+import pathlib
+import time
+from collections.abc import Iterable
+
+from callauction.venue import begun
+from callauction.venue.instrument import Instrument
+from callauction.venue.log import Line, taking
+from callauction.venue.members import Done
+from callauction.venue.parts import Parts
+from callauction.venue.recovery import Entry, Message, Settled
+from callauction.venue.rounds import Round
+from callauction.venue.timekeeping import is_shift
+from callauction.venue.treatments import Treatment
+
+
+class Past:
+    """The past of a venue, whose folder `began` then, and of whose day these `changes` were made
+    since.
+    """
+
+    def __init__(self, parts: Parts) -> None:
+        self._day, self._log, self._rounds = parts.day, parts.log, parts.rounds
+        self._members, self._audience, self._values = parts.members, parts.audience, parts.values
+        self.began, self.changes = time.time(), list[str]()
+
+    def learn_day(self, lines: list[Line], folder: pathlib.Path) -> None:
+        """Learns when the folder was begun, and what of its day is another since. Raises
+        OtherDayError, and LogError.
+        """
+        changes = begun.changes(self._day, lines, folder)
+        if changes is None or changes or not begun.has_sessions(lines):
+            self._log.note(kind="day", **begun.kept(self._day))
+        self.changes = changes or []
+        self.began = next((line["time"] for line in lines if "time" in line), self.began)
+
+    def replay(self, lines: Iterable[Line], settled: dict[str, Settled]) -> None:
+        """Takes what the log's lines say, in their order."""
+        became = {key: iter(those) for key, those in settled.items()}
+        boards = self._rounds.boards
+        for line in lines:
+            board = boards.get(line.get("instrument", ""))
+            with taking(line):
+                if self._members.replay(line):
+                    continue
+                if is_shift(line):
+                    for key in settled:
+                        boards[key].auctions.set_back(line["behind"])
+                elif board is None:
+                    self._replay_venue(line)
+                elif board.identity.key not in settled:
+                    continue
+                elif line["kind"] == "sent":
+                    self._replay_message(board, *next(became[board.identity.key]))
+                else:
+                    board.replay_line(line)
+
+    def _replay_venue(self, line: Line) -> None:
+        """Takes a line of the log about the venue."""
+        kind = line["kind"]
+        if kind == "round" and line["groups"] == 1:
+            for member in self._members.everybody:
+                member.group = 1
+        elif kind == "beamer":
+            self._audience.screen.shows = line["shows"]
+        elif kind == "payoffs":
+            self._audience.paid.shows = line["shows"]
+        elif kind in ("treat", "message", "dealt", "listed", "deal"):
+            self._replay_round(self._rounds.all[line["round"] - 1], line)
+
+    def _replay_round(self, round_: Round, line: Line) -> None:
+        """Takes a line of the log about a round."""
+        if line["kind"] == "treat":
+            round_.treat(Treatment.of(line["treatment"]), self._day.plan)
+        elif line["kind"] == "message":
+            round_.message = line["text"]
+        elif line["kind"] == "deal":
+            self._members.move(line["groups"])
+            round_.move(line["groups"])
+        else:
+            self._values.replay(round_, line)
+
+    def _replay_message(self, board: Instrument, message: Message, entry: Entry | None) -> None:
+        """Takes a message of an earlier run, and its entry; one that wasn't executed never was."""
+        if entry is not None:
+            board.replay(message, entry)
+            if member := self._members.named(message.member):
+                answer = asyncio.get_running_loop().create_future()
+                answer.set_result(entry)
+                rest = message.record.partition(",")[2]
+                member.keep(message.number, Done(board.identity.market, rest, answer))
+        board.on_entry(message, entry)
