@@ -1,21 +1,34 @@
-"""An installed package, as the parts of the test command use it: Debian's below its root's usr, a
-wheel in its environment, or the folder of a tarball.
+#!/usr/bin/env python3
+"""An installed package, as the parts of the test command use it: Debian's below its root's usr, one
+of ./install, a wheel in its environment, or the folder of a tarball.
+
+`checks/package.py PREFIX` looks at its files: whether all are there, and those that are no binaries
+as this repository has them. Prints each that isn't, and `N passed, N failed`; the status is 0 where
+nothing failed.
 """
+import enum
+import glob
+import gzip
 import pathlib
 import subprocess
 import sys
+from collections.abc import Iterator
 
 import built
-from beside import Fault, Task
 
 sys.path.insert(0, str(built.TOP / "build"))
 
+import installed  # noqa: E402
 import layout  # noqa: E402
+import passes  # noqa: E402
 import version  # noqa: E402
+from beside import Fault, Task  # noqa: E402
 from builds import LIBRARY, PROGRAM  # noqa: E402
 
 PACKAGE = "PACKAGE"
 """A word of a command that means the folder of the package for Python."""
+PREFIX = "PREFIX"
+"""A word of a command that means the folder below which all is."""
 PLACES = {
     PROGRAM: ["bin/callboard", "callboard", "lib/python3*/*-packages/callauction/bin/callboard"],
     LIBRARY: ["lib/libcallauction.a", "lib/*/libcallauction.a"],
@@ -23,6 +36,26 @@ PLACES = {
 }
 """Where each is below a prefix."""
 NAMES = {PROGRAM: "program", LIBRARY: "library for C", PACKAGE: "package for Python"}
+OF_PYTHON = PLACES[PACKAGE][0]
+UNIT = "callboard-venue@.service"
+
+
+class Kind(enum.Enum):
+    """How a package was installed."""
+
+    DEBIAN = "packages of Debian"
+    INSTALL = "what ./install installs"
+    WHEEL = "a wheel"
+    TARBALL = "a tarball"
+
+
+HOLDS = {
+    Kind.DEBIAN: {PROGRAM, LIBRARY, PACKAGE},
+    Kind.INSTALL: {PROGRAM, LIBRARY, PACKAGE},
+    Kind.WHEEL: {PROGRAM, PACKAGE},
+    Kind.TARBALL: {PROGRAM},
+}
+"""What packages of a kind have where all of them are installed."""
 
 
 class Package:
@@ -32,8 +65,7 @@ class Package:
         """Looks at a prefix. Raises Fault where it has no program of this version."""
         self.prefix, self.rooms = prefix.resolve(), rooms
         found = {name: self.find(places) for name, places in PLACES.items()}
-        self.files = {name: file for name, file in found.items() if file}
-        self.there = set(self.files)
+        self.files = {name: file for name, file in found.items() if file} | {PREFIX: self.prefix}
         if PROGRAM not in self.files:
             raise Fault(f"{prefix} has no program {' or '.join(PLACES[PROGRAM][:2])}")
         words = [str(self.files[PROGRAM]), "--version"]
@@ -46,12 +78,67 @@ class Package:
         found = [it for place in places for it in sorted(self.prefix.glob(place)) if it.exists()]
         return found[0] if found else None
 
-    def lacking(self, needs: frozenset[str]) -> str:
-        """The first of these that isn't there, in words; empty where all are."""
-        return next((NAMES[it] for it in NAMES if it in needs - self.there), "")
+    def kind(self) -> Kind:
+        """How it was installed."""
+        match self.files[PROGRAM].relative_to(self.prefix).parts[0]:
+            case "bin":
+                is_listed = (self.prefix / installed.LIST).is_file()
+                return Kind.INSTALL if is_listed else Kind.DEBIAN
+            case "lib":
+                return Kind.WHEEL
+        return Kind.TARBALL
+
+    def foreign(self, needs: frozenset[str]) -> str:
+        """The first of these that no package of its kind has, in words; empty where there is none.
+        """
+        return next((NAMES[it] for it in NAMES if it in needs - HOLDS[self.kind()]), "")
+
+    def wanted(self) -> Iterator[tuple[str, bytes | None]]:
+        """The places of its files below the prefix, as glob takes them, each with the text that is
+        wanted, None where it is a binary. Raises OSError.
+        """
+        kind = self.kind()
+        lib = layout.MULTIARCH if kind is Kind.DEBIAN else "lib"
+        for item in layout.program_texts() if kind is not Kind.WHEEL else []:
+            place = layout.in_tarball(item.place) if kind is Kind.TARBALL else item.place
+            is_packed = kind is Kind.DEBIAN and "/man/" in place
+            yield f"{place}.gz" if is_packed else place, item.content
+        if kind is Kind.TARBALL:
+            yield "CHANGELOG.md", (built.TOP / "CHANGELOG.md").read_bytes()
+        if LIBRARY in HOLDS[kind]:
+            yield from ((item.place, item.content) for item in layout.library_texts(lib))
+            yield from ((f"{lib}/{name}", None) for name in layout.LIBRARY_FILES)
+        if PACKAGE in HOLDS[kind]:
+            yield from self.wanted_of_python()
+        if kind is Kind.DEBIAN:
+            unit = (built.TOP / "packaging/debian" / UNIT).read_bytes()
+            yield f"../lib/systemd/system/{UNIT}", unit
+            yield f"{OF_PYTHON}/fix/_quickfix.*.so", None
+
+    def wanted_of_python(self) -> Iterator[tuple[str, bytes | None]]:
+        """As wanted(), of the package for Python."""
+        sources = "python/callauction/"
+        for name in passes.files_of(built.TOP):
+            if name.startswith(sources):
+                place = f"{OF_PYTHON}/{name.removeprefix(sources)}"
+                yield place, (built.TOP / name).read_bytes()
+        yield f"{OF_PYTHON}/_native.*.so", None
+
+    def fault_at(self, place: str, text: bytes | None) -> str:
+        """What is wrong with a file that is wanted; empty where nothing is. Raises OSError."""
+        found = sorted(glob.glob(place, root_dir=self.prefix))
+        if not found or not (self.prefix / found[0]).is_file():
+            return f"{self.prefix} has no {place}"
+        held = (self.prefix / found[0]).read_bytes()
+        if place.endswith(".gz"):
+            held = gzip.decompress(held)
+        is_other = not held if text is None else held != text
+        return f"{self.prefix / found[0]} is another one" if is_other else ""
 
     def path(self, name: str) -> str:
-        """The path that a command has for this."""
+        """The path that a command has for this. Raises Fault where it isn't there, OSError."""
+        if name not in self.files:
+            raise Fault(f"{self.prefix} has no {NAMES[name]}")
         if name == PACKAGE:
             return str(self.files[PACKAGE].parent)
         return str(self.library() if name == LIBRARY else self.files[name])
@@ -62,7 +149,7 @@ class Package:
         if not folder.is_dir():
             folder.mkdir()
             lib = self.files[LIBRARY].parent
-            for name in ("libcallauction.a", layout.SONAME, "libcallauction.so"):
+            for name in layout.LIBRARY_FILES:
                 (folder / name).symlink_to(lib / name)
             for name in ("callauction.h", "callauction.hpp"):
                 (folder / name).symlink_to(self.prefix / "include" / name)
@@ -73,3 +160,24 @@ class Package:
     def tasks(self) -> list[Task]:
         """What builds it: nothing."""
         return []
+
+
+def main() -> int:
+    """Looks at the files of a package; answers the status."""
+    if len(sys.argv) != 2:
+        print("usage: checks/package.py PREFIX", file=sys.stderr)
+        return 2
+    prefix = pathlib.Path(sys.argv[1])
+    try:
+        package = Package(prefix, rooms=prefix)  # where nothing is made
+        found = [package.fault_at(place, text) for place, text in package.wanted()]
+    except (Fault, OSError) as fault:
+        print(f"{fault}\n0 passed, 1 failed")
+        return 1
+    faults = [fault for fault in found if fault]
+    print("\n".join([*faults, f"{len(found) - len(faults)} passed, {len(faults)} failed"]))
+    return int(bool(faults))
+
+
+if __name__ == "__main__":
+    sys.exit(main())

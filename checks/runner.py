@@ -40,11 +40,13 @@ import machine  # noqa: E402
 import proved_binaries  # noqa: E402
 from beside import Ended, Product, Schedule, Task, Viewer  # noqa: E402
 from builds import CLOCK, LIBRARIES, LIBRARY, PROGRAM, TESTS, Builds  # noqa: E402
-from package import PACKAGE, Package  # noqa: E402
+from package import PACKAGE, PREFIX, Package  # noqa: E402
 from passes import Passes, Seconds, sum_of  # noqa: E402
 
 PYTEST = "PYTEST"
 """The word of a command that means pytest under a Python that has it."""
+PRODUCTS = frozenset({PROGRAM, TESTS, CLOCK, LIBRARY, LIBRARIES, PACKAGE, PREFIX})
+"""The words of a command that mean what is built or installed."""
 COUNTS = re.compile(r"(\d+) passed, (\d+) failed")
 LOGS = built.TOP / "out/check"
 GATE, BODIES = "ci", "bodies"
@@ -75,20 +77,25 @@ class Part:
 
     def needs(self) -> frozenset[str]:
         """What has to be built or installed before it can begin."""
-        words = frozenset(re.split("[ =]", self.command))
-        return words & {PROGRAM, TESTS, CLOCK, LIBRARY, LIBRARIES, PACKAGE}
+        return PRODUCTS.intersection(re.split("[ =]", self.command))
 
 
 FEW = " -p checks.one_of_each"
 """What has pytest run one case of each test."""
+KINDS = " -p one_of_each_kind"
+"""What has pytest run one test of each kind."""
+TYPED = "env MYPY_CACHE_DIR=../out/mypy/"
+"""Has mypy, run in python/, keep for the next short run what it found, in a folder of this name."""
 COMPARE = f"checks/compare --fresh --program {PROGRAM}"
 FROM_C = f"library/test --library {LIBRARY}"
 FROM_PYTHON = f"python/test --library {LIBRARY} --program {PROGRAM}"
 MARKET, VENUE = f"checks/market {PROGRAM}", f"checks/venue {PROGRAM}"
 MEASURING = ("tests_venue/test_floods.py", "tests_venue/test_hangs.py")
 """The tests of a venue that measure times."""
-REST_OF_VENUE = " ".join([VENUE, *(f"--ignore={file}" for file in MEASURING)])
 FLOODS = " ".join([VENUE, *MEASURING])
+OF_FIX = "tests_venue/test_fix_*.py"
+FIX = f"{VENUE} {OF_FIX}"
+REST_OF_VENUE = " ".join([VENUE, *(f"--ignore-glob={it}" for it in (*MEASURING, OF_FIX))])
 OF_VENUES = (
     "aiohttp hypothesis jsonschema mypy prometheus_client psutil pytest pytest_aiohttp "
     "pytest_rerunfailures selenium"
@@ -164,7 +171,7 @@ PARTS = [
         "the built library from C",
         f"{FROM_C} --short 980 --long 20 --opens 100000",
         "gcc g++ clang valgrind pkg-config ar",
-        short=f"{FROM_C} --short 50 --long 1 --opens 1000",
+        short=f"{FROM_C} --short 50 --long 1 --opens 1000 --one-of-each",
     ),
     Part(
         "python",
@@ -173,7 +180,7 @@ PARTS = [
         "cc",
         "cffi numpy Python.h pytest hypothesis mypy aiohttp prometheus_client pandas matplotlib "
         "tqdm nbclient ipykernel",
-        short=f"{FROM_PYTHON} --one-of-each",
+        short=f"{TYPED}python DAMAGED_DAYS=12 {FROM_PYTHON} --one-of-each",
     ),
     Part(
         "report",
@@ -189,15 +196,23 @@ PARTS = [
         MARKET,
         "openssl prlimit setpriv",
         "distributed dask hypothesis mypy pandas psutil pytest tqdm",
-        short=f"{MARKET} -p one_of_each",
+        short=f"{TYPED}market {MARKET}{KINDS}",
     ),
     Part(
         "venue",
-        "members over the network and by FIX, kills, pages",
+        "members over the network, kills, pages",
         REST_OF_VENUE,
         "chromedriver chromium g++ nsenter openssl strace systemd-analyze unshare",
         OF_VENUES,
-        short=f"{REST_OF_VENUE} -p one_of_each",
+        short=f"{TYPED}venue VENUE_KILLS=20 VENUE_ROUND_KILLS=3 {REST_OF_VENUE}{KINDS}",
+    ),
+    Part(
+        "fix",
+        "members of a venue by FIX",
+        FIX,
+        "chromedriver chromium g++ nsenter openssl unshare",
+        OF_VENUES,
+        short=f"env VENUE_FIX_KILLS=6 {FIX}{KINDS}",
     ),
     Part(
         "floods",
@@ -206,7 +221,7 @@ PARTS = [
         "chromedriver chromium g++ nsenter openssl unshare",
         OF_VENUES,
         is_alone=True,
-        short=f"{FLOODS} -p one_of_each",
+        short=FLOODS + KINDS,
     ),
     Part(
         "bench",
@@ -240,11 +255,14 @@ INSTALLED = {
     "report": f"checks/report --package {PACKAGE} {PROGRAM}",
     "market": f"{ON_PACKAGE} {MARKET}",
     "venue": f"{ON_PACKAGE} {REST_OF_VENUE}",
+    "fix": f"{ON_PACKAGE} {FIX}",
     "floods": f"{ON_PACKAGE} {FLOODS}",
 }
 """The commands on an installed package that are others."""
 NOT_INSTALLED = {"layout", GATE, BODIES, "bench", "release"}
 """The parts that need the toolchain, or that make packages."""
+FILES = Part("files", "each file of the package", f"checks/package.py {PREFIX}")
+"""On an installed package alone."""
 PACKAGES = {
     "ar": "binutils",
     "bash": "bash",
@@ -297,7 +315,7 @@ def missing_modules(parts: list[Part]) -> list[str]:
 
 def words_of(command: str, builds: Builds | Package) -> list[str]:
     """The words of a part's command, with the paths of what is built. Raises beside.Fault where
-    there is no pytest.
+    there is no pytest, or a package lacks a part.
     """
     found = []
     for word in command.split():
@@ -308,7 +326,7 @@ def words_of(command: str, builds: Builds | Package) -> list[str]:
                 raise beside.Fault(str(lack)) from None
         else:
             head, equals, name = word.rpartition("=")
-            found.append(head + equals + builds.path(name) if name in builds.files else word)
+            found.append(head + equals + builds.path(name) if name in PRODUCTS else word)
     return found
 
 
@@ -326,7 +344,7 @@ def tasks_of(parts: list[Part], builds: Builds | Package) -> list[Task]:
     tried = tried_elsewhere({part.name for part in parts})
     for part in parts:
         words = functools.partial(words_of, part.command, builds)
-        needs = part.needs()
+        needs = part.needs() if isinstance(builds, Builds) else frozenset()
         gives: tuple[Product, ...] = ()
         if part.name == GATE and isinstance(builds, Builds):
             words, gives = functools.partial(gate.words, builds.gate, tried), builds.of_gate()
@@ -480,26 +498,31 @@ def short(parts: list[Part], since: str) -> list[Part]:
     ]
 
 
-def on_package(parts: list[Part], package: Package) -> Iterator[Part]:
-    """These parts on an installed package; says of each that needs more than it has."""
+def installed(parts: list[Part], package: Package, are_named: bool) -> Iterator[Part]:
+    """These parts on an installed package. Leaves out those that need what no such package has, and
+    says so, unless they are named.
+    """
     for part in parts:
-        if part.name in NOT_INSTALLED:
-            continue
         found = dataclasses.replace(part, command=INSTALLED.get(part.name, part.command))
-        if lack := package.lacking(found.needs()):
-            print(f"check: {part.name}: not run: {package.prefix} has no {lack}", flush=True)
+        foreign = "" if are_named else package.foreign(found.needs())
+        if foreign:
+            kind = package.kind().value
+            print(f"check: {part.name}: not run: {kind} has no {foreign}", flush=True)
         else:
             yield found
 
 
-def chosen(names: list[str]) -> list[Part]:
-    """The parts with these names, all where there is none, in the order of the table. Raises
-    beside.Fault for another name.
+def chosen(names: list[str], is_installed: bool = False) -> list[Part]:
+    """The parts with these names, all where there is none, in the order of the table; whether of
+    those on an installed package. Raises beside.Fault for another name.
     """
+    on_package = [FILES, *(it for it in PARTS if it.name not in NOT_INSTALLED)]
+    parts = on_package if is_installed else PARTS
     for name in names:
-        if name not in [part.name for part in PARTS]:
-            raise beside.Fault(f"there is no part {name!r}; ./check --list has them")
-    return [part for part in PARTS if not names or part.name in names]
+        if name not in [part.name for part in parts]:
+            where = " on an installed package" if is_installed else ""
+            raise beside.Fault(f"there is no part {name!r}{where}; ./check --list has them")
+    return [part for part in parts if not names or part.name in names]
 
 
 class Missing(Exception):
@@ -581,12 +604,12 @@ def keep_binaries(results: Results, builds: Builds, parts: list[str]) -> None:
 def run_installed(parts: list[Part], asked: argparse.Namespace, rooms: pathlib.Path) -> int:
     """Runs parts on an installed package; answers the status. Raises as run()."""
     package = Package(asked.installed, rooms)
-    found = [*on_package(parts, package)]
+    found = [*installed(parts, package, bool(asked.parts))]
     look_for_tools(found)
     logs = LOGS / "installed"
     logs.mkdir(exist_ok=True)
     results = Results(found, asked.show, seconds_of(logs))
-    return run_tasks(tasks_of(found, package), package.there, results, logs, rooms, asked.jobs)
+    return run_tasks(tasks_of(found, package), set(), results, logs, rooms, asked.jobs)
 
 
 def run_tasks(
@@ -683,7 +706,7 @@ def main() -> int:
         return 0
     listen()
     try:
-        parts = chosen(asked.parts)
+        parts = chosen(asked.parts, bool(asked.installed))
         with held() as rooms:
             return (run_installed if asked.installed else run)(parts, asked, rooms)
     except KeyboardInterrupt:

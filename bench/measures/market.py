@@ -229,9 +229,11 @@ def ready(asked: argparse.Namespace, work: pathlib.Path) -> Task:
     program = measuring.our_program(asked.program).words[0]
     environment = os.environ | {
         "CALLBOARD": os.path.abspath(program),
-        "PYTHONPATH": str(measuring.TOP / "python"),
+        "PYTHONPATH": str(work),
         "LC_ALL": "C",
     }
+    shutil.copytree(measuring.TOP / "python/callauction", work / "callauction")
+    environment.pop("PYTHONDONTWRITEBYTECODE", None)  # a package is compiled when it is installed
     files: pathlib.Path = asked.keep / f"{asked.instruments}-{asked.entries}"
     if not files.is_dir():
         words = [BENCH / "write_market.py", files, "--instruments", asked.instruments]

@@ -2,8 +2,9 @@
 
 Each is installed, used without the toolchain on the path, and removed without a rest. The packages
 of Debian are installed in a fresh root that mmdebstrap makes, where this runs as root and Debian's
-packages can be fetched; elsewhere they are unpacked to a folder of their own. A table at the end
-says which. Takes the built program (--program) and what library/build wrote (--library).
+packages can be fetched; elsewhere, and in a short run, they are unpacked to a folder of their own.
+A table at the end says which. Takes the built program (--program) and what library/build wrote
+(--library).
 """
 import contextlib
 import json
@@ -24,10 +25,12 @@ import pytest
 
 from checks.built import TOP
 
-sys.path.insert(0, str(TOP / "checks"))
+sys.path[:0] = [str(TOP / "checks"), str(TOP / "build")]
 
+import layout  # noqa: E402
 import proved_binaries  # noqa: E402
 import runner  # noqa: E402
+import version  # noqa: E402
 from proved_binaries import ARCHIVE, SONAME  # noqa: E402
 
 Ran = subprocess.CompletedProcess[str]
@@ -70,6 +73,15 @@ target_link_libraries(shared callauction::callauction)
 add_executable(static user.c)
 target_link_libraries(static callauction::static)
 """
+VERSIONS = """
+cmake_minimum_required(VERSION 3.20)
+project(user C)
+foreach(wanted IN LISTS WANTED)
+    unset(callauction_DIR CACHE)
+    find_package(callauction ${wanted} QUIET)
+    message("${wanted} ${callauction_FOUND}")
+endforeach()
+"""
 CRATES = TOP / "crates.txt"
 FILES = [
     "bin/callboard",
@@ -93,6 +105,12 @@ def built(pytestconfig: pytest.Config, program: str) -> dict[str, str]:
     library = pytestconfig.option.library
     assert library, "--library names no folder that library/build wrote"
     return {"CALLBOARD_PROGRAM": program, "CALLBOARD_LIBRARY": str(pathlib.Path(library).resolve())}
+
+
+@pytest.fixture(scope="session")
+def is_short(pytestconfig: pytest.Config) -> bool:
+    """Whether this is a short run."""
+    return bool(pytestconfig.pluginmanager.has_plugin("checks.one_of_each"))
 
 
 def run(
@@ -122,6 +140,11 @@ def done(
     ran = run(*words, env=env, cwd=cwd, input=input)
     assert ran.returncode == 0, f"{words} ended with {ran.returncode}: {ran.stdout}{ran.stderr}"
     return ran.stdout
+
+
+def is_whole(prefix: pathlib.Path) -> bool:
+    """Whether a package that is installed below a prefix has all its files."""
+    return done(TOP / "checks/package.py", prefix).endswith(" passed, 0 failed\n")
 
 
 def files_below(folder: pathlib.Path) -> list[str]:
@@ -154,7 +177,7 @@ def test_installing(built: dict[str, str], tmp_path: pathlib.Path, is_staged: bo
     env = built | ({"DESTDIR": str(room)} if is_staged else {})
     place = pathlib.Path(str(room) + prefix) if is_staged else room / "own"
     done(TOP / "install", prefix, env=env)
-    assert files_below(place) == FILES
+    assert files_below(place) == FILES and is_whole(place)
     assert done(place / "bin/callboard", input=ORDERS) == ANSWERS
     version = done(TOP / "build/version.py").strip()
     assert f'"callboard {version}"' in (place / "share/man/man1/callboard.1").read_text()
@@ -206,6 +229,23 @@ def use_by_cmake(prefix: pathlib.Path, folder: pathlib.Path) -> None:
     done("cmake", "--build", folder / "cmake")
     for name in ("shared", "static"):
         assert done(folder / "cmake" / name) == "0 0\n"
+
+
+def test_cmake_finds_a_version_that_is_asked_for(tmp_path: pathlib.Path) -> None:
+    """From the first one on, and no later than the end of a range."""
+    for item in layout.library_texts("lib"):
+        place = tmp_path / "own" / item.place
+        place.parent.mkdir(parents=True, exist_ok=True)
+        place.write_bytes(item.content)
+    own = version.version()
+    wanted = {"2026": 1, own: 1, "9999": 0, "2025...9999": 1, "2025...2026.1": 0}
+    wanted |= {f"2025...{own}": 1, f"2025...<{own}": 0, "9998...9999": 0}
+    (tmp_path / "CMakeLists.txt").write_text(VERSIONS)
+    words = ["cmake", "-S", tmp_path, "-B", tmp_path / "made", f"-DWANTED={';'.join(wanted)}"]
+    ran = run(*words, f"-DCMAKE_PREFIX_PATH={tmp_path / 'own'}")
+    assert ran.returncode == 0
+    found = dict(line.split() for line in ran.stderr.splitlines())
+    assert found == {name: str(is_found) for name, is_found in wanted.items()}
 
 
 def snapshot(folder: pathlib.Path) -> dict[str, str]:
@@ -265,6 +305,11 @@ def test_wrong_words(words: list[str]) -> None:
     ran = run(TOP / "install", *words)
     assert ran.returncode == 2
     assert words != ["here"] or "'here' doesn't begin with /" in ran.stderr
+
+
+def test_the_help_names_what_it_reads() -> None:
+    said = done(TOP / "install", "--help")
+    assert all(name in said for name in ("CALLBOARD_PROGRAM", "CALLBOARD_LIBRARY", "DESTDIR"))
 
 
 @pytest.mark.parametrize("variable", ["CALLBOARD_PROGRAM", "CALLBOARD_LIBRARY"])
@@ -527,18 +572,20 @@ def test_the_tarball(release: pathlib.Path, tmp_path: pathlib.Path) -> None:
     with tarfile.open(tarball) as archive:
         archive.extractall(tmp_path)
     (program,) = tmp_path.glob("callboard-*/callboard")
-    assert done(program, input=ORDERS) == ANSWERS
+    assert done(program, input=ORDERS) == ANSWERS and is_whole(program.parent)
     wanted = done("readelf", "--version-info", program)
     versions = {tuple(map(int, it.split("."))) for it in re.findall(r"GLIBC_([0-9.]+)", wanted)}
     assert versions and max(versions) <= (2, 34)
     assert re.findall(r"NEEDED.*\[(.*)\]", done("readelf", "--dynamic", program)) == ["libc.so.6"]
 
 
-def test_the_wheel(release: pathlib.Path, venv: pathlib.Path, tmp_path: pathlib.Path) -> None:
+def test_the_wheel(
+    release: pathlib.Path, venv: pathlib.Path, is_short: bool, tmp_path: pathlib.Path
+) -> None:
     (wheel,) = release.glob("*.whl")
     done(venv / "bin/pip", "install", "--no-index", "--no-deps", wheel)
     python = venv / "bin/python"
-    assert done(python, "-c", PYTHON, cwd=tmp_path) == PRINTED
+    assert done(python, "-c", PYTHON, cwd=tmp_path) == PRINTED and is_whole(venv)
     lines = README.search((TOP / "README.md").read_text())
     assert lines
     printed = done(python, "-c", textwrap.dedent(lines[1]), cwd=tmp_path)
@@ -547,8 +594,10 @@ def test_the_wheel(release: pathlib.Path, venv: pathlib.Path, tmp_path: pathlib.
     assert str(venv) in found and done(found.strip(), input=ORDERS) == ANSWERS
     words = [python, "-P", "-m", "pytest", "-q", "-x", "-c", TOP / "python/pyproject.toml"]
     words += [TOP / "python/tests", "-k", "not notebook and not lesson"]
+    words += ["-p", "one_of_each_kind"] if is_short else []
     env = {"HYPOTHESIS_STORAGE_DIRECTORY": str(tmp_path / "hypothesis"), "MPLBACKEND": "Agg"}
     env |= {"PYTHONDONTWRITEBYTECODE": "1", "HOME": str(tmp_path)}
+    env |= {"PYTHONPATH": str(TOP / "checks")} if is_short else {}
     printed = done(*words, env=env, cwd=tmp_path)
     assert re.search(r"\b\d{2,} passed", printed), printed
     done(venv / "bin/pip", "uninstall", "-y", "callauction")
@@ -564,6 +613,12 @@ DEBIAN = (
 def test_lintian_has_no_error(release: pathlib.Path) -> None:
     printed = done("lintian", "--allow-root", "--fail-on", "error", *release.glob("*.deb"))
     assert "E:" not in printed
+
+
+def test_the_packages_have_all_files(release: pathlib.Path, tmp_path: pathlib.Path) -> None:
+    for deb in release.glob("*.deb"):
+        done("dpkg-deb", "--extract", deb, tmp_path)
+    assert is_whole(tmp_path / "usr")
 
 
 def test_the_packages_config_for_cmake(release: pathlib.Path, tmp_path: pathlib.Path) -> None:
@@ -600,13 +655,16 @@ def files_of(root: pathlib.Path) -> set[str]:
 
 
 def test_debians_packages(
-    release: pathlib.Path, tables: dict[str, list[str]], tmp_path: pathlib.Path
+    release: pathlib.Path,
+    tables: dict[str, list[str]],
+    is_short: bool,
+    tmp_path: pathlib.Path,
 ) -> None:
     debs = [path for name in DEBIAN for path in release.glob(f"{name}_*.deb")]
     wanted = "gcc,libc6-dev,pkgconf,python3,python3-numpy,python3-cffi-backend"
     wanted += ",python3-aiohttp,python3-psutil,systemd-standalone-sysusers,libquickfix17"
-    with fresh_root(tmp_path, wanted) as root:
-        where = "in a fresh root" if root else "in a folder, as no root could be made"
+    with fresh_root(tmp_path, wanted) if not is_short else contextlib.nullcontext() as root:
+        where = "in a fresh root" if root else "in a folder, as no root was made"
         tables["| packages of Debian |"] = [f"| {where} |"]
         if root is None:
             unpacked(debs, tmp_path / "unpacked")

@@ -5,6 +5,7 @@ import contextlib
 import os
 import pathlib
 import re
+import shutil
 import signal
 import subprocess
 import sys
@@ -22,6 +23,7 @@ import built  # noqa: E402
 import changed  # noqa: E402
 import edits  # noqa: E402
 import gate  # noqa: E402
+import layout  # noqa: E402
 import machine  # noqa: E402
 import package  # noqa: E402
 import passes  # noqa: E402
@@ -830,6 +832,20 @@ def test_each_part_has_a_short_command_or_none() -> None:
             assert found[part.name] not in ("", part.command)
 
 
+def test_each_file_of_a_venue_s_tests_is_of_one_part() -> None:
+    folder = TOP / "python"
+    files = {str(it.relative_to(folder)) for it in folder.glob("tests_venue/test_*.py")}
+    words = {part.name: part.command.split() for part in runner.PARTS}
+    named = {
+        name: [str(it.relative_to(folder)) for word in words[name][2:] for it in folder.glob(word)]
+        for name in ("fix", "floods")
+    }
+    ignored = [word.partition("=")[2] for word in words["venue"] if "--ignore" in word]
+    left_out = {str(it.relative_to(folder)) for word in ignored for it in folder.glob(word)}
+    assert sorted(left_out) == sorted(named["fix"] + named["floods"])
+    assert left_out < files and len(named["fix"]) > 20
+
+
 def package_in(folder: pathlib.Path, *places: str, version_of: str = "") -> pathlib.Path:
     """A folder with these places, of which a program says that it has this version."""
     said = f"callboard {version_of or version.version()}"
@@ -841,37 +857,39 @@ def package_in(folder: pathlib.Path, *places: str, version_of: str = "") -> path
 
 
 OF_WHEEL = "lib/python3.11/site-packages/callauction"
+OF_DEBIAN = ("bin/callboard", "lib/x86_64-linux-gnu/libcallauction.a")
+OF_DEBIAN += ("lib/python3/dist-packages/callauction/__init__.py",)
+OF_INSTALL = ("bin/callboard", "lib/libcallauction.a", "share/callauction/installed")
 
 
 @pytest.mark.parametrize(
     "places, there",
     [
         (["callboard"], {"PROGRAM"}),
-        (["bin/callboard", "lib/libcallauction.a"], {"PROGRAM", "LIBRARY"}),
+        (OF_INSTALL, {"PROGRAM", "LIBRARY"}),
         ([f"{OF_WHEEL}/bin/callboard"], {"PROGRAM", "PACKAGE"}),
-        (
-            [
-                "bin/callboard",
-                "lib/x86_64-linux-gnu/libcallauction.a",
-                "lib/python3/dist-packages/callauction/__init__.py",
-            ],
-            {"PROGRAM", "LIBRARY", "PACKAGE"},
-        ),
+        (OF_DEBIAN, {"PROGRAM", "LIBRARY", "PACKAGE"}),
     ],
     ids=["tarball", "./install --without-python", "wheel", "packages of Debian"],
 )
-def test_what_is_installed(tmp_path: pathlib.Path, places: list[str], there: set[str]) -> None:
+def test_what_is_installed(
+    capsys: pytest.CaptureFixture[str], tmp_path: pathlib.Path, places: list[str], there: set[str]
+) -> None:
     prefix = package_in(tmp_path / "a prefix", *places)
     found = package.Package(prefix, tmp_path)
-    assert found.there == there
+    assert found.files.keys() == there | {"PREFIX"}
     assert found.path("PROGRAM") == str(prefix / places[0])
     if "PACKAGE" in there:
         assert found.path("PACKAGE") in str(next(prefix.glob("lib/python3*/*-packages")))
-    names = {part.name for part in runner.on_package(runner.PARTS, found)}
-    assert names >= {"examples", "compare", "hostile", "live", "refusals"}
-    assert ("library" in names) == ("LIBRARY" in there)
-    assert ("python" in names) == ("market" in names) == ("PACKAGE" in there)
-    assert not names & {"layout", "ci", "release"}
+    parts = {part.name: part for part in runner.installed(runner.chosen([], True), found, False)}
+    assert parts.keys() >= {"files", "examples", "compare", "hostile", "live", "refusals"}
+    is_whole = places in (OF_INSTALL, OF_DEBIAN)
+    assert ("library" in parts) == is_whole
+    assert ("python" in parts) == ("market" in parts) == (is_whole or "PACKAGE" in there)
+    assert not parts.keys() & {"layout", "ci", "release"}
+    said = capsys.readouterr().out
+    assert ("check: library: not run: " in said) == ("library" not in parts)
+    assert ("has no package for Python\n" in said) == ("python" not in parts)
 
 
 def test_what_is_not_installed(tmp_path: pathlib.Path) -> None:
@@ -880,6 +898,74 @@ def test_what_is_not_installed(tmp_path: pathlib.Path) -> None:
     old = package_in(tmp_path, "callboard", version_of="1.2.3")
     with pytest.raises(beside.Fault, match="'callboard 1.2.3', and these are the tests of"):
         package.Package(old, tmp_path)
+    for name in ("layout", "ci", "release", "none"):
+        with pytest.raises(beside.Fault, match=f"no part '{name}' on an installed package"):
+            runner.chosen([name], True)
+
+
+INSTALLED_RUN = """
+import sys
+sys.path[:0] = [{checks!r}, {build!r}]
+import pathlib, runner
+runner.LOGS = pathlib.Path({logs!r})
+runner.PARTS[:] = [it for it in runner.PARTS if it.name in ("edits", "library", "report")]
+sys.exit(runner.main())
+"""
+
+
+def on_installed(
+    prefix: pathlib.Path, folder: pathlib.Path, *names: str
+) -> tuple[int, list[str]]:
+    """The status and the lines of a run of some parts on a package, or of those with these names.
+    """
+    paths = {name: str(TOP / name) for name in ("checks", "build")}
+    text = INSTALLED_RUN.format(logs=str(folder / "logs"), **paths)
+    words = [sys.executable, "-B", "-c", text, "--installed", str(prefix), *names]
+    ran = subprocess.run(words, cwd=TOP, stdin=subprocess.DEVNULL, capture_output=True, text=True)
+    return ran.returncode, ran.stdout.splitlines()
+
+
+def test_parts_of_a_package_that_are_missing_fail(tmp_path: pathlib.Path) -> None:
+    prefix = package_in(tmp_path / "a prefix", "bin/callboard")
+    status, lines = on_installed(prefix, tmp_path)
+    assert status == 1
+    for name, lack in (("library", "library for C"), ("report", "package for Python")):
+        assert f"{name}: {prefix} has no {lack}" in lines
+        assert f"check: {name}: FAILED: 0 of 1 passed, 0.0 s" in lines
+    assert any(line.startswith("check: edits: ok: ") for line in lines)
+    assert any(line.startswith("check: files: FAILED: ") for line in lines)
+    assert f"files: {prefix} has no include/callauction.h" in lines
+
+
+def test_a_part_that_is_named_is_not_left_out(tmp_path: pathlib.Path) -> None:
+    prefix = tarball_in(tmp_path / "a prefix")
+    status, lines = on_installed(prefix, tmp_path)
+    assert (status, lines[:1]) == (0, ["check: library: not run: a tarball has no library for C"])
+    status, lines = on_installed(prefix, tmp_path, "library")
+    assert (status, lines[0]) == (1, f"library: {prefix} has no library for C")
+
+
+def tarball_in(folder: pathlib.Path) -> pathlib.Path:
+    """What a tarball holds, with a program that says that it has this version."""
+    package_in(folder, "callboard")
+    for item in layout.program_texts():
+        path = folder / layout.in_tarball(item.place)
+        path.parent.mkdir(parents=True)
+        path.write_bytes(item.content)
+    shutil.copy(TOP / "CHANGELOG.md", folder)
+    return folder
+
+
+def test_the_files_of_a_package(tmp_path: pathlib.Path) -> None:
+    prefix = tarball_in(tmp_path / "a prefix")
+    words = [sys.executable, "-B", TOP / "checks/package.py", prefix]
+    ran = subprocess.run(words, capture_output=True, text=True)
+    assert (ran.returncode, ran.stdout) == (0, "3 passed, 0 failed\n")
+    (prefix / "CHANGELOG.md").unlink()
+    (prefix / "man/man1/callboard.1").write_text("another\n")
+    ran = subprocess.run(words, capture_output=True, text=True)
+    lines = [f"{prefix}/man/man1/callboard.1 is another one", f"{prefix} has no CHANGELOG.md"]
+    assert ran.returncode == 1 and ran.stdout.splitlines() == [*lines, "1 passed, 2 failed"]
 
 
 def test_a_library_that_is_installed(tmp_path: pathlib.Path) -> None:
@@ -891,14 +977,43 @@ def test_a_library_that_is_installed(tmp_path: pathlib.Path) -> None:
     assert "-lcallauction" in (folder / "callauction.pc").read_text()
 
 
-def test_one_case_of_each_test(tmp_path: pathlib.Path) -> None:
-    text = "import pytest\n\n\n@pytest.mark.parametrize('case', [1, 2, 3])\n"
-    text += "def test_cases(case: int) -> None:\n    assert case == 1\n\n\n"
-    text += "def test_other() -> None:\n    pass\n"
-    (tmp_path / "test_planted.py").write_text(text)
-    words = [sys.executable, "-B", "-m", "pytest", "-q", "-p", "checks.one_of_each", str(tmp_path)]
-    ran = subprocess.run(words, cwd=TOP, capture_output=True, text=True)
-    assert ran.returncode == 0 and "2 passed, 2 deselected" in ran.stdout
+PLANTED_TESTS = """
+import pytest
+
+
+@pytest.mark.parametrize("case", [1, 2, 3])
+def test_cases(case: int) -> None:
+    assert case == 1
+
+
+def test_other() -> None:
+    pass
+
+
+def test_with_a_folder(tmp_path: object) -> None:
+    pass
+
+
+@pytest.mark.parametrize("case", [1, 2])
+def test_with_a_folder_too(case: int, tmp_path: object) -> None:
+    assert case == 1
+"""
+
+
+@pytest.mark.parametrize(
+    "plugin, said",
+    [
+        ("one_of_each", "4 passed, 3 deselected"),
+        ("one_of_each_kind", "4 passed, 10 deselected"),
+    ],
+)
+def test_one_of_each(plugin: str, said: str, tmp_path: pathlib.Path) -> None:
+    for name in ("test_planted.py", "test_beside.py")[: 2 if "kind" in plugin else 1]:
+        (tmp_path / name).write_text(PLANTED_TESTS)
+    words = [sys.executable, "-B", "-m", "pytest", "-q", "-p", plugin, str(tmp_path)]
+    env = os.environ | {"PYTHONPATH": str(TOP / "checks")}
+    ran = subprocess.run(words, cwd=tmp_path, env=env, capture_output=True, text=True)
+    assert ran.returncode == 0 and said in ran.stdout, ran.stdout
 
 
 @pytest.mark.parametrize(
