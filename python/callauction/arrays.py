@@ -5,6 +5,7 @@ A flag is 0 or 1. callauction.h says which fields a tag needs, and docs/LIBRARY.
 import numpy
 from numpy.typing import NDArray
 
+from callauction.limits import MOST_NUMBER
 from callauction.words import CommandTag, Restriction, Side
 
 Structs = NDArray[numpy.void]
@@ -157,3 +158,25 @@ def whole(name: str, array: object, kind: "numpy.dtype[numpy.void]", is_written:
     if is_written and not flags.writeable:
         raise ValueError(f"{name} must be writeable")
     return array
+
+
+def look_through(commands: Structs) -> None:
+    """Raises TypeError or ValueError for an array that isn't one of commands, or that has a number
+    that no journal has.
+    """
+    whole("commands", commands, COMMAND, is_written=False)
+    readers = {"quantity": (CommandTag.ENTER, CommandTag.CHANGE), "peak": (CommandTag.ENTER,)}
+    for name, tags in readers.items():
+        wrong = commands[name] > MOST_NUMBER
+        if wrong.any():
+            wrong &= numpy.isin(commands["tag"], tags)
+            wrong &= commands[f"has_{name}"] != 0 if name == "peak" else True
+            refuse_first(commands, name, wrong, f"from 0 to {MOST_NUMBER}")
+
+
+def refuse_first(commands: Structs, name: str, wrong: NDArray[numpy.bool_], wanted: str) -> None:
+    """Raises ValueError for the first command whose field of this name is wrong, if one is."""
+    if wrong.any():
+        place = int(wrong.argmax())
+        found = commands[name][place]
+        raise ValueError(f"commands: element {place}: {name} must be {wanted}, not {found}")

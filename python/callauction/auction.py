@@ -8,7 +8,7 @@ from typing import Any, Self, cast
 
 import numpy
 
-from callauction import words
+from callauction import copied, words
 from callauction.arrays import (
     COMMAND,
     ORDER,
@@ -17,7 +17,6 @@ from callauction.arrays import (
     TRADE,
     Shares,
     Structs,
-    joined,
     whole,
 )
 from callauction.carried import CarriedOver, carried_over
@@ -53,8 +52,6 @@ _BID, _ASK = Side.BID, Side.ASK
 _PRICED = int(ReplyTag.PRICED)
 _HAS_LIMIT, _HAS_PEAK = int(lib.PYTHON_HAS_LIMIT), int(lib.PYTHON_HAS_PEAK)
 _enter, _indicate = lib.python_enter, lib.python_indicate
-_AT_ONCE = 1024
-"""How many trades are copied by one call of the library."""
 ALL_MEMBERS = int(lib.CALLAUCTION_ALL_MEMBERS)
 """The number that means the orders of all."""
 
@@ -291,12 +288,10 @@ class Auction:
         alone: none of an uncross that was interrupted or refused. Raises FullError, or MemoryError
         and then did nothing.
         """
-        outcomes = numpy.zeros(self.config.max_open, OUTCOME)
-        written = ffi.from_buffer("callauction_outcome[]", outcomes, require_writable=True)
-        reply, copied = ffi.new("callauction_reply *"), ffi.new("size_t *")
-        self._call(lib.python_uncross_orders, reply, written, len(written), copied)
-        answer = cast("words.Uncrossed | words.Interrupted | words.Refused", read(reply))
-        return answer, joined(outcomes[: copied[0]])
+        function, reply = lib.python_uncross_orders, ffi.new("callauction_reply *")
+        most = self.config.max_open
+        found = copied.all_of(self._call, function, "callauction_outcome", OUTCOME, most, reply)
+        return cast("words.Uncrossed | words.Interrupted | words.Refused", read(reply)), found
 
     def read_trade(
         self, member: int, number: int, *, check: bool = False
@@ -367,28 +362,19 @@ class Auction:
         """The shares bid and the shares offered by the orders that count, with a limit at each tick
         from low to high: two new arrays of uint64 of the length high - low + 1.
         """
-        bids, asks, _ = self._ladder()
+        bids, asks, _ = copied.ladder(self._call, lib.python_ladder, self.config)
         return bids, asks
 
     def market_orders(self) -> MarketOrders:
         """The shares of the market orders that count."""
-        _, _, market = self._ladder()
+        _, _, market = copied.ladder(self._call, lib.python_ladder, self.config)
         return market
 
     def trades(self, seen: int = 0) -> Structs:
         """The trades of the day after the first `seen`: a new array of TRADE. Raises TypeError or
         ValueError for a bad number.
         """
-        seen = number("seen", seen, (1 << 63) - 1)
-        found: list[Structs] = []
-        copied, room = ffi.new("size_t *", _AT_ONCE), _AT_ONCE
-        while copied[0] == room:
-            trades = numpy.zeros(room, TRADE)
-            written = ffi.from_buffer("callauction_trade[]", trades, require_writable=True)
-            self._call(lib.python_trades, seen, written, room, copied)
-            found.append(trades[: copied[0]])
-            seen += room
-        return joined(*found)
+        return copied.after(self._call, lib.python_trades, "callauction_trade", TRADE, seen)
 
     def orders(self, member: int | None = None) -> Structs:
         """The open orders of a member, or of all, in price-time priority: a new array of ORDER, the
@@ -396,25 +382,19 @@ class Auction:
         or ValueError for a bad number, and MemoryError.
         """
         of = ALL_MEMBERS if member is None else number("member", member, ALL_MEMBERS - 1)
-        return self._orders(lib.python_orders, of)
+        function, most = lib.python_orders, self.config.max_open
+        return copied.all_of(self._call, function, "callauction_order", ORDER, most, of)
 
     def expiring(self) -> Structs:
         """The orders that an uncross now would take out because they are for its auction alone,
         with what would be left of them then: a new array of ORDER. Raises MemoryError.
         """
-        return self._orders(lib.python_expiring)
+        function, most = lib.python_expiring, self.config.max_open
+        return copied.all_of(self._call, function, "callauction_order", ORDER, most)
 
     def carried_over(self) -> CarriedOver:
         """What is left of the day for the next one. Raises MemoryError."""
         return carried_over(self.orders(), self.state().reference)
-
-    def _orders(self, function: Any, *of: int) -> Structs:
-        """The orders that this call of the library writes."""
-        orders = numpy.zeros(self.config.max_open, ORDER)
-        written = ffi.from_buffer("callauction_order[]", orders, require_writable=True)
-        copied = ffi.new("size_t *")
-        self._call(function, *of, written, len(written), copied)
-        return joined(orders[: copied[0]])
 
     def state(self) -> words.State:
         """Where the day is; no call of a member, and after the day too."""
@@ -534,17 +514,3 @@ class Auction:
         except OverflowError:
             raise fault_of(names, given) from None
         return read(reply, check)
-
-    def _ladder(self) -> tuple[Shares, Shares, MarketOrders]:
-        config = self.config
-        ticks = config.high - config.low + 1
-        bids, asks = numpy.zeros(ticks, numpy.uint64), numpy.zeros(ticks, numpy.uint64)
-        market = ffi.new("callauction_market_orders *")
-        self._call(
-            lib.python_ladder,
-            ffi.from_buffer("uint64_t[]", bids, require_writable=True),
-            ffi.from_buffer("uint64_t[]", asks, require_writable=True),
-            ticks,
-            market,
-        )
-        return bids, asks, MarketOrders(market.bids, market.asks)

@@ -9,9 +9,8 @@ from typing import TYPE_CHECKING, Any, Self, cast
 
 import numpy
 
-from callauction import words
+from callauction import copied, words
 from callauction.arrays import (
-    COMMAND,
     ENTRY,
     ORDER,
     RECEIPT,
@@ -19,12 +18,14 @@ from callauction.arrays import (
     Shares,
     Structs,
     joined,
-    whole,
+    look_through,
+    refuse_first,
 )
 from callauction.auction import ALL_MEMBERS, Auction, config_of, config_struct, copy_over
+from callauction.carried import CarriedOver
 from callauction.errors import AuctionError, NotAppliedError, close_after
 from callauction.library import ffi, lib
-from callauction.limits import MOST_CLIENT, MOST_MEMBERS, MOST_NUMBER
+from callauction.limits import MOST_CLIENT, MOST_MEMBERS, MOST_NUMBER, MOST_RANGE
 from callauction.reading import (
     board_error_of,
     entered,
@@ -50,9 +51,6 @@ from callauction.words import (
 if TYPE_CHECKING:
     from callauction.board_day import BoardDay
 
-_MOST_SEEN = (1 << 63) - 1
-_AT_ONCE = 1024
-"""How many trades or entries are copied by one call of the library."""
 _TERMS, _CHANGE = ("quantity", "limit", "peak", "client"), ("id", "quantity", "limit")
 """The numbers of commands, in the order in which the library takes them."""
 _BID, _ASK = Side.BID, Side.ASK
@@ -207,13 +205,16 @@ class Member:
 
     def apply_many(self, commands: Structs) -> Structs:
         """Records an array of COMMAND one after another, with no other member's call between them:
-        their receipts, a new array of RECEIPT. The `member` of a struct isn't read. No thread may
-        write the array meanwhile, or change its size.
+        their receipts, a new array of RECEIPT. No thread may write the array meanwhile, or change
+        its size.
 
         Stops as Auction.apply_many; the `replies` of the error are the receipts before it. Raises
-        TypeError or ValueError for a bad array.
+        TypeError or ValueError for a bad array, or one with a number that no journal has, and
+        ValueError for another's command: the `member` of a struct is 0 or this member, or is 1 in
+        all of them, as `commands` makes them. Then none is recorded.
         """
-        whole("commands", commands, COMMAND, is_written=False)
+        look_through(commands)
+        self._refuse_others(commands)
         given = ffi.from_buffer("callauction_command[]", commands)
         receipts = numpy.zeros(len(given), RECEIPT)
         written = ffi.from_buffer("callauction_receipt[]", receipts, require_writable=True)
@@ -238,31 +239,29 @@ class Member:
         """The shares bid and offered by the orders that count, with a limit at each tick from low
         to high (two new arrays of uint64), those of the market orders, and after how many calls.
         """
-        config = self._board.config
-        ticks = config.high - config.low + 1
-        bids, asks = numpy.zeros(ticks, numpy.uint64), numpy.zeros(ticks, numpy.uint64)
-        market, calls = ffi.new("callauction_market_orders *"), ffi.new("uint32_t *")
-        given = [ffi.from_buffer("uint64_t[]", it, require_writable=True) for it in (bids, asks)]
-        self._call(lib.python_board_ladder, *given, ticks, market, calls)
-        return bids, asks, MarketOrders(market.bids, market.asks), int(calls[0])
+        config, calls = self._board.config, ffi.new("uint32_t *")
+        found = copied.ladder(self._call, lib.python_board_ladder, config, calls)
+        return *found, int(calls[0])
 
     def trades(self, seen: int = 0) -> Structs:
         """The trades of the day after the first `seen`: a new array of TRADE. Raises TypeError or
         ValueError for a bad number.
         """
-        calls = ffi.new("uint32_t *")
-        return self._copied(lib.python_board_trades, "callauction_trade[]", TRADE, seen, calls)
+        function, calls = lib.python_board_trades, ffi.new("uint32_t *")
+        return copied.after(self._call, function, "callauction_trade", TRADE, seen, calls)
 
     def orders(self, member: int | None = None) -> Structs:
         """The open orders of a member of the board, or of all, as Auction.orders. Raises TypeError
         or ValueError for a bad number, and MemoryError.
         """
         of = ALL_MEMBERS if member is None else number("member", member, ALL_MEMBERS - 1)
-        return self._orders(lib.python_board_orders, of)
+        function, most = lib.python_board_orders, self._board.config.max_open
+        return copied.all_of(self._call, function, "callauction_order", ORDER, most, of)
 
     def expiring(self) -> Structs:
         """What an uncross now would take out, as Auction.expiring. Raises MemoryError."""
-        return self._orders(lib.python_board_expiring)
+        function, most = lib.python_board_expiring, self._board.config.max_open
+        return copied.all_of(self._call, function, "callauction_order", ORDER, most)
 
     def state(self) -> words.State:
         """Where the day is, after as many calls as it says."""
@@ -274,7 +273,8 @@ class Member:
         """The entries of the board's history after the first `seen`: a new array of ENTRY, for a
         thread that writes them down while the day runs. Raises as trades.
         """
-        return self._copied(lib.python_board_history, "callauction_entry[]", ENTRY, seen)
+        function = lib.python_board_history
+        return copied.after(self._call, function, "callauction_entry", ENTRY, seen)
 
     def uncrossed_orders(self, kind: AuctionKind) -> Structs:
         """What the uncross of this auction did to the orders, as Auction.uncross_orders says: a new
@@ -305,6 +305,16 @@ class Member:
 
     # ---- calls of the library
 
+    def _refuse_others(self, commands: Structs) -> None:
+        """Raises ValueError for the first command of another member. The function `commands` gives
+        each the member 1 where none is said.
+        """
+        members, own = commands["member"], self._number
+        wrong = (members != 0) & (members != own)
+        if wrong.any() and not (members == 1).all():
+            wanted = f"0 or {own}, the number of this member"
+            refuse_first(commands, "member", wrong, wanted)
+
     def _of_id(self, tag: CommandTag, id: int, check: bool, name: str = "id") -> Receipt:
         """The receipt of the command that has no number but this one."""
         if type(id) is not int:
@@ -328,31 +338,6 @@ class Member:
         answer = function(self._own, self._number, *arguments)
         if answer:
             raise board_error_of(answer)
-
-    def _orders(self, function: Any, *of: int) -> Structs:
-        """The orders that this call of the library writes."""
-        orders = numpy.zeros(self._board.config.max_open, ORDER)
-        written = ffi.from_buffer("callauction_order[]", orders, require_writable=True)
-        copied = ffi.new("size_t *")
-        self._call(function, *of, written, len(written), copied)
-        return joined(orders[: copied[0]])
-
-    def _copied(
-        self, function: Any, kind: str, dtype: "numpy.dtype[Any]", seen: int, *more: Any
-    ) -> Structs:
-        """All that comes after the first `seen`, in pieces. Raises TypeError or ValueError for a
-        bad number.
-        """
-        seen = number("seen", seen, _MOST_SEEN)
-        found: list[Structs] = []
-        copied = ffi.new("size_t *", _AT_ONCE)
-        while copied[0] == _AT_ONCE:
-            piece = numpy.zeros(_AT_ONCE, dtype)
-            written = ffi.from_buffer(kind, piece, require_writable=True)
-            self._call(function, seen, written, _AT_ONCE, copied, *more)
-            found.append(piece[: copied[0]])
-            seen += _AT_ONCE
-        return joined(*found)
 
 
 class Board:
@@ -387,12 +372,19 @@ class Board:
         count = number("members", members, MOST_NUMBER)
         if not 1 <= count <= MOST_MEMBERS:
             raise ValueError(f"members must be from 1 to {MOST_MEMBERS}, not {count}")
+        if range is not None:
+            number("range", range, MOST_RANGE)
         config = config_struct(low, high, reference, max_open, max_calls, range, reserve)
         self._own = ffi.gc(ffi.new("python_board *"), lib.python_board_leave)
         answer = lib.python_board_open(self._own, count, config)
         if answer:
             raise board_error_of(answer)
         self._config = config_of(config)
+        if count > 1 and reserve >= max_calls:
+            raise ValueError(
+                f"reserve must be below max_calls, which is {max_calls}, not {reserve}: members "
+                "would have no call"
+            )
         self._members = tuple(Member(self, self._own, it) for it in builtins.range(count))
         self._day: "BoardDay | None" = None
         _boards.add(self)
@@ -433,6 +425,29 @@ class Board:
         if not 0 <= place <= most:
             raise IndexError(f"a board of {most + 1} members has numbers 0 to {most}, not {place}")
         return self._members[place]
+
+    def enter_carried(self, left: CarriedOver) -> Structs:
+        """Enters what is left of another day, each order by its own member and all in their order:
+        their receipts, a new array of RECEIPT.
+
+        Stops as Member.apply_many. Raises ValueError, and records nothing, where the board hasn't
+        the member of an order.
+        """
+        commands, count = left.commands, len(self)
+        look_through(commands)
+        wrong = commands["member"] >= count
+        refuse_first(commands, "member", wrong, f"from 0 to {count - 1}")
+        made = [numpy.zeros(0, RECEIPT)]
+        begins = numpy.flatnonzero(commands["member"][1:] != commands["member"][:-1]) + 1
+        for part in filter(len, numpy.split(commands, begins)):
+            try:
+                made.append(self._members[part["member"][0]].apply_many(part))
+            except NotAppliedError as error:
+                assert error.replies is not None
+                made.append(error.replies)
+                done, why = sum(map(len, made)), str(error).partition(": ")[2]
+                raise type(error)(f"command {done}: {why}", done, joined(*made)) from None
+        return joined(*made)
 
     @property
     def members(self) -> tuple[Member, ...]:

@@ -23,6 +23,14 @@ class CarriedOver:
     ids: NDArray[numpy.uint32]
     reference: int
 
+    def __eq__(self, other: object) -> bool:
+        """Whether both have the same commands, ids and reference."""
+        if not isinstance(other, CarriedOver):
+            return NotImplemented
+        pairs = (self.commands, other.commands), (self.ids, other.ids)
+        is_same = all(numpy.array_equal(own, others) for own, others in pairs)
+        return is_same and self.reference == other.reference
+
 
 def carried_over(orders: Structs, reference: int) -> CarriedOver:
     """What is left of a day, by its open orders in priority, an array of ORDER.

@@ -3,6 +3,8 @@ each is the greatest value that is allowed.
 """
 
 MOST_TICK = 1_000_000
+MOST_RANGE = 1_000_000
+"""How far from the reference a price may be said to interrupt, in ticks."""
 MOST_TICKS = 65_536
 """How many ticks a day may have from its lowest to its highest."""
 MOST_OPEN = 65_536

@@ -7,19 +7,18 @@ import weakref
 from types import TracebackType
 from typing import Any, Self, cast
 
-import numpy
 import pandas
 
 from callauction import words
-from callauction.arrays import COMMAND, Shares, Structs, whole
+from callauction.arrays import Shares, Structs, look_through, refuse_first
 from callauction.auction import Auction
 from callauction.day_frames import DayTables, written_day
 from callauction.errors import BusyError, NotAppliedError, RefusedError, close_after
-from callauction.limits import MOST_MEMBERS, MOST_NUMBER
+from callauction.limits import MOST_MEMBERS, MOST_NUMBER, MOST_RANGE
 from callauction.program import Day
 from callauction.reading import number, reply_of
 from callauction.tables import orders_frame
-from callauction.words import Command, CommandTag, Config, MarketOrders, Reply, Restriction, Side
+from callauction.words import Command, Config, MarketOrders, Reply, Restriction, Side
 from callauction.written import command_of
 
 _OWN = {"_auction", "_record", "_lock"}
@@ -48,6 +47,8 @@ class RecordedAuction(DayTables):
         range: int | None = None,
         reserve: int = 0,
     ) -> None:
+        if range is not None:
+            number("range", range, MOST_RANGE)
         self._auction = Auction(low, high, reference, max_open, max_calls, range, reserve)
         self._record: list[tuple[int, Command, Reply]] = []
         self._lock: Any = threading.RLock()
@@ -134,7 +135,9 @@ class RecordedAuction(DayTables):
         """As Auction.apply_many: an array of REPLY. Raises ValueError where the array has a member
         or a number that no journal has, and then nothing was applied.
         """
-        _look_through(commands)
+        look_through(commands)
+        wrong = commands["member"] >= MOST_MEMBERS
+        refuse_first(commands, "member", wrong, f"from 0 to {MOST_MEMBERS - 1}")
         with self._lock:
             try:
                 replies = self._auction.apply_many(commands)
@@ -298,23 +301,3 @@ def _look_at(member: object, command: Command) -> None:
         number("quantity", command.quantity, MOST_NUMBER)
     if isinstance(command, words.Enter) and command.peak is not None:
         number("peak", command.peak, MOST_NUMBER)
-
-
-def _look_through(commands: Structs) -> None:
-    """Raises TypeError or ValueError for an array that isn't one of commands, or that has a member
-    or a number that no journal has.
-    """
-    whole("commands", commands, COMMAND, is_written=False)
-    has_quantity = numpy.isin(commands["tag"], (CommandTag.ENTER, CommandTag.CHANGE))
-    has_peak = (commands["tag"] == CommandTag.ENTER) & (commands["has_peak"] != 0)
-    for name, most, is_used in (
-        ("member", MOST_MEMBERS - 1, numpy.ones(len(commands), bool)),
-        ("quantity", MOST_NUMBER, has_quantity),
-        ("peak", MOST_NUMBER, has_peak),
-    ):
-        wrong = numpy.flatnonzero(is_used & (commands[name] > most))
-        if len(wrong):
-            raise ValueError(
-                f"commands: element {wrong[0]}: {name} must be from 0 to {most}, not "
-                f"{commands[name][wrong[0]]}"
-            )

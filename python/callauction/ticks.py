@@ -32,6 +32,15 @@ class Ticks:
         base = f", {self.base}" if self.base else ""
         return f"Ticks({self.tick_size}{base})"
 
+    def __eq__(self, other: object) -> bool:
+        """Whether both have the same tick size and base."""
+        if not isinstance(other, Ticks):
+            return NotImplemented
+        return self._grid == other._grid
+
+    def __hash__(self) -> int:
+        return hash(self._grid)
+
     @property
     def tick_size(self) -> Decimal:
         """How far one tick is from the next, in money."""
