@@ -8,6 +8,7 @@ a task prints goes to a file.
 """
 import contextlib
 import dataclasses
+import math
 import os
 import pathlib
 import re
@@ -25,6 +26,8 @@ SECONDS_TO_GROW = 60.0  # after which a check of proofs has the memory that it n
 UNKNOWN_SECONDS = 1e6  # of a task that never ended well: it comes early
 PATIENCE = 20.0
 """For how many seconds a task that is broken off is waited for, once it is asked to end."""
+LATE = 124
+"""The status of a task that was ended after its time, and ended well then."""
 MARK = "CALLBOARD_CHECK"
 """A variable of the environment by which the processes of a task are found: its mark, after those
 of what the run itself is a part of.
@@ -55,7 +58,8 @@ class Product:
 @dataclasses.dataclass(frozen=True)
 class Task:
     """A command, asked for when it is begun (raises Fault, OSError), the products that it needs and
-    those that it gives, whether it runs alone, and whether it proves.
+    those that it gives, whether it runs alone, whether it proves, and for how many seconds it may
+    run: then it is ended.
     """
 
     name: str
@@ -64,12 +68,13 @@ class Task:
     gives: tuple[Product, ...] = ()
     is_alone: bool = False
     is_proof: bool = False
+    most_seconds: float = math.inf
 
 
 @dataclasses.dataclass(frozen=True)
 class Ended:
-    """How a task ended: its status (None where it wasn't begun), why it wasn't begun, its seconds,
-    and the file of what it printed.
+    """How a task ended: its status (None where it wasn't begun), why it wasn't begun or was ended,
+    its seconds, and the file of what it printed.
     """
 
     task: Task
@@ -154,6 +159,10 @@ class Running:
         """How long it has run."""
         return time.monotonic() - self.begin
 
+    def is_overdue(self) -> bool:
+        """Whether it still runs after its time."""
+        return self.child.poll() is None and self.seconds() > self.task.most_seconds
+
     def send(self, how: signal.Signals) -> None:
         """Sends a signal to all of its group."""
         with contextlib.suppress(ProcessLookupError, PermissionError):
@@ -169,9 +178,9 @@ class Running:
         shutil.rmtree(self.room, ignore_errors=True)
 
 
-def stop(tasks: list[Running]) -> None:
-    """Ends tasks with all that they began. Each is asked first: one that proves by SIGTERM, another
-    as by Ctrl-C, so that tests take away what they made.
+def ask_to_end(tasks: list[Running]) -> None:
+    """Ends tasks: one that proves by SIGTERM, another as by Ctrl-C, so that tests say where they
+    were and take away what they made; what doesn't end is killed.
     """
     for it in tasks:
         it.send(signal.SIGTERM if it.task.is_proof else signal.SIGINT)
@@ -186,6 +195,12 @@ def stop(tasks: list[Running]) -> None:
                 it.send(how)
     for it in tasks:
         it.child.wait()
+
+
+def stop(tasks: list[Running]) -> None:
+    """Ends tasks with all that they began."""
+    ask_to_end(tasks)
+    for it in tasks:
         it.clean()
 
 
@@ -283,8 +298,12 @@ class Schedule:
         return machine.free_gib() >= needed
 
     def look(self) -> None:
-        """Looks at what was printed, and which tasks have ended."""
+        """Looks at what was printed, and which tasks have ended, or are to be ended."""
         for it in [*self.running]:
+            why = ""
+            if it.is_overdue():
+                ask_to_end([it])
+                why = f"ended after {machine.clock_text(it.task.most_seconds)}, its longest time"
             status = it.child.poll()
             for line in it.new_lines(is_last=status is not None):
                 self.viewer.printed(it.task, line)
@@ -293,7 +312,8 @@ class Schedule:
             if status is not None:
                 self.running.remove(it)
                 it.clean()
-                self.end(Ended(it.task, status, "", it.seconds(), it.log))
+                status = status or LATE if why else status
+                self.end(Ended(it.task, status, why, it.seconds(), it.log))
 
 
 def ways(tasks: list[Task], seconds: dict[str, float]) -> dict[str, float]:

@@ -3,12 +3,13 @@ seconds, and the counts at the end.
 
 A part is a command, run at the top of the repository. Where its last line is `N passed, N failed`
 it counts as many; else it counts one, by its status. Its output goes to out/check/NAME.log, and is
-printed too where it failed, or with --show. A part that fails keeps no other from running. One that
-measures times or fills memory runs alone. The longest are begun first: how long each took is kept
-in out/check/seconds.txt (a new clone goes by checks/seconds.txt), and what passed in
-out/check/passed.txt, for --resume. The status is 0 where all passed, 1 where something failed, 2
-where a part, or a tool or a module of Python that the parts need, doesn't exist, or another ./check
-runs here; then no part runs; and 130 where the run was broken off.
+printed too where it failed, or with --show. A part that fails keeps no other from running, and one
+that hangs is ended after its time. One that measures times or fills memory runs alone. The longest
+are begun first: how long each took is kept in out/check/seconds.txt (a new clone goes by
+checks/seconds.txt), and what passed in out/check/passed.txt, for --resume. The status is 0 where
+all passed, 1 where something failed, 2 where a part, or a tool or a module of Python that the parts
+need, doesn't exist, or another ./check runs here; then no part runs; and 130 where the run was
+broken off.
 """
 import argparse
 import contextlib
@@ -16,6 +17,7 @@ import dataclasses
 import fcntl
 import filecmp
 import functools
+import math
 import os
 import pathlib
 import re
@@ -53,6 +55,8 @@ GATE, BODIES = "ci", "bodies"
 """The part that proves all from nothing, and builds the program and its tests; and the one that
 tries the wrong bodies over what it proved, which the gate then leaves to it.
 """
+MOST_SECONDS = 3000.0
+"""For how long a part runs that proves nothing; the longest takes half an hour on two cores."""
 MOST_NAMED = 3  # of the parts that took longest
 BROKEN_OFF = 130
 
@@ -350,7 +354,8 @@ def tasks_of(parts: list[Part], builds: Builds | Package) -> list[Task]:
             words, gives = functools.partial(gate.words, builds.gate, tried), builds.of_gate()
         if part.name == CRATES.name and isinstance(builds, Builds):
             needs = frozenset(builds.needed) if not builds.has_gate else needs
-        found.append(Task(part.name, words, needs, gives, part.is_alone, part.is_proof))
+        most = math.inf if part.is_proof else MOST_SECONDS
+        found.append(Task(part.name, words, needs, gives, part.is_alone, part.is_proof, most))
     return found
 
 
@@ -449,8 +454,8 @@ class Results(Viewer):
     def show_why(self, how: Ended) -> None:
         """Prints what a task has printed, where it wasn't shown already."""
         lines = [how.why] if how.why else []
-        if not lines and not self.shows:
-            lines = how.log.read_text(encoding="utf-8", errors="replace").splitlines()
+        if how.status is not None and not self.shows:
+            lines[:0] = how.log.read_text(encoding="utf-8", errors="replace").splitlines()
         for line in lines:
             self.say(f"{how.task.name}: {line.rstrip()}")
         if how.status is not None and how.status < 0:

@@ -2,6 +2,7 @@
 hang, which run beside each other and in which order, what it leaves running, and how a run goes on.
 """
 import contextlib
+import dataclasses
 import os
 import pathlib
 import re
@@ -489,6 +490,28 @@ def test_a_product_that_cannot_be_taken(scheduled: Scheduled) -> None:
     product = Product("it", take=refuse)
     rows = scheduled(shell("maker", "true", gives=[product]), shell("user", "true", "it"))
     assert rows[-1] == "end user it is broken"
+
+
+@pytest.mark.parametrize("text", ["exec sleep 1000", "trap 'exit 0' INT; sleep 1000 & wait"])
+def test_a_task_that_hangs_is_ended(scheduled: Scheduled, text: str) -> None:
+    """Whatever it does then, the others go on."""
+    late = dataclasses.replace(shell("late", text), most_seconds=1.0)
+    rows = scheduled(late, shell("other", "exit 0", "there"), jobs=1)
+    assert rows[1:] == [
+        "end late ended after 0:01, its longest time",
+        "begin other",
+        "end other 0",
+    ]
+
+
+def test_a_part_that_hangs_fails(plant: Plant) -> None:
+    planted = plant("one hangs", "two passes")
+    script = planted.script.read_text()
+    limit = "\nrunner.MOST_SECONDS = 1.0\nrunner.PARTS"
+    planted.script.write_text(script.replace("\nrunner.PARTS", limit))
+    status, lines = planted.run("-j", "1")
+    assert status == 1 and lines[-1] == "3 passed, 1 failed"
+    assert "one: ended after 0:01, its longest time" in lines
 
 
 def test_a_product_of_nobody(scheduled: Scheduled) -> None:
