@@ -19,6 +19,7 @@ PACKAGES = {
     "prometheus_client": "python3-prometheus-client",
     "pytest_aiohttp": "python3-pytest-aiohttp",
     "pytest_rerunfailures": "python3-pytest-rerunfailures",
+    "pytest_timeout": "python3-pytest-timeout",
 }
 """Debian's package of a module, or of a header, whose name isn't python3-MODULE."""
 LOOK = f"""

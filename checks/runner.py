@@ -102,7 +102,7 @@ FIX = f"{VENUE} {OF_FIX}"
 REST_OF_VENUE = " ".join([VENUE, *(f"--ignore-glob={it}" for it in (*MEASURING, OF_FIX))])
 OF_VENUES = (
     "aiohttp hypothesis jsonschema mypy prometheus_client psutil pytest pytest_aiohttp "
-    "pytest_rerunfailures selenium"
+    "pytest_rerunfailures pytest_timeout selenium"
 )
 LAYOUT = f"{PYTEST} checks/parts/test_layout.py"
 RUNNER = f"{PYTEST} checks/parts/test_runner.py checks/parts/test_costs.py"
@@ -199,7 +199,7 @@ PARTS = [
         "a market by processes and by workers of Dask",
         MARKET,
         "openssl prlimit setpriv",
-        "distributed dask hypothesis mypy pandas psutil pytest tqdm",
+        "distributed dask hypothesis mypy pandas psutil pytest pytest_timeout tqdm",
         short=f"{TYPED}market {MARKET}{KINDS}",
     ),
     Part(
