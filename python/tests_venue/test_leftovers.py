@@ -18,6 +18,7 @@ from callauction.venue.leftovers import Program
 from callauction.venue.metrics import halts_of
 from callauction.venue.venue import Venue
 from conftest import FAST
+from test_robots import until
 
 SLEEPS = ("/bin/sleep", "1000")
 HOLDS = """
@@ -138,8 +139,7 @@ def test_a_program_that_hung_before_its_venue_knew_of_it(tmp_path: pathlib.Path)
     words += ["--port", served.free_port()]
     env = served.environment(CALLBOARD=str(program))
     child = subprocess.Popen(served.words_of(*words), env=env, stderr=subprocess.DEVNULL)
-    while not stop.read_text():
-        time.sleep(0.02)
+    until(lambda: stop.read_text() != "")
     hung = psutil.Process(int(stop.read_text()))
     child.kill()
     child.wait(served.SECONDS)
@@ -173,8 +173,7 @@ def test_which_processes_were_left(tmp_path: pathlib.Path) -> None:
             assert child.stdin is not None and child.stdout is not None
             pid = int(child.stdout.readline())
             try:
-                while not psutil.Process(pid).cmdline():  # as its start isn't done yet
-                    time.sleep(0.01)
+                until(lambda: psutil.Process(pid).cmdline() != [])  # as its start isn't done yet
                 return leftovers.is_left(pid, named, journal)
             finally:
                 psutil.Process(pid).kill()
