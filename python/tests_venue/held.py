@@ -9,13 +9,15 @@ import sys
 import time
 from collections.abc import Iterator
 
-import served
-from callauction.venue.log import Log
+HERE = pathlib.Path(__file__).resolve()
+sys.path.insert(0, str(HERE.parent))  # also where PYTHONSAFEPATH is set
+
+import served  # noqa: E402
+from callauction.venue.log import Log  # noqa: E402
 
 PAUSE = 0.01
 LOG, SENT = "venue.log", "fix.sent"
 """The log of what members said, and that of what sessions were sent."""
-HERE = pathlib.Path(__file__).resolve()
 
 
 def hold_of(log: pathlib.Path) -> pathlib.Path:

@@ -11,7 +11,9 @@ import urllib.request
 from typing import Any
 from urllib.parse import urlsplit
 
-import served
+sys.path.insert(0, str(pathlib.Path(__file__).resolve().parent))  # also where PYTHONSAFEPATH is set
+
+import served  # noqa: E402
 
 PORT = 8080
 
