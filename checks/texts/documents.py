@@ -1,11 +1,11 @@
 """Rules for the documents: each gives its faults as `FILE:LINE: ..` or `FILE: ..`.
 
 - Each name in backticks exists, as a file, or as a word of the code, the scripts or the examples;
-  those in the lists of promises and of wrong bodies too.
+  those in the lists that are made, and of wrong bodies, too.
 - docs/GLOSSARY.md gives each term once, with names of the code that exist; a type or a variant that
   it names is declared once.
 - Each link leads to a file or a folder, and to a heading of it where it names one.
-- Together they have at most MOST_BYTES.
+- Together they have at most MOST_BYTES, without the lists that a command makes: each says which.
 - The kit of `rt version` is among those that a document names, where it names any.
 - No file of the repository cites a paper, or has a path of a machine or one that leads out of it.
 """
@@ -26,6 +26,7 @@ FOREIGN = re.compile(
 )
 LINK = re.compile(r"\]\((?P<path>[^)#\s]*)(?:#(?P<heading>[^)\s]+))?\)")
 HEADING = re.compile(r"^#+ (.*)$", re.MULTILINE)
+MADE_BY = re.compile(r"^This (?:page|list) is made by `([^`]+)`", re.MULTILINE)
 SPAN = re.compile(r"(?<!`)`([^`\n]+)`(?!`)")
 WORD = re.compile(r"[A-Za-z_][A-Za-z0-9_]*(?:[-'][A-Za-z0-9_]+)*'*")
 PATH = re.compile(r"[\w.*-]+(?:/[\w.*-]+)+/?")
@@ -150,6 +151,23 @@ def sizes(tree: Tree) -> Iterator[str]:
         yield f"the documents have {sum(counts.values())} bytes, {MOST_BYTES} at most: {listed}"
 
 
+def made_lists(tree: Tree) -> Iterator[str]:
+    """Lists that aren't counted as documents and don't say which command of the repository makes
+    them.
+    """
+    for file in tree.made:
+        found = MADE_BY.search(tree.text(file))
+        if not (found and is_command(tree, found[1])):
+            yield f"{tree.name(file)}: it doesn't say which command makes it"
+
+
+def is_command(tree: Tree, words: str) -> bool:
+    """Whether words run a file of the repository, or a module of its package."""
+    module = re.search(r" -m (\S+)$", words)
+    path = f"python/{module[1].replace('.', '/')}.py" if module else words.split()[0]
+    return (tree.top / path).is_file()
+
+
 @functools.cache
 def kit() -> str:
     """What `rt version` prints. Raises CalledProcessError."""
@@ -243,4 +261,4 @@ def declared(tree: Tree) -> tuple[Places, Places]:
     return types, variants
 
 
-RULES = [dead_names, dead_links, foreign_texts, sizes, kits, second_meanings]
+RULES = [dead_names, dead_links, foreign_texts, sizes, made_lists, kits, second_meanings]

@@ -4,6 +4,8 @@ import pathlib
 import subprocess
 
 OTHERS = {".c", ".h", ".cpp", ".hpp", ".js"}
+MADE = ("checks/promises.md", "docs/FIX_MESSAGES.md")
+"""Lists that a command makes of the code, and that a test compares with what the command prints."""
 
 
 class Tree:
@@ -49,16 +51,21 @@ class Tree:
 
     @functools.cached_property
     def documents(self) -> list[pathlib.Path]:
-        """README, docs/ and the package's README."""
+        """README, docs/ and the package's README, but for what is MADE."""
         found = [self.top / "README.md", *sorted((self.top / "docs").glob("*.md"))]
-        return [file for file in [*found, self.top / "python/README.md"] if file.is_file()]
+        found.append(self.top / "python/README.md")
+        return [file for file in found if file.is_file() and file not in self.made]
+
+    @functools.cached_property
+    def made(self) -> list[pathlib.Path]:
+        """The lists that are MADE."""
+        return [file for file in (self.top / name for name in MADE) if file.is_file()]
 
     @functools.cached_property
     def lists(self) -> list[pathlib.Path]:
-        """The list of promises, and what each wrong body means: they name what the code has."""
-        found = [self.top / "checks/promises.md"]
-        found += sorted((self.top / "checks/wrong_bodies").glob("*/meanings.txt"))
-        return [file for file in found if file.is_file()]
+        """Those that are made, and what each wrong body means: they name what the code has."""
+        meanings = sorted((self.top / "checks/wrong_bodies").glob("*/meanings.txt"))
+        return [*self.made, *(file for file in meanings if file.is_file())]
 
     def is_script(self, file: pathlib.Path, language: bytes = b"") -> bool:
         """Whether a file begins with a line `#!`, which names this language."""
