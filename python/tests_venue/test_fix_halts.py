@@ -194,6 +194,21 @@ def test_what_waits_for_one_instrument_holds_up_no_other(tmp_path: pathlib.Path)
         assert alice.take(of("late"))[150] == "0"
 
 
+def test_what_comes_after_a_halt_is_refused(tmp_path: pathlib.Path) -> None:
+    """And what came before is answered as the instrument goes on."""
+    with halted(tmp_path) as (venue, alice):
+        enter(alice, "n1", "XYZ")
+        found = alice.take(of("n1"), SOON)
+        assert [found[it] for it in (35, 150, 37, 103)] == ["8", "8", "NONE", "2"]
+        alice.cancel("openXYZ", "f1", "1")
+        found = alice.take(of("f1"), SOON)
+        assert [found[it] for it in (35, 39, 102)] == ["9", "0", "2"]
+        venue.do("resume")
+        assert alice.take(of("late"))[150] == "0"
+        clients = [it[11] for it in shown(alice, "s1", (585, "1"), (55, "XYZ"))]
+        assert clients == ["openXYZ", "late"]
+
+
 @TIMED
 def test_a_subscription_ends_with_its_connection(tmp_path: pathlib.Path) -> None:
     """Also one for which the market was still looked at then: who comes again hears of no change of

@@ -1,5 +1,5 @@
-"""The tables of docs/FIX.md, tag by tag, where no other test looks: which tags a message needs,
-which change nothing, which values are taken, and what is said of those that aren't. What is
+"""The tables of docs/FIX_MESSAGES.md, tag by tag, where no other test looks: which tags a message
+needs, which change nothing, which values are taken, and what is said of those that aren't. What is
 expected is from the standard and that document.
 """
 import pathlib
@@ -269,6 +269,23 @@ def test_what_a_replace_keeps(tmp_path: pathlib.Path) -> None:
         assert answer(peer, "D", order("d1", "2", "10", (40, "2"), (44, "3.00")))[150] == "0"
         found = answer(peer, "G", order("d2", "2", "9", (41, "d1"), (40, "1")))
         assert picked(found, 150, 40, 44, 38, 59) == ("5", "1", "", "9", "0")
+
+
+def test_a_replace_below_the_peak(tmp_path: pathlib.Path) -> None:
+    """The order keeps its peak, which a new order of as few shares can't have, and its limit."""
+    port, limit, peak = served.free_port(), [(40, "2"), (44, "2.00")], [(111, "5")]
+    with on(tmp_path, fixing.day_of(port, "ALICE"), port, "ALICE") as (venue, [peer]):
+        venue.do("start")
+        assert answer(peer, "D", order("a1", "1", "10", *limit, *peak))[150] == "0"
+        assert answer(peer, "D", order("x1", "1", "3", *limit, *peak))[150] == "8"
+        found = answer(peer, "G", [(41, "a1"), *order("a2", "1", "3", *limit)])
+        assert picked(found, 150, 37, 38, 151, 111) == ("5", "XYZ.1", "3", "3", "5")
+        found = answer(peer, "G", [(41, "a2"), *order("a3", "1", "4", *limit, *peak)])
+        assert picked(found, 150, 37, 38, 151, 111) == ("5", "XYZ.1", "4", "4", "5")
+        found = answer(peer, "G", [(41, "a3"), *order("a4", "1", "4", (40, "1"))])
+        assert picked(found, 35, 37, 39, 102) == ("9", "XYZ.1", "0", "99")
+        found = answer(peer, "G", [(41, "a3"), *order("a5", "1", "10", *limit)])
+        assert picked(found, 150, 38, 151, 111) == ("5", "10", "10", "5")
 
 
 def test_until_when_orders_are_open(tmp_path: pathlib.Path) -> None:
