@@ -288,6 +288,16 @@ def test_a_replace_below_the_peak(tmp_path: pathlib.Path) -> None:
         assert picked(found, 150, 38, 151, 111) == ("5", "10", "10", "5")
 
 
+def told_now(peer: Peer) -> list[Message]:
+    """What a member is told up to the answer to a look at an order, which comes after all else that
+    has happened. Raises TimeoutError.
+    """
+    before = len(peer.got)
+    peer.say("H", [(11, "a1"), (55, "XYZ"), (54, "1")])
+    peer.take(lambda it: it.get(150) == "I")
+    return peer.got[before:-1]
+
+
 def test_until_when_orders_are_open(tmp_path: pathlib.Path) -> None:
     """Those for the opening until its uncross, the others until the day is over, at the third."""
     port = served.free_port()
@@ -299,13 +309,13 @@ def test_until_when_orders_are_open(tmp_path: pathlib.Path) -> None:
             pairs = order(f"a{number}", "1", "10", (40, "2"), (44, "2.00"), *more)
             assert picked(answer(peer, "D", pairs), 17, 150, 59) == (f"XYZ.{number}", "0", told)
         venue.do("uncross")
-        ended = peer.all()
+        ended = told_now(peer)
         venue.do("start")
         venue.do("uncross")
-        assert peer.all() == []
+        assert told_now(peer) == []
         venue.do("start")
         venue.do("uncross")
-        ended += peer.all()
+        ended += told_now(peer)
     assert [picked(it, 17, 11, 150, 39, 151, 14, 38) for it in ended] == [
         ("XYZ.6.x4", "a4", "C", "C", "0", "0", "10"),
         ("XYZ.8.x1", "a1", "C", "C", "0", "0", "10"),
