@@ -187,17 +187,17 @@ def test_documents_that_are_too_long(tmp_path: pathlib.Path) -> None:
 
 def test_a_list_that_is_made_is_not_counted(tmp_path: pathlib.Path) -> None:
     made = "This page is made by `python3 -P -m callauction.fix.messages`, of the code.\n"
-    texts = {"docs/FIX_MESSAGES.md": made + "a" * documents.MOST_BYTES, "README.md": "a\n"}
+    texts = {"docs/made/FIX_MESSAGES.md": made + "a" * documents.MOST_BYTES, "README.md": "a\n"}
     tree = planted(tmp_path, **texts, **{"python/callauction/fix/messages.py": ""})
     assert faults_of(documents.sizes, tree) == faults_of(documents.made_lists, tree) == []
-    assert tree.top / "docs/FIX_MESSAGES.md" in tree.lists
+    assert tree.top / "docs/made/FIX_MESSAGES.md" in tree.lists
 
 
 @pytest.mark.parametrize("text", ["A list.", "This page is made by `python3 -P -m callauction.no`"])
 def test_a_list_that_no_command_makes(tmp_path: pathlib.Path, text: str) -> None:
-    tree = planted(tmp_path, **{"docs/FIX_MESSAGES.md": f"{text}\n"})
+    tree = planted(tmp_path, **{"docs/made/FIX_MESSAGES.md": f"{text}\n"})
     assert faults_of(documents.made_lists, tree) == [
-        "docs/FIX_MESSAGES.md: it doesn't say which command makes it"
+        "docs/made/FIX_MESSAGES.md: it doesn't say which command makes it"
     ]
 
 

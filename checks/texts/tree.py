@@ -4,7 +4,7 @@ import pathlib
 import subprocess
 
 OTHERS = {".c", ".h", ".cpp", ".hpp", ".js"}
-MADE = ("checks/promises.md", "docs/FIX_MESSAGES.md")
+MADE = ("checks/promises.md", "docs/made/FIX_MESSAGES.md")
 """Lists that a command makes of the code, and that a test compares with what the command prints."""
 
 

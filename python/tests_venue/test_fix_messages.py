@@ -1,5 +1,5 @@
-"""docs/FIX_MESSAGES.md: its command prints it; the venue takes the tags that a message has there,
-and refuses each other one; its values are those of the code.
+"""docs/made/FIX_MESSAGES.md: its command prints it; the venue takes the tags that a message has
+there, and refuses each other one; its values are those of the code.
 """
 import pathlib
 import re
@@ -15,7 +15,7 @@ from test_fix_slips import Speaker, begin, refusal
 from test_fix_tags import FROM, HEAD, NEEDED, NOTHING, OF_ALL, OF_ORDERS, PARTIES
 
 __all__ = ["begin"]
-PAGE = served.PACKAGE.parent / "docs/FIX_MESSAGES.md"
+PAGE = served.PACKAGE.parent / "docs/made/FIX_MESSAGES.md"
 HEADING = re.compile(r"^### (?P<kind>\w+) (?P<name>\w+)$|^## (?P<part>.*)$")
 ROW = re.compile(r"^\| (?P<tag>[0-9]+) \| [. ]*\w+ \| (?P<needed>[^|]*) \| (?P<says>.*) \|$")
 IDLE = "These change nothing: "

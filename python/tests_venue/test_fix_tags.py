@@ -1,6 +1,6 @@
-"""The tables of docs/FIX_MESSAGES.md, tag by tag, where no other test looks: which tags a message
-needs, which change nothing, which values are taken, and what is said of those that aren't. What is
-expected is from the standard and that document.
+"""The tables of docs/made/FIX_MESSAGES.md, tag by tag, where no other test looks: which tags a
+message needs, which change nothing, which values are taken, and what is said of those that aren't.
+What is expected is from the standard and that document.
 """
 import pathlib
 import types

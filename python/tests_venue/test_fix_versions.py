@@ -26,7 +26,7 @@ OTHERS = {
     *("VenueEventID", "TrdMatchID", "DisplayQty"),
     *("MinPriceIncrement", "LowLimitPrice", "HighLimitPrice"),
 }
-"""Fields that the standard hasn't in these messages, as docs/FIX_MESSAGES.md says."""
+"""Fields that the standard hasn't in these messages, as docs/made/FIX_MESSAGES.md says."""
 PASSED_OVER = {
     *("HandlInst", "ExDestination", "OrderCapacity", "AccountType"),
     *("Text", "EncodedTextLen", "EncodedText"),

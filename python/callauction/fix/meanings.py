@@ -1,4 +1,4 @@
-"""What the messages by FIX and their tags say, in the words of docs/FIX_MESSAGES.md, which
+"""What the messages by FIX and their tags say, in the words of docs/made/FIX_MESSAGES.md, which
 messages.py prints. The tags themselves, and which are needed, are those of the dictionary,
 FIX44.xml.
 """

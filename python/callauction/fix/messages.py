@@ -1,5 +1,5 @@
 """The page of the messages by FIX: `python3 -P -m callauction.fix.messages` prints
-docs/FIX_MESSAGES.md, of the dictionaries by which the venue takes messages and of meanings.py.
+docs/made/FIX_MESSAGES.md, of the dictionaries by which the venue takes messages and of meanings.py.
 """
 import dataclasses
 import sys
@@ -13,12 +13,12 @@ from callauction.fix.meanings import (
 )
 
 USAGE = """usage: python3 -P -m callauction.fix.messages
-Prints docs/FIX_MESSAGES.md: each message and tag that the venue speaks, and what it says."""
+Prints docs/made/FIX_MESSAGES.md: each message and tag that the venue speaks, and what it says."""
 INTRODUCTION = """\
 # The messages by FIX
 
 This page is made by `python3 -P -m callauction.fix.messages`, from the dictionary by which the \
-venue takes messages and from the values in its code. [FIX](FIX.md) says how to connect.
+venue takes messages and from the values in its code. [FIX](../FIX.md) says how to connect.
 
 The venue refuses a message without a tag that is needed, or with a tag that isn't here, by a 3, \
 and doesn't do it; it refuses a type that isn't here by a j. In its own messages the tags that are \
