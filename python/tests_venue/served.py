@@ -24,6 +24,7 @@ NOTICED = re.compile(
     r"|a token that isn't the operator's|the operator: resume( of \S+)?, from |the day is over"
     r"|\S+: process \d+, the program of the last run, "
     r"|the disk of \S+ has \d+ MiB left: |the machine's clock is "
+    r"|.* joined late: group "
     r"|the log's last line is \d|the call of \S+ has ended while |\S+: the end of its journal was )"
 )
 """What is said on standard error of what goes on outside."""

@@ -1,6 +1,8 @@
 """More members than one board has numbers for: groups with boards of their own."""
 import asyncio
 import collections
+import csv
+import io
 import pathlib
 from typing import Any
 
@@ -9,6 +11,7 @@ import browsing
 import judged
 import pytest
 import served
+from browsing import SCREEN, opened
 from callauction.venue import AsyncClient, Client, VenueError
 from conftest import FAST
 from served import Served
@@ -128,6 +131,176 @@ def test_a_latecomer_finds_room(tmp_path: pathlib.Path) -> None:
         venue.do("uncross")
         venue.do("start")
         assert asyncio.run(orders(venue, tokens))[-1] == "XYZ.2: entered"
+
+
+def killed(venue: Served) -> None:
+    """Kills a venue."""
+    venue.child.kill()
+    venue.child.wait()
+
+
+def late(venue: Served) -> list[str]:
+    """The tokens of three members whose call goes on, and of one who is late."""
+    tokens = joined(venue, 3)
+    venue.do("give", low="1.00", high="3.00", quantity=7)
+    venue.do("start")
+    return [*tokens, venue.join("late")]
+
+
+def test_who_was_alone_is_dealt_in_at_the_next_round(tmp_path: pathlib.Path) -> None:
+    """Also where the venue is killed then; values and messages stay their members'."""
+    with served.served(tmp_path, SMALL) as venue:
+        tokens = late(venue)
+        assert sizes(venue) == [1, 3]
+        before = asyncio.run(orders(venue, tokens))
+        assert before == ["XYZ: entered"] * 3 + ["XYZ.2: entered"]
+        venue.do("uncross")
+        values = [value_of(venue, token) for token in tokens]
+        venue.do("next", round=2)
+        assert sizes(venue) == [2, 2]
+        assert [value_of(venue, token) for token in tokens] == values
+        groups = groups_of(venue)
+        killed(venue)
+    with served.served(tmp_path, SMALL) as venue:
+        assert groups_of(venue) == groups
+        assert [value_of(venue, token) for token in tokens] == values
+        venue.do("start")
+        assert len(asyncio.run(orders(venue, tokens))) == 4
+        for round_, counts in ((1, [3, 1]), (2, [2, 2])):
+            for name, count in zip(("XYZ", "XYZ.2"), counts):
+                path = f"api/download/members/{name}?round={round_}"
+                names = venue.call(path, token=venue.operator)[1]
+                assert names.count("\n") == 1 + count
+
+
+def test_a_kill_before_a_round_has_dealt(tmp_path: pathlib.Path) -> None:
+    with served.served(tmp_path, SMALL) as venue:
+        tokens = late(venue)
+        values = [value_of(venue, token) for token in tokens]
+        venue.do("uncross")
+        venue.do("next", round=2)
+        killed(venue)
+        cut(tmp_path / "venue/venue.log", '"kind":"round"')
+    with served.served(tmp_path, SMALL) as venue:
+        assert sizes(venue) == [2, 2]
+        assert [value_of(venue, token) for token in tokens] == values
+
+
+def test_groups_that_lost_members_are_dealt_anew(tmp_path: pathlib.Path) -> None:
+    with served.served(tmp_path, SMALL) as venue:
+        joined(venue, 6)
+        venue.do("start")
+        venue.do("uncross")
+        first = [name for name, group in groups_of(venue).items() if group == 1]
+        venue.do("remove", members=first[:2])
+        venue.do("next", round=2)
+        rows = sees(venue, "members")["members"]
+        there = collections.Counter(it["group"] for it in rows if not it["is_removed"])
+        assert sorted(there.values()) == [2, 2]
+
+
+def test_who_comes_again_has_a_group_that_is_there(tmp_path: pathlib.Path) -> None:
+    """Its own was the third of three, and there are two by now."""
+    with served.served(tmp_path, SMALL) as venue:
+        joined(venue, 7)
+        gone = next(name for name, group in groups_of(venue).items() if group == 3)
+        venue.do("remove", members=[gone])
+        venue.do("next", round=2)
+        assert sees(venue, "round")["groups"] == 2
+        token = venue.join(gone, venue.do("readmit", member=gone)["code"])
+        venue.do("start")
+        assert asyncio.run(orders(venue, [token]))[0].endswith(": entered")
+        killed(venue)
+    with served.served(tmp_path, SMALL) as venue:
+        assert asyncio.run(orders(venue, [token]))[0].endswith(": entered")
+
+
+CALL = SMALL.replace("call = 0", "call = 600")
+
+
+def test_a_late_group_has_the_call_that_goes_on(tmp_path: pathlib.Path) -> None:
+    """It ends with that of the others, and the next one begins with theirs."""
+    with served.served(tmp_path, CALL) as venue:
+        tokens = late(venue)
+        with Client(venue.url, tokens[0]) as me, Client(venue.url, tokens[3]) as other:
+            first, second = me.look("state"), other.look("state")
+            assert (second["phase"], second["auction"]) == ("call", "opening")
+            assert (second["ends"], second["latest"]) == (first["ends"], first["latest"])
+            assert set(venue.do("uncross")["replies"]) == {"XYZ", "XYZ.2"}
+            venue.do("start")
+            assert [it.look("state")["auction"] for it in (me, other)] == ["intraday"] * 2
+            killed(venue)
+    with served.served(tmp_path, CALL) as venue, Client(venue.url, tokens[3]) as other:
+        state = other.look("state")
+        assert (state["phase"], state["auction"]) == ("call", "intraday")
+
+
+def test_a_late_group_waits_while_the_others_are_stopped(tmp_path: pathlib.Path) -> None:
+    with served.served(tmp_path, CALL) as venue:
+        tokens = joined(venue, 3)
+        venue.do("start")
+        venue.do("freeze")
+        tokens.append(venue.join("late"))
+        with Client(venue.url, tokens[0]) as me, Client(venue.url, tokens[3]) as other:
+            assert other.look("state")["frozen"]
+            venue.do("thaw")
+            ends = [it.look("state")["ends"] for it in (me, other)]
+            assert ends[1] == pytest.approx(ends[0], abs=1e-3)
+
+
+def test_results_have_members_where_they_were(tmp_path: pathlib.Path) -> None:
+    """A row for each member and round, though three of four never gave an order or had a value."""
+    with served.served(tmp_path, SMALL) as venue:
+        joined(venue, 3)
+        venue.do("start")
+        venue.join("late")
+        venue.do("uncross")
+        groups = {(1, name): group for name, group in groups_of(venue).items()}
+        assert groups[1, "late"] == 2
+        venue.do("next", round=2)
+        venue.do("start")
+        groups |= {(2, name): group for name, group in groups_of(venue).items()}
+        wanted = sorted(
+            (str(round_), name, "XYZ" if group == 1 else "XYZ.2")
+            for (round_, name), group in groups.items()
+        )
+        assert located(venue) == wanted
+        killed(venue)
+    with served.served(tmp_path, SMALL) as venue:
+        assert located(venue) == wanted
+
+
+def located(venue: Served) -> list[tuple[str, str, str]]:
+    """The round, the name and the board of each row of the results."""
+    text = venue.call("api/download/results/XYZ", token=venue.operator)[1]
+    rows = csv.DictReader(io.StringIO(text))
+    found = [(it["round"], it["name"], it["instrument"]) for it in rows]
+    return sorted(it for it in found if it[0] != "all")
+
+
+def test_the_operator_reads_who_came_late_into_an_empty_group(tmp_path: pathlib.Path) -> None:
+    """On the page, where the table has the groups then, and on standard error."""
+    with served.served(tmp_path, SMALL) as venue:
+        joined(venue, 3)
+        with opened(tmp_path / "teacher", f"{venue.url}teacher#{venue.operator}", SCREEN) as page:
+            page.waits(lambda it: it.shows("phase"))
+            page.clicks("#tab-class")
+            page.waits(lambda it: len(it.rows("members")) == 3)
+            assert not page.find("th.group").is_displayed() and not page.shows("arrivals")
+            assert sees(venue, "members")["small"] == []
+            venue.do("start")
+            venue.join("late")
+            page.waits(lambda it: it.text("arrivals").startswith("Group 2 is nearly empty: late."))
+            assert page.find("th.group").is_displayed()
+            page.waits(lambda it: [row[6] for row in it.rows("members")] == ["1", "1", "1", "2"])
+            assert sees(venue, "members")["small"] == [{"group": 2, "names": ["late"]}]
+            venue.join("later")
+            page.waits(lambda it: not it.shows("arrivals"))
+        venue.child.terminate()
+        error = venue.child.communicate(timeout=served.SECONDS)[1]
+        said = [it for it in error.splitlines() if "joined late" in it]
+        text = "group 2 has 1 of 3 members, until the next round deals all anew"
+        assert said == [f"venue: late joined late: {text}"]
 
 
 def test_members_take_their_values_along(tmp_path: pathlib.Path) -> None:

@@ -121,6 +121,12 @@ class Auctions:
         self.began, self.course, self.has_begun = now, [], True
         self._enter(started)
 
+    def join_call(self, other: State) -> None:
+        """Begins a call that ends as this one of another group. Raises MessageError."""
+        self._engine.check_known()
+        self.began, self.course, self.has_begun = clock.now(), [], True
+        self._enter(dataclasses.replace(other, phase=Phase.CALL, auction=self.state.auction))
+
     def end_call(self) -> None:
         """Ends the call. Raises PhaseError."""
         self._check_free()

@@ -171,7 +171,8 @@ def results_of(lesson: Lesson) -> Iterator[SheetRow]:
     for round_, board in lesson.boards():
         for member in lesson.members.everybody:
             has_part = member.name in board.book.numbers or member.name in board.accounts.values
-            if has_part or (member.group == board.identity.group and not member.is_removed):
+            is_there = round_.group_of(member.name) == board.identity.group
+            if has_part or (is_there and not member.is_removed):
                 head = {"name": plain(member.title), "robot": member.robot}
                 yield head | result_of(lesson.day, round_, board, member.name)
     for it in results.payoffs(lesson.day, lesson.rounds, lesson.members):

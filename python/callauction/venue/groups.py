@@ -1,14 +1,20 @@
 """The groups that members are in, with boards of their own, and the rounds in which these go on."""
 import asyncio
 import contextlib
+import logging
 
 from callauction.venue.gains import Value
+from callauction.venue.instrument import Instrument
 from callauction.venue.members import Member
+from callauction.venue.messages import MessageError
 from callauction.venue.parts import Parts
-from callauction.venue.phases import PhaseError
-from callauction.venue.rounds import by_side, dealt
+from callauction.venue.phases import Phase, PhaseError
+from callauction.venue.rounds import by_side, dealt, small
 from callauction.venue.starts import Starts
 from callauction.venue.treatments import Treatment
+
+NOTICES = logging.getLogger("callauction.venue")
+LATE = "%s joined late: group %s has %s of %s members, until the next round deals all anew"
 
 
 class Groups:
@@ -22,7 +28,7 @@ class Groups:
 
     async def place(self, newcomers: list[Member]) -> None:
         """Puts new members into the smallest groups that have room; opens one more where none has,
-        and before the first call of a round deals all members again then.
+        and before the first call of a round deals all members again then. Says who has few others.
         """
         async with self._changing:
             before = self._rounds.now.groups
@@ -39,7 +45,17 @@ class Groups:
                     self._deal_all(self._rounds.now.values(self._day.instruments[0].name))
             if self._rounds.now.groups > before:
                 self._audience.show_all()
+        self._say_late(newcomers)
         self._values.give_listed(newcomers)
+
+    async def place_again(self, member: Member) -> None:
+        """Puts a member that was removed, and comes again, into the group in which it was, or where
+        there is room, if that has none or isn't there any more.
+        """
+        if self._has_room(member):
+            self._deal({member.name: member.group})
+        else:
+            await self.place([member])
 
     def begin(self) -> None:
         """Deals the members of the round, once it is known what all journals have; puts those whose
@@ -49,10 +65,9 @@ class Groups:
             return
         self._deal_round()
         for member in self._members.all:
-            sizes = self._sizes(member)
-            smallest = min(sizes, key=lambda it: sizes[it])
-            if sizes[member.group] >= self._day.group and not self._has_number(member):
-                self._deal({member.name: smallest})
+            if not self._has_room(member):
+                sizes = self._sizes(member)
+                self._deal({member.name: min(sizes, key=lambda it: sizes[it])})
 
     async def next_round(
         self, number: int, treatment: Treatment, is_anyway: bool = False
@@ -98,6 +113,11 @@ class Groups:
                 sizes[it.group] += 1
         return sizes
 
+    def _has_room(self, member: Member) -> bool:
+        """Whether a member may stay in its group: it has a number there, or there is room."""
+        size = self._sizes(member).get(member.group, self._day.group)
+        return size < self._day.group or self._has_number(member)
+
     def _has_number(self, member: Member) -> bool:
         """Whether a member has a number in a journal of this round that nobody else may have."""
         boards = self._rounds.now.boards.values()
@@ -109,6 +129,28 @@ class Groups:
         self._log.note(kind="group", round=self._rounds.now.number, group=group)
         for board in self._rounds.add_group(self._rounds.now, group):
             await self._starts.open_new(board)
+            self._join_call(board)
+
+    def _join_call(self, board: Instrument) -> None:
+        """A new board has the call that goes on in the other groups of its market, until its end.
+        """
+        others = self._rounds.now.of_market(board.identity.market)
+        states = [it.auctions.state for it in others if it is not board]
+        for state in states:
+            if state.phase in (Phase.CALL, Phase.EXTENDED):
+                with contextlib.suppress(MessageError):  # it has halted
+                    board.auctions.join_call(state)
+                return
+
+    def _say_late(self, newcomers: list[Member]) -> None:
+        """Says which new members came into a group that is small, once the round had begun."""
+        if not self._rounds.now.has_begun:
+            return
+        sizes = self._members.sizes
+        for member in newcomers:
+            if member.group in small(sizes):
+                size = sizes[member.group]
+                NOTICES.warning(LATE, member.title, member.group, size, max(sizes.values()))
 
     def _deal_all(self, values: dict[str, Value]) -> None:
         """Deals all members to the groups, with as many in each who have values of one side."""
@@ -132,8 +174,8 @@ class Groups:
         self._rounds.now.move(groups)
 
     def _deal_round(self) -> None:
-        """Deals the members to the groups of a new round where those of the last one don't do, and
-        hands out its values. It is done again where the venue was killed meanwhile.
+        """Deals all members to the groups of a new round, and hands out its values; does that again
+        where the venue was killed meanwhile.
         """
         now = self._rounds.now
         if now.number == 1 or self._values.are_dealt or now.has_begun:
@@ -142,6 +184,6 @@ class Groups:
         values = {it.name: before.values(it.name) for it in self._day.instruments}
         if now.groups == 1:
             self._move({it.name: 1 for it in self._members.everybody})
-        elif now.groups != before.groups:
+        else:
             self._deal_all(values[self._day.instruments[0].name])
         self._values.give_round(values)

@@ -3,6 +3,7 @@
 A member's `name` is the one by which it joined, which the log has; its `title` is what others read.
 """
 import asyncio
+import collections
 import dataclasses
 import logging
 from collections.abc import Mapping
@@ -90,6 +91,11 @@ class Members:
     def all(self) -> list[Member]:
         """All members that weren't removed, in the order in which they came."""
         return [it for it in self.everybody if not it.is_removed]
+
+    @property
+    def sizes(self) -> dict[int, int]:
+        """How many members each group has that has any, without those who were removed."""
+        return dict(collections.Counter(it.group for it in self.all))
 
     def named(self, name: str) -> Member | None:
         """The member of this name."""

@@ -61,15 +61,23 @@ class Past:
     def _replay_venue(self, line: Line) -> None:
         """Takes a line of the log about the venue."""
         kind = line["kind"]
-        if kind == "round" and line["groups"] == 1:
-            for member in self._members.everybody:
-                member.group = 1
+        if kind == "round":
+            self._replay_begin(self._rounds.all[line["round"] - 1], line["groups"])
         elif kind == "beamer":
             self._audience.screen.shows = line["shows"]
         elif kind == "payoffs":
             self._audience.paid.shows = line["shows"]
         elif kind in ("treat", "message", "dealt", "listed", "deal"):
             self._replay_round(self._rounds.all[line["round"] - 1], line)
+
+    def _replay_begin(self, round_: Round, groups: int) -> None:
+        """Takes the begin of a round with as many groups: until its members are dealt each is where
+        it was, or in the only one.
+        """
+        if groups == 1:
+            self._members.move({it.name: 1 for it in self._members.everybody})
+        elif round_.number > 1:
+            round_.places |= self._rounds.all[round_.number - 2].places
 
     def _replay_round(self, round_: Round, line: Line) -> None:
         """Takes a line of the log about a round."""

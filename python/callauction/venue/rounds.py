@@ -14,19 +14,22 @@ from callauction.venue.messages import MessageError
 from callauction.venue.phases import Phase, PhaseError
 from callauction.venue.treatments import Treatment
 
+FEW = 3
+"""How many members of a group find hardly anybody to trade with."""
 NOT_KNOWN = "it isn't known what {} has: resume first, or begin anyway"
 
 
 @dataclasses.dataclass
 class Round:
     """A round: its number, from 1; what it is; its boards by their names; the message to all, which
-    may be another one than its treatment's.
+    may be another one than its treatment's; the groups of the members who aren't in the first.
     """
 
     number: int
     treatment: Treatment
     boards: dict[str, Instrument]
     message: str = ""
+    places: dict[str, int] = dataclasses.field(default_factory=dict)
 
     @property
     def groups(self) -> int:
@@ -69,8 +72,13 @@ class Round:
             found |= it.accounts.values
         return found
 
+    def group_of(self, member: str) -> int:
+        """The group in which a member is, or was in the end."""
+        return self.places.get(member, 1)
+
     def move(self, groups: Mapping[str, int]) -> None:
         """Members who are in other groups from now on take their values with them."""
+        self.places |= groups
         for board in self.boards.values():
             others = {it.identity.group: it for it in self.of_market(board.identity.market)}
             for name in [*board.accounts.values]:
@@ -230,6 +238,14 @@ class Rounds:
 def dealt(names: Sequence[str], groups: int) -> dict[str, int]:
     """A group, from 1, for each name: all groups have as many, or one more."""
     return {name: 1 + place % groups for place, name in enumerate(names)}
+
+
+def small(sizes: Mapping[int, int]) -> list[int]:
+    """Which groups of these sizes have so few members that they hardly trade, beside others that
+    have twice as many or more.
+    """
+    most = max(sizes.values(), default=0)
+    return [group for group, size in sizes.items() if size <= FEW and 2 * size <= most]
 
 
 def by_side(names: Iterable[str], values: Mapping[str, Value]) -> list[str]:

@@ -8,7 +8,7 @@ from callauction.venue.arrivals import last_of
 from callauction.venue.instrument import Instrument
 from callauction.venue.members import Member, Members
 from callauction.venue.results import Payoff
-from callauction.venue.rounds import Round, Rounds
+from callauction.venue.rounds import Round, Rounds, small
 from callauction.venue.treatments import Treatment
 from callauction.venue.views import Indication, Trade
 
@@ -242,7 +242,8 @@ def halt_of(instrument: Instrument, why: str) -> Json:
 
 def members_of(members: Members, there: Container[Member | None], rounds: Rounds) -> Json:
     """Who is a member, and who is connected; the codes by which they come, how many there may be,
-    and the addresses whose new members are slowed, with how many came from there and who did last.
+    and the addresses whose new members are slowed, with how many came from there and who did last;
+    the small groups of a round that has begun, with who is there.
     """
     rows = [
         {
@@ -264,7 +265,12 @@ def members_of(members: Members, there: Container[Member | None], rounds: Rounds
         for address, names in members.arrivals.slowed().items()
     ]
     found = {"type": "members", "members": rows, "codes": codes, "open": members.codes.is_open}
-    return found | {"most": members.most, "slowed": slowed}
+    groups = small(members.sizes) if rounds.now.has_begun else []
+    few = [
+        {"group": group, "names": [it.title for it in members.all if it.group == group]}
+        for group in sorted(groups)
+    ]
+    return found | {"most": members.most, "slowed": slowed, "small": few}
 
 
 def treatment_of(treatment: Treatment) -> Json:

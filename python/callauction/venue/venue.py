@@ -272,6 +272,7 @@ class Venue:
         if member.name not in before:
             await self.groups.place([member])
         elif before[member.name]:
+            await self.groups.place_again(member)
             for board in self.rounds.boards_of(member).values():
                 board.come_back(member.name)
                 self.audience.show_gains(board)

@@ -12,7 +12,7 @@ const KEYS = {
 export class People {
   // `act` does what is asked for.
   constructor(act) {
-    Object.assign(this, { act, members: [], codes: {}, isOpen: true, most: Infinity, slowed: [] });
+    Object.assign(this, { act, members: [], codes: {}, isOpen: true, most: Infinity, slowed: [], small: [] });
     this.sorted = { by: "", isDown: false };
     for (const head of document.querySelectorAll("[data-sort]")) {
       head.querySelector("button").addEventListener("click", () => this.sortBy(head.dataset.sort));
@@ -25,17 +25,20 @@ export class People {
   }
 
   // Robots that were removed are no longer listed.
-  take({ members, codes, open = true, most = Infinity, slowed = [] }) {
-    Object.assign(this, { codes, isOpen: open, most, slowed });
+  take({ members, codes, open = true, most = Infinity, slowed = [], small = [] }) {
+    Object.assign(this, { codes, isOpen: open, most, slowed, small });
     this.members = members.filter((it) => !it.is_removed || !it.robot);
   }
 
-  // Says that nobody more can join, or which addresses are slowed, and what to do.
+  // Says who came late into a group that is nearly empty; that nobody more can join, or which addresses are slowed,
+  // and what to do.
   drawArrivals(count) {
     const full = count < this.most ? [] : [text("all_taken", shares(this.most))];
     const texts = [...full, ...this.slowed.map((it) => text("slowed", it.address, shares(it.count), it.last))];
+    if (texts.length) texts.push(text("arrivals_do"));
+    texts.unshift(...this.small.map((it) => text("small_group", it.group, it.names.join(", "))));
     hide(find("arrivals"), !texts.length);
-    put(find("arrivals"), texts.length ? [...texts, text("arrivals_do")].join("\n") : "");
+    put(find("arrivals"), texts.join("\n"));
   }
 
   // The members with what they have, by their gains or as the teacher sorts them.
@@ -74,6 +77,7 @@ export class People {
     hide(find("no-robots"), !robots.length);
     const lacks = robots.some((it) => it.robot !== "zero" && !valueOf(it, chosen).value);
     hide(find("robots-help"), !lacks || !(hasBegun || there.some((it) => valueOf(it, chosen).value)));
+    find("members").classList.toggle("one-group", there.every((it) => it.group === 1));
     fill(find("members"), this.ranked(chosen), (it) => it.name, (it) => this.cellsOf(it));
     for (const head of document.querySelectorAll("[data-sort]")) this.markSorted(head);
     this.drawCodes();
@@ -93,6 +97,7 @@ export class People {
       { text: status, classes: it.is_here && !it.is_removed ? "good" : "soft" }, value,
       { number: it.gain == null ? "" : price(it.gain), label: text("gains") },
       { text: Object.hasOwn(this.codes, it.name) ? this.codes[it.name] : "", classes: "own-code" },
+      { number: shares(it.group), label: text("group"), classes: "group" },
       { classes: "doing", buttons: it.robot ? [back] : buttons },
     ];
   }

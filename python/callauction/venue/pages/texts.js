@@ -101,7 +101,9 @@ export const TEXTS = {
     replay: "Replay", stop: "Stop", replay_at: "Order {0} of {1}",
     why: "Why this price?", crossing: "Demand and supply", who_gained: "Who gained most",
     predicted: "By the values: price {0}, volume {1}", from_to: "{0} to {1}",
-    your_group: "You are in the group {0}.",
+    your_group: "You are in the group {0}.", group: "Group",
+    small_group: "Group {0} is nearly empty: {1}. There is hardly anybody to trade with; the next round deals all "
+      + "members to groups anew.",
     ranking: "Ranking", round: "Round {0}", practice: "practice, it doesn't count", rounds: "Rounds",
     book_open: "Everybody sees the book.", book_closed: "The book is closed.",
     covered_says: "Orders beyond one's value are refused.",
@@ -311,7 +313,9 @@ export const TEXTS = {
     replay: "Wiederholung", stop: "Beenden", replay_at: "Order {0} von {1}",
     why: "Warum dieser Preis?", crossing: "Nachfrage und Angebot", who_gained: "Wer am meisten gewann",
     predicted: "Nach den Werten: Preis {0}, Volumen {1}", from_to: "{0} bis {1}",
-    your_group: "Sie sind in der Gruppe {0}.",
+    your_group: "Sie sind in der Gruppe {0}.", group: "Gruppe",
+    small_group: "Gruppe {0} ist fast leer: {1}. Dort ist kaum jemand zum Handeln; die nächste Runde teilt alle "
+      + "Mitglieder neu in Gruppen ein.",
     ranking: "Rangliste", round: "Runde {0}", practice: "Übung, sie zählt nicht", rounds: "Runden",
     book_open: "Alle sehen das Buch.", book_closed: "Das Buch ist geschlossen.",
     covered_says: "Orders über den eigenen Wert hinaus werden abgelehnt.",
