@@ -75,6 +75,17 @@ def test_a_message_to_all(lesson: dict[str, Any]) -> None:
     lesson["anna"].waits(lambda it: not it.shows("message"))
 
 
+def written(page: Page, *names: str) -> list[str]:
+    """What is written in fields."""
+    return [str(page.find(f"#{name}").get_attribute("value")) for name in names]
+
+
+def test_values_begin_with_the_prices_of_the_instrument(lesson: dict[str, Any]) -> None:
+    """In a round that has none."""
+    teacher = lesson["teacher"]
+    assert written(teacher, "how", "low", "high", "quantity") == ["chance", "0.01", "10.00", "100"]
+
+
 def test_values_are_taken_away_after_a_question(lesson: dict[str, Any]) -> None:
     venue, teacher, anna = lesson["venue"], lesson["teacher"], lesson["anna"]
     teacher.clicks("#tab-values")
@@ -98,6 +109,43 @@ def test_values_are_taken_away_after_a_question(lesson: dict[str, Any]) -> None:
     teacher.clicks("#giving button")
     teacher.waits(lambda it: it.text("give-said") == "Values handed out: 1.")
     assert "50 shares" in anna.text("value")
+
+
+PRICED = FAST + """
+[[round]]
+values = "chance"
+low = "1.50"
+high = "4.50"
+quantity = 20
+[[round]]
+values = "schedule"
+demand = ["5.00", "3.00"]
+supply = ["1.00"]
+[[round]]
+"""
+
+
+def test_values_begin_as_those_of_the_round(tmp_path: pathlib.Path) -> None:
+    """What the teacher writes stays, until a round has prices of its own."""
+    with served.served(tmp_path, PRICED) as venue:
+        url = f"{venue.url}teacher#{venue.operator}"
+        with opened(tmp_path / "teacher", url, SCREEN) as teacher:
+            prices = ("how", "low", "high", "quantity")
+            teacher.waits(lambda it: written(it, *prices) == ["chance", "1.50", "4.50", "20"])
+            teacher.clicks("#tab-values")
+            teacher.types(low="2.50")
+            venue.do("message", text="Hello")
+            teacher.waits(lambda it: it.find("#message").get_attribute("textContent") == "Hello")
+            assert written(teacher, *prices) == ["chance", "2.50", "4.50", "20"]
+            venue.do("next", round=2)
+            steps = ("how", "demand", "supply", "quantity")
+            wanted = ["schedule", "5.00 3.00", "1.00", "100"]
+            teacher.waits(lambda it: written(it, *steps) == wanted)
+            teacher.types(demand="4.00")
+            venue.do("next", round=3)
+            teacher.waits(lambda it: "Round 3" in str(
+                it.find("#this-round").get_attribute("textContent")))
+            assert written(teacher, "how", "demand") == ["schedule", "4.00"]
 
 
 def test_the_next_round(lesson: dict[str, Any]) -> None:

@@ -25,13 +25,14 @@ class Standing:
                 self.offer(watcher)
 
     def offer(self, watcher: Watcher) -> None:
-        """Shows somebody which round it is; the operator the next one too."""
+        """Shows somebody which round it is; the operator all of it, and the next one too."""
         if "rounds" not in watcher.topics:
             return
         found = shown.round_of(self._rounds.now)
         if watcher.role == "operator":
             following = self._day.treatment(self._rounds.now.number + 1)
             found |= {"next": shown.treatment_of(following), "planned": len(self._day.rounds)}
+            found["now"] = shown.treatment_of(self._rounds.now.treatment)
             found["late"] = self._late_shown()
             found["halts"] = [shown.halt_of(it, why) for it, why in self._rounds.early_halts]
         watcher.offer("round", found)

@@ -2,6 +2,8 @@
 import { asTyped, faultText, find, hide, put, spoken, text } from "./common.js";
 import { priceOf, quantityOf } from "./numbers.js";
 
+const HAVE_PRICES = ["chance", "schedule"];
+
 // The fields of a form whose elements are named by this prefix; `term` gives the instrument.
 export class ValueFields {
   constructor(form, prefix, term) {
@@ -24,11 +26,14 @@ export class ValueFields {
     }
   }
 
-  // The bounds of the instrument, as the first values by chance.
-  begin() {
-    if (this.field("low").value) return;
-    const { low, high } = this.term();
-    [this.field("low").value, this.field("high").value] = [low, high].map(asTyped);
+  // The values of a round; by chance within the bounds of the instrument where it has no prices.
+  show({ values = "", low = "", high = "", quantity = 100, demand = [], supply = [] }) {
+    const bounds = this.term(), several = (prices) => prices.map(asTyped).join(" ");
+    const written = { low: asTyped(low || bounds.low), high: asTyped(high || bounds.high), quantity: String(quantity),
+      demand: several(demand), supply: several(supply) };
+    for (const [name, words] of Object.entries(written)) this.field(name).value = words;
+    if (HAVE_PRICES.includes(values)) this.field("how").value = values;
+    this.draw();
   }
 
   // What they say, as the venue takes it. Raises an error whose text says what can't be read.
@@ -86,9 +91,22 @@ export function losingText({ to }, { gets, keeps }) {
 // The form by which the teacher hands out values now. `act` does what is asked for.
 export class Handing {
   constructor(term, act) {
-    this.act = act;
+    Object.assign(this, { act, number: 0, round: {}, isEdited: false });
     this.fields = new ValueFields(find("giving"), "", term);
+    find("giving").addEventListener("input", () => { this.isEdited = true; });
     find("giving").addEventListener("submit", (event) => this.submit(event));
+  }
+
+  // Another round is played, or this one is another by now. What was written stays where it has no prices.
+  take({ round: number, now }) {
+    if (number !== this.number && HAVE_PRICES.includes(now.values)) this.isEdited = false;
+    Object.assign(this, { number, round: now });
+    this.show();
+  }
+
+  // The values that the round hands out, until others are written there.
+  show() {
+    if (!this.isEdited) this.fields.show(this.round);
   }
 
   say(words, isBad = false) {

@@ -165,7 +165,7 @@ function welcome(message) {
   put(find("title"), message.title);
   document.title = message.title;
   choices(find("instrument"), terms.map((it) => [it.name, it.title]));
-  handing.fields.begin();
+  handing.show();
 }
 
 function takeShown({ shows, payoffs = "none" }) {
@@ -176,6 +176,7 @@ function takeShown({ shows, payoffs = "none" }) {
 function takeRound(message) {
   round = message;
   roundForm.take(message);
+  handing.take(message);
 }
 
 function takeError(message) {
@@ -263,6 +264,7 @@ find("announcing").addEventListener("submit", (event) => {
 });
 find("instrument").addEventListener("change", (event) => {
   chosen = event.target.value;
+  handing.show();
   draw();
 });
 offerTabs(document.querySelector(".tabs"), draw);
