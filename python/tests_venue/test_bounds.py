@@ -155,12 +155,17 @@ def test_orders_that_come_at_once_count(tmp_path: pathlib.Path) -> None:
 TWO = "".join(f'[[instrument]]\nname = "{name}"\n' for name in ("AAA", "BBB"))
 
 
+FULL = "63 members trade this instrument, and it takes no more"
+
+
 def reply_to(venue: Served, token: str, side: str = "bid") -> str:
     """The reply to an order, or why it isn't one."""
     with Client(venue.url, token) as me:
         try:
             return me.enter(side, 1, "2.00", instrument="AAA").reply
         except VenueError as fault:
+            is_full = fault.code == "instrument_full"
+            assert not is_full or fault.text == FULL
             return fault.code
 
 

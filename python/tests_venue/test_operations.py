@@ -224,6 +224,29 @@ def later(line: str, seconds: float) -> str:
     return json.dumps(found | {"time": found["time"] + seconds})
 
 
+@pytest.mark.parametrize(
+    "members, instruments, is_warned",
+    [("", 2, True), ("most = 64", 3, True), ("most = 63", 2, False), ("", 1, False),
+     ("group = 63", 2, False), ("most = 300\ngroup = 20", 2, False),
+     ("open = false\nnames = ['Ann', 'Bob']", 2, False)],
+)  # fmt: skip
+def test_more_members_than_an_instrument_takes(
+    tmp_path: pathlib.Path, members: str, instruments: int, is_warned: bool
+) -> None:
+    """Of several instruments there are no groups unless the day's file says how large they are."""
+    rows = "".join(f'[[instrument]]\nname = "X{place}"\n' for place in range(instruments))
+    (tmp_path / "day.toml").write_text(f"[members]\n{members}\n{rows}")
+    status, printed, error = checked("--day", tmp_path / "day.toml", "--folder", tmp_path / "new")
+    told = [it for it in printed.splitlines() if it.startswith("warning: members: ")]
+    assert (status, error, len(told)) == (0, "", is_warned)
+    for line in told:
+        most = members.rpartition(" ")[2] or "200"
+        assert line == (
+            f"warning: members: most {most} is more than the 63 who may trade one of several "
+            "instruments: `group = 63` deals them into groups, each with boards of its own"
+        )
+
+
 def test_a_clock_that_is_behind(tmp_path: pathlib.Path) -> None:
     """The log's last line, or the last change of a journal."""
     words = day_before(tmp_path)

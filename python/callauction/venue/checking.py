@@ -36,6 +36,10 @@ from callauction.venue.venue import LOG, Venue
 ROLES = ("operator", "beamer")
 MOST_OF_LINE = 4096
 """The bytes that the first line of a journal may have."""
+CROWDED = (
+    "members: most {} is more than the {} who may trade one of several instruments: `group = {}` "
+    "deals them into groups, each with boards of its own"
+)
 ROOM = 1 << 16
 """The bytes that a start may take at least of the disk, for each instrument and for the log."""
 
@@ -46,14 +50,7 @@ def checked(
     """What is found of a day, a line each. Raises what opening a venue raises for each fault."""
     for words in dict.fromkeys(tuple(it.words()) for it in day.instruments):
         check_words(program, words)
-    for it in day.instruments:
-        low, high = it.price(it.low), it.price(it.high)
-        size = it.grid.tick_size
-        first = f"reference {it.price(it.reference)}"
-        yield f"{it.name}: {low} to {high} {it.currency} by {size}, {first}, {it.calls} commands"
-    if day.fix is not None:
-        sessions = len(day.fix.sessions) + bool(day.fix.copy)
-        yield f"fix: {day.fix.host}:{day.fix.port}, {sessions} sessions"
+    yield from checked_terms(day)
     yield from checked_address(address)
     check_program(program, day)
     yield f"program: {version_of(program)}"
@@ -76,6 +73,23 @@ def checked(
     runs = (folder / LOG).exists() and is_in_use(folder / LOG)
     yield from checked_running(day, folder) if runs else checked_log(day, folder, program)
     check_ports(day, address, runs)
+
+
+def checked_terms(day: config.DayTerms) -> Iterator[str]:
+    """What is found of a day's file: its instruments, whether all who may join can trade each of
+    them, its sessions by FIX.
+    """
+    for it in day.instruments:
+        low, high = it.price(it.low), it.price(it.high)
+        size = it.grid.tick_size
+        first = f"reference {it.price(it.reference)}"
+        yield f"{it.name}: {low} to {high} {it.currency} by {size}, {first}, {it.calls} commands"
+    most = config.MOST_TRADERS
+    if day.group > most and (day.members.is_open or len(day.own_codes) > most):
+        yield f"warning: {CROWDED.format(day.group, most, most)}"
+    if day.fix is not None:
+        sessions = len(day.fix.sessions) + bool(day.fix.copy)
+        yield f"fix: {day.fix.host}:{day.fix.port}, {sessions} sessions"
 
 
 def check_room(folder: pathlib.Path, least: int) -> None:

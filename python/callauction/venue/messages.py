@@ -10,7 +10,7 @@ from typing import Any
 
 from callauction.limits import MOST_NUMBER
 from callauction.prices import BadCellError, decimal_of
-from callauction.venue.config import InstrumentTerms
+from callauction.venue.config import MOST_TRADERS, InstrumentTerms
 from callauction.venue.fields import shown
 from callauction.words import MARKET
 
@@ -34,7 +34,7 @@ ERRORS = {
     "name_taken": "somebody has this name",
     "venue_full": "there are as many members as may be",
     "unknown_instrument": "there is no instrument of this name",
-    "instrument_full": "as many members as may be trade this instrument",
+    "instrument_full": f"{MOST_TRADERS} members trade this instrument, and it takes no more",
     "bad_price": "the price is no multiple of the tick size",
     "above_limit": "the quantity is above the limit of this venue",
     "not_now": "orders are taken in a call phase alone",

@@ -172,7 +172,7 @@ export const TEXTS = {
       + "by themselves, one each 3 seconds; “joins” in the day's file allows more at once.",
     arrivals_do: "If these aren't your class, close joining, press “New code for all”, and remove who is wrong: "
       + "“Remove who is away” removes all whose page isn't open. Then open joining.",
-    e_instrument_full: "As many members as may be trade this instrument; your order wasn't entered.",
+    e_instrument_full: "All places of this instrument are taken; your order wasn't entered. Tell the teacher.",
     e_bad_price: "The price is between two steps; nothing was entered.",
     e_above_limit: "That is more than this venue allows; nothing was entered.",
     e_not_now: "Orders are taken in a call phase alone; nothing was entered.",
@@ -389,7 +389,8 @@ export const TEXTS = {
       + "alle von selbst hinein, alle 3 Sekunden jemand; „joins“ in der Datei des Tages erlaubt mehr auf einmal.",
     arrivals_do: "Ist das nicht Ihre Klasse: Beitritt schließen, „Neuer Code für alle“ drücken und entfernen, wer "
       + "nicht dazugehört; „Abwesende entfernen“ entfernt alle, deren Seite nicht offen ist. Dann Beitritt öffnen.",
-    e_instrument_full: "So viele, wie dürfen, handeln dieses Wertpapier; Ihre Order wurde nicht angenommen.",
+    e_instrument_full: "Alle Plätze dieses Wertpapiers sind vergeben; Ihre Order wurde nicht angenommen. Sagen Sie es "
+      + "der Lehrkraft.",
     e_bad_price: "Der Preis liegt zwischen zwei Schritten; nichts wurde angenommen.",
     e_above_limit: "Das ist mehr, als dieser Handelsplatz erlaubt; nichts wurde angenommen.",
     e_not_now: "Orders werden nur in einer Aufrufphase angenommen; nichts wurde angenommen.",
