@@ -17,7 +17,9 @@ import pandas
 import pytest
 import served
 from callauction.pages import html_table
-from callauction.venue import config, copies, downloads, instrument, log, report
+from callauction.venue import (
+    Client, VenueError, config, copies, downloads, instrument, log, report,
+)
 from callauction.venue.members import Members
 from conftest import FAST
 from served import Served
@@ -58,6 +60,29 @@ def lesson(venue: Served) -> None:
     trade(venue, anna, bert, "2.00")
     venue.do("next", round=2)
     trade(venue, anna, bert, "2.50")
+
+
+def test_the_efficiency_where_each_has_five_shares_to_sell(tmp_path: pathlib.Path) -> None:
+    """Of the most that five shares allow, 12.00: two to Carl, worth 3.00 each, three to Anna; and
+    a share that Carl sells, whose value is to buy, costs 10.00.
+    """
+    with served.served(tmp_path, FAST) as venue:
+        tokens = [venue.join(name) for name in ("Anna", "Bert", "Carl")]
+        file = "name,side,price,quantity\nAnna,bid,3,10\nBert,ask,1,10\nCarl,bid,4,2\n"
+        limited = {"values": "list", "file": file, "shares": 5}
+        venue.do("next", round=2, treatment=limited)
+        for seller, quantity, gains in ((1, 5, "0.8333"), (2, 1, "0.2500")):
+            venue.do("start")
+            with Client(venue.url, tokens[seller]) as it, Client(venue.url, tokens[0]) as anna:
+                with pytest.raises(VenueError, match="at most 5 shares more"):
+                    it.enter("ask", 6, "2.00")
+                anna.enter("bid", quantity, "2.00")
+                it.enter("ask", quantity, "2.00")
+                venue.do("uncross")
+                until(lambda: gains in download(venue, "results"))
+        found = [it for it in rows(download(venue, "results")) if it["round"] == "2"]
+        assert {(it["possible"], it["efficiency"]) for it in found} == {("12.00", "0.2500")}
+        assert [it["gain"] for it in found] == ["6.00", "5.00", "-8.00"]
 
 
 def test_no_results_of_an_earlier_end_stay(tmp_path: pathlib.Path) -> None:

@@ -1,4 +1,6 @@
 """Gains beside a count share by share, and efficiency beside all that a class could have traded."""
+import collections
+import dataclasses
 import itertools
 from collections.abc import Sequence
 
@@ -141,6 +143,69 @@ def test_nor_where_members_leave(given: Class, leavers: set[int], before: int) -
     for place in leavers:
         accounts.come_back(str(place))
     assert most(before) == of_all
+
+
+def within(deals: Sequence[Deal], shares: int) -> list[Deal]:
+    """Of these trades, one after the other, those whose seller has the shares to sell."""
+    found: list[Deal] = []
+    held: collections.Counter[int] = collections.Counter()
+    for buyer, seller, quantity, tick in deals:
+        if buyer == seller or shares + held[seller] >= quantity:
+            found.append((buyer, seller, quantity, tick))
+            held[buyer] += quantity
+            held[seller] -= quantity
+    return found
+
+
+@given(st.lists(st.tuples(st.booleans(), classes()), min_size=1, max_size=4), st.integers(0, 6))
+def test_nor_where_each_has_some_shares_to_sell(
+    given: list[tuple[bool, Class]], shares: int
+) -> None:
+    """And no less than without, where that is no limit."""
+    accounts, free, deals = Accounts(UNCOVERED, shares), Accounts(UNCOVERED), list[Deal]()
+    for is_to_all, (values, more) in given:
+        handed = {str(place): value for place, value in enumerate(values) if value}
+        for each in (accounts, free):
+            each.give(handed, is_to_all, len(deals))
+        deals = within(deals + more, shares)
+    for each in (accounts, free):
+        each.fills = {str(place): fills_of(deals, place) for place in range(6)}
+    assert accounts.gain <= accounts.most <= free.most
+    accounts.shares = 1000
+    assert accounts.most == free.most
+
+
+@given(st.lists(VALUES, min_size=1, max_size=4), st.integers(0, 3))
+def test_the_most_that_some_shares_allow(values: list[Value], shares: int) -> None:
+    """That of all ways to trade in which nobody sells more."""
+    values = [dataclasses.replace(it, quantity=min(it.quantity, 2)) for it in values]
+    accounts = Accounts(UNCOVERED, shares)
+    accounts.give({str(place): it for place, it in enumerate(values)}, True, 0)
+    ways = itertools.product(range(-min(shares, 5), 6), repeat=len(values))
+    best = max(sum(map(worth, values, way)) for way in ways if sum(way) == 0)
+    assert accounts.most == best
+
+
+def test_efficiency_where_each_has_five_shares_to_sell() -> None:
+    """By hand, in cents. Bert may sell five: two to Carl, who gains 300 with each, three to Anna,
+    200 with each. He sells five to Anna instead. Then Carl sells her one: his value covers no share
+    that he sells, so that costs the highest price, 1000.
+    """
+    accounts = Accounts(Uncovered(0, 1000), 5)
+    anna, bert, carl = Value("bid", 300, 10), Value("ask", 100, 10), Value("bid", 400, 2)
+    accounts.give({"Anna": anna, "Bert": bert, "Carl": carl}, True, 0)
+    assert accounts.most == 2 * (400 - 100) + 3 * (300 - 100) == 1200
+    assert accounts.predicted == Predicted(300, 300, 5)
+    accounts.fills = {"Anna": [Fill(1, 1, "bid", 5, 200)], "Bert": [Fill(1, 2, "ask", 5, 200)]}
+    assert accounts.gain == 5 * (300 - 200) + 5 * (200 - 100) == 1000
+    accounts.fills["Anna"].append(Fill(2, 3, "bid", 1, 200))
+    accounts.fills["Carl"] = [Fill(2, 4, "ask", 1, 200)]
+    assert accounts.gain == 1000 + (300 - 200) + (200 - 1000) == 300
+    accounts.shares = None
+    assert accounts.most == 2 * (400 - 100) + 8 * (300 - 100) == 2200
+    accounts.shares = 5
+    accounts.give({"Bert": bert, "Carl": carl}, True, 2)  # Bert has nothing left to sell
+    assert accounts.most == 1200
 
 
 def test_the_value_of_who_left_counts_as_far_as_it_was_used() -> None:

@@ -1,8 +1,9 @@
 """The accounts of an instrument's members: who was handed out which value, and what each gained.
 
 A hand-out to all begins a period, at whose end all shares are counted; a value that one member gets
-later counts for its whole period, and that of a member who left for what it traded alone. So all
-members of a period gain together no more than most_gain.
+later counts for its whole period, and that of a member who left for what it traded alone. Of a
+value to sell as many shares count as may be sold. So all members of a period gain together no more
+than most_gain.
 """
 import dataclasses
 from collections.abc import Iterable, Iterator, Mapping
@@ -32,13 +33,19 @@ class Period:
     gone: set[str] = dataclasses.field(default_factory=set)
 
 
+def position(fills: Iterable[Fill]) -> int:
+    """The shares that were bought, less those that were sold."""
+    return sum(it.quantity if it.side == "bid" else -it.quantity for it in fills)
+
+
 class Accounts:
     """The periods of an instrument's day, of which the first begins with it, and all fills by the
-    names of members.
+    names of members, each of whom may sell as many `shares` as these more than it bought, None for
+    any number.
     """
 
-    def __init__(self, uncovered: Uncovered) -> None:
-        self.uncovered = uncovered
+    def __init__(self, uncovered: Uncovered, shares: int | None = None) -> None:
+        self.uncovered, self.shares = uncovered, shares
         self.periods = [Period(0)]
         self.fills: dict[str, list[Fill]] = {}
 
@@ -124,14 +131,19 @@ class Accounts:
         return predicted([*self._usable(*last)])
 
     def _usable(self, period: Period, begin: int, end: float) -> Iterator[Value]:
-        """The values of a period, those of members who left as far as they used them."""
+        """The values of a period, those of members who left as far as they used them, and those of
+        members who sell as far as they may.
+        """
         for member, value in period.values.items():
-            if member not in period.gone:
-                yield value
-                continue
-            fills = [it for it in self.fills_of(member) if begin < it.trade <= end]
-            if used := used_of(value, ((it.side, it.quantity, it.tick) for it in fills)):
-                yield dataclasses.replace(value, quantity=used)
+            count = value.quantity
+            if member in period.gone:
+                fills = [it for it in self.fills_of(member) if begin < it.trade <= end]
+                count = used_of(value, ((it.side, it.quantity, it.tick) for it in fills))
+            elif value.side == "ask" and self.shares is not None:
+                before = [it for it in self.fills_of(member) if it.trade <= begin]
+                count = min(count, self.shares + position(before))
+            if count > 0:
+                yield dataclasses.replace(value, quantity=count)
 
     def _spans(self) -> Iterable[tuple[Period, int, float]]:
         """Each period, the last trade before it and its own last."""

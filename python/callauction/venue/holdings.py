@@ -8,7 +8,7 @@ import dataclasses
 from collections.abc import Iterable, Mapping
 from typing import Self
 
-from callauction.venue.accounts import Fill
+from callauction.venue.accounts import Fill, position
 from callauction.venue.gains import Value
 from callauction.venue.messages import MessageError
 from callauction.venue.treatments import Limits
@@ -160,11 +160,6 @@ def check_room(code: str, quantity: int, left: int) -> None:
 def shares_of(orders: Iterable[Ways], side: str) -> int:
     """The most shares that the orders of a side may have."""
     return sum(max((it.quantity for it in ways if it.side == side), default=0) for ways in orders)
-
-
-def position(fills: Iterable[Fill]) -> int:
-    """The shares that were bought, less those that were sold."""
-    return sum(it.quantity if it.side == "bid" else -it.quantity for it in fills)
 
 
 def spent(fills: Iterable[Fill]) -> int:

@@ -84,7 +84,7 @@ class Instrument:
         engine = Engine(identity.key, [*words, *terms.words()], journal, common.log)
         self.identity, self.terms, self.engine = identity, terms, engine
         self._restores, self.has_run = common.restores, False
-        self.book, self.accounts = Book(), Accounts(terms.uncovered)
+        self.book, self.accounts = Book(), Accounts(terms.uncovered, treatment.shares)
         self.commands = Commands(terms, treatment, day, engine, self.book, self.accounts)
         self.auctions = Auctions(plan_of(day.plan, treatment), engine, self.book)
         self.looks = Looks(terms, engine, self.book, self.accounts, self.auctions)
@@ -191,6 +191,7 @@ class Instrument:
     def treat(self, treatment: Treatment, plan: config.Plan) -> None:
         """It has the limits and the phases of this round, where the day has such phases."""
         self.commands.limits = self.terms.limits(treatment)
+        self.accounts.shares = treatment.shares
         self.auctions.plan = plan_of(plan, treatment)
 
     def dealt(
