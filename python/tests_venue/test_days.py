@@ -223,6 +223,24 @@ def test_gains_that_are_none(venue: Served) -> None:
     assert heard["efficiency"]["predicted"] == {"low": "4.00", "high": "5.00", "volume": 100}
 
 
+def test_who_gained_as_much_has_the_same_rank(venue: Served) -> None:
+    """Whoever came first: at 2.00 Dora gains 5 × 1.00, Bert and Anna 10 × 1.00, Carl 5 × 0.20."""
+    worth = {"Dora": ("bid", "3.00", 5), "Bert": ("ask", "1.00", 10),
+             "Anna": ("bid", "3.00", 10), "Carl": ("ask", "1.80", 5)}
+    tokens = {name: venue.join(name) for name in worth}
+    venue.do("give", values=[
+        {"member": name, "side": side, "price": price, "quantity": quantity}
+        for name, (side, price, quantity) in worth.items()])
+    venue.do("start")
+    for name, (side, _, quantity) in worth.items():
+        with Client(venue.url, tokens[name]) as me:
+            me.enter(side, quantity, "2.00")
+    gains = asyncio.run(shown_after(venue, lambda: venue.do("uncross")))["efficiency"]["gains"]
+    assert [(it["rank"], it["name"], it["gain"]) for it in gains] == [
+        (1, "Bert", "10.00"), (1, "Anna", "10.00"), (3, "Dora", "5.00"), (4, "Carl", "1.00")
+    ]
+
+
 async def shown_after(venue: Served, act: Callable[[], object]) -> dict[str, Any]:
     """The last members and efficiency that the operator is shown, the former once after this."""
     found: dict[str, Any] = {}

@@ -213,13 +213,16 @@ def efficiency_of(instrument: Instrument, title_of: Callable[[str], str]) -> Jso
 
 
 def gains_of(instrument: Instrument, title_of: Callable[[str], str]) -> list[Json]:
-    """Who gained most, by the titles of the members, where values were given."""
+    """Who gained most, by the titles of the members, where values were given; who gained as much
+    has the same rank.
+    """
     if not instrument.accounts.has_values:
         return []
     found = [(instrument.accounts.gain_of(it), title_of(it)) for it in instrument.book.numbers]
     found.sort(key=lambda it: -it[0])
+    falling = [gain for gain, _ in found]
     return [
-        {"name": title, "gain": money_of(instrument, gain)}
+        {"rank": 1 + falling.index(gain), "name": title, "gain": money_of(instrument, gain)}
         for gain, title in found[:MOST_GAINS]
         if gain > 0
     ]

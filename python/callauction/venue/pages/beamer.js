@@ -134,8 +134,7 @@ const showsRanking = () => screen.payoffs === "ranking" && ranking.length > 0;
 // Who gained most of all rounds, where the teacher shows that, else of this one: how many rows.
 function drawGains(most) {
   const isRanking = showsRanking();
-  const gains = (said.efficiency[chosen]?.gains ?? []).map((it, place) => ({ rank: place + 1, ...it }));
-  const rows = (isRanking ? ranking : gains).slice(0, most);
+  const rows = (isRanking ? ranking : said.efficiency[chosen]?.gains ?? []).slice(0, most);
   hide(find("placing"), !rows.length);
   for (const node of [find("ranking").caption, find("ranking-head")]) {
     put(node, text(isRanking ? "ranking" : "who_gained"));
