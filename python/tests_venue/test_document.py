@@ -5,7 +5,7 @@ import subprocess
 import sys
 
 import served
-from callauction.venue import Client, teaching
+from callauction.venue import Client, downloads, teaching
 from callauction.venue.config import DayTerms
 from served import Served
 
@@ -54,6 +54,29 @@ def test_all_words_of_the_operator_are_there() -> None:
     first = (row.split("|")[1] for row in text.splitlines()[2:])
     words = [word for cell in first for word in re.findall(r"\w+", cell)]
     assert sorted(words) == sorted({*teaching.STEPS, *teaching.WORDS, "uncross", "extend"})
+
+
+def test_all_downloads_are_there(venue: Served) -> None:
+    """Each once in the first column of the table, in German, and of a round that is over."""
+    text = DOCUMENT.read_text("utf-8").partition("| FILE |")[2].partition("\n\n")[0]
+    first = (row.split("|")[1] for row in text.splitlines()[2:])
+    files = [word for cell in first for word in re.findall(r"\w+", cell)]
+    assert sorted(files) == sorted(downloads.KINDS)
+    token = venue.join("Anna")
+    venue.do("start")
+    with Client(venue.url, token) as me:
+        me.enter("bid", 1, "2.00")
+    venue.do("uncross")
+    venue.do("next", round=2)
+    found = {}
+    for file in files:
+        path = f"api/download/{file}/XYZ?language=de&round=1"
+        status, found[file] = venue.call(path, token=venue.operator)
+        assert status == 200, (file, found[file])
+    assert found["members"] == "\ufeffNummer;Name\n1;Anna\n"
+    assert "\n1,enter,bid,1,200," in found["journal"]
+    assert found["results"].startswith("\ufeffRunde;")
+    assert found["trades"].startswith("\ufeffRunde;") and "<html lang=\"de\"" in found["report"]
 
 
 def test_the_pictures() -> None:
