@@ -76,7 +76,13 @@ def test_an_empty_day_has_all_defaults(tmp_path: pathlib.Path) -> None:
 @pytest.mark.parametrize(
     "text, fault",
     [
-        ("ttle = 'x'", "ttle is nothing that may be here"),
+        ("ttle = 'x'", "ttle is nothing that may be here, but title"),
+        ("[phases]\nlength = 60", "phases: length is nothing that may be here, but call, random_end"
+         ", extension, automatic"),
+        ("[phases]\nextention = 60", "extention is nothing that may be here, but extension"),
+        ("[[round]]\nshare = 5", "round 1: share is nothing that may be here, but shares"),
+        ("[[instrument]]\ntick = '1'", "XYZ: tick is nothing that may be here, but tick_size"),
+        ("fx = 1", "fx is nothing that may be here, but fix"),
         ("language = 'fr'", "language 'fr' is none of en, de"),
         ("sync = 1", "sync 1 is neither true nor false"),
         ("reserve = 0", "reserve 0 is no whole number from 1 to 1000"),
@@ -159,8 +165,25 @@ def test_a_list_has_no_cell_beyond_its_columns(
     if not cell:
         assert read(tmp_path, day).rounds[0].rule.rows[1].round == 100
         return
-    with pytest.raises(ConfigError, match="line 3: '100' is in no column: decimal commas need"):
+    where = "day.toml: round 1: file values.csv: line 3: '100' is in no column: decimal commas need"
+    with pytest.raises(ConfigError, match=where):
         read(tmp_path, day)
+
+
+@pytest.mark.parametrize(
+    "price, fault",
+    [("11.00", "the value 11.00 isn't from 0.00 to 10.00"),
+     ("1.005", "the price 1.005 is no multiple of the tick size 0.01")],
+)  # fmt: skip
+def test_a_value_of_a_list_that_cant_be(tmp_path: pathlib.Path, price: str, fault: str) -> None:
+    """The file and the member are named: a day may have several lists."""
+    for name, value in (("first.csv", "1.00"), ("second.csv", price)):
+        (tmp_path / name).write_text(f"name,side,price,quantity\nBob,ask,1,5\nAnn,bid,{value},5\n")
+    row = "[[round]]\nvalues = 'list'\nfile = '{}'\n"
+    with pytest.raises(ConfigError) as found:
+        read(tmp_path, row.format("first.csv") + row.format("second.csv"))
+    where = f"{tmp_path}/day.toml: round 2: file second.csv: Ann: "
+    assert str(found.value) == where + fault
 
 
 def test_cells_beyond_the_columns_may_be_empty(tmp_path: pathlib.Path) -> None:

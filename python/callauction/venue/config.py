@@ -18,7 +18,7 @@ from callauction.venue.bounds import Bounds, bounds_of
 from callauction.venue.fields import TITLE, ConfigError, Fields
 from callauction.venue.fix_terms import Terms, terms_of
 from callauction.venue.gains import Uncovered
-from callauction.venue.handing import HandError
+from callauction.venue.handing import HandError, ListError
 from callauction.venue.names import folded, is_role, is_seen
 from callauction.venue.tokens import LEAST_CODE
 from callauction.venue.treatments import MOST_SECONDS, Limits, Read, Treatment, treatment_of
@@ -244,6 +244,9 @@ class DayTerms:
         for number, treatment in enumerate(found.rounds, 1):
             try:
                 found.check(treatment)
+            except ListError as fault:
+                file = rounds[number - 1]["file"]
+                raise ConfigError(f"round {number}: file {file}: {fault.member}: {fault}") from None
             except HandError as fault:
                 raise ConfigError(f"round {number}: {fault}") from None
         fields.left = {"instrument": [it.name for it in found.instruments]}
@@ -257,7 +260,7 @@ class DayTerms:
 
 def fix_of(fields: Fields) -> Terms | None:
     """The FIX front, None where the day has none. Raises ConfigError."""
-    return terms_of(fields.table("fix")) if "fix" in fields.left else None
+    return terms_of(fields.table("fix")) if fields.has("fix") else None
 
 
 def check_members(day: DayTerms) -> None:

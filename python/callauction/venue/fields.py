@@ -1,4 +1,5 @@
 """The keys of a table of a day's file, or of a message that has the same, read one by one."""
+import difflib
 import re
 from decimal import Decimal
 from typing import Any
@@ -37,11 +38,21 @@ class ConfigError(ValueError):
 
 
 class Fields:
-    """The keys of a table that weren't taken yet."""
+    """The keys of a table that weren't taken yet, and all that were asked for."""
 
     def __init__(self, where: str, table: dict[str, Any]) -> None:
         self.where = where + ": " if where else ""
         self.left = dict(table)
+        self._asked: dict[str, None] = {}
+
+    def has(self, name: str) -> bool:
+        """Whether a key is there, which may be."""
+        self._asked[name] = None
+        return name in self.left
+
+    def _take(self, name: str, default: Any) -> Any:
+        """The value of a key, which is taken; the default where it isn't there."""
+        return self.left.pop(name) if self.has(name) else default
 
     def fault(self, name: str, why: str) -> ConfigError:
         """What is wrong with this key."""
@@ -49,7 +60,7 @@ class Fields:
 
     def text(self, name: str, default: str, pattern: re.Pattern[str] = MEMBER_NAME) -> str:
         """A text of one line. Raises ConfigError."""
-        found = self.left.pop(name, default)
+        found = self._take(name, default)
         if not isinstance(found, str) or (found != default and not pattern.fullmatch(found)):
             raise self.fault(name, f"{shown(found)} {flaw_of(found, pattern)}")
         return found
@@ -60,14 +71,14 @@ class Fields:
 
     def price(self, name: str) -> str:
         """A price as a decimal text, empty where it isn't there. Raises ConfigError."""
-        found = self.left.pop(name, "")
+        found = self._take(name, "")
         if not isinstance(found, str) or not PRICE.fullmatch(found):
             raise self.fault(name, f"{shown(found)} is no price such as \"20.05\"")
         return found
 
     def prices(self, name: str) -> tuple[str, ...]:
         """Prices as decimal texts. Raises ConfigError."""
-        found = self.left.pop(name, [])
+        found = self._take(name, [])
         if not isinstance(found, list):
             raise self.fault(name, f"{shown(found)} is no list")
         for each in found:
@@ -77,25 +88,25 @@ class Fields:
 
     def whole_or_none(self, name: str, least: int, most: int) -> int | None:
         """A whole number, None where it isn't there. Raises ConfigError."""
-        return self.whole(name, 0, least, most) if name in self.left else None
+        return self.whole(name, 0, least, most) if self.has(name) else None
 
     def choice(self, name: str, choices: tuple[str, ...], default: str) -> str:
         """One of some words. Raises ConfigError."""
-        found = self.left.pop(name, default)
+        found = self._take(name, default)
         if found not in choices:
             raise self.fault(name, f"{shown(found)} is none of {', '.join(choices)}")
         return str(found)
 
     def flag(self, name: str, default: bool) -> bool:
         """true or false. Raises ConfigError."""
-        found = self.left.pop(name, default)
+        found = self._take(name, default)
         if not isinstance(found, bool):
             raise self.fault(name, f"{shown(found)} is neither true nor false")
         return found
 
     def whole(self, name: str, default: int, least: int, most: int) -> int:
         """A whole number. Raises ConfigError."""
-        found = self.left.pop(name, default)
+        found = self._take(name, default)
         if isinstance(found, bool) or not isinstance(found, int) or not least <= found <= most:
             why = f"{shown(found)} is no whole number from {least} to {most}"
             raise self.fault(name, why)
@@ -103,9 +114,9 @@ class Fields:
 
     def decimal(self, name: str) -> Decimal | None:
         """A decimal number, None where it isn't there. Raises ConfigError."""
-        if name not in self.left:
+        if not self.has(name):
             return None
-        found = self.left.pop(name)
+        found = self._take(name, None)
         try:
             return decimal_of(found)
         except BadCellError as fault:
@@ -113,14 +124,14 @@ class Fields:
 
     def number(self, name: str, default: float, most: int) -> float:
         """A number above 0, which is no text. Raises ConfigError."""
-        found = self.left.pop(name, default)
+        found = self._take(name, default)
         if isinstance(found, bool) or not isinstance(found, int | float) or not 0 < found <= most:
             raise self.fault(name, f"{shown(found)} is no number above 0, at most {most}")
         return float(found)
 
     def names(self, name: str) -> tuple[str, ...]:
         """Names of members as a join takes them, each once. Raises ConfigError."""
-        found = self.left.pop(name, [])
+        found = self._take(name, [])
         if not isinstance(found, list):
             raise self.fault(name, f"{shown(found)} is no list")
         seen: dict[str, None] = {}
@@ -134,19 +145,22 @@ class Fields:
 
     def table(self, name: str) -> dict[str, Any]:
         """A table, empty where it isn't there. Raises ConfigError."""
-        found = self.left.pop(name, {})
+        found = self._take(name, {})
         if not isinstance(found, dict):
             raise self.fault(name, f"{shown(found)} is no table: [{name}]")
         return found
 
     def tables(self, name: str) -> list[dict[str, Any]]:
         """Tables of one name. Raises ConfigError."""
-        found = self.left.pop(name, [])
+        found = self._take(name, [])
         if not isinstance(found, list) or not all(isinstance(each, dict) for each in found):
             raise self.fault(name, f"{shown(found)} is no list of tables: [[{name}]]")
         return found
 
     def ended(self) -> None:
-        """Raises ConfigError where a key is left that nothing asked for."""
+        """Raises ConfigError where a key is left that nothing asked for; it names those that look
+        like it, else all that may be there.
+        """
         for name in self.left:
-            raise self.fault(name, "is nothing that may be here")
+            near = difflib.get_close_matches(name, self._asked) or self._asked
+            raise self.fault(name, f"is nothing that may be here, but {', '.join(near)}")

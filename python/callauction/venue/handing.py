@@ -25,6 +25,14 @@ class HandError(ValueError):
     """Values that can't be handed out so; the text says why."""
 
 
+class ListError(HandError):
+    """A list whose value of this member can't be handed out so."""
+
+    def __init__(self, text: str, member: str) -> None:
+        super().__init__(text)
+        self.member = member
+
+
 class Prices(Protocol):
     """What makes a tick of a price. Raises HandError where no value may be this."""
 
@@ -67,8 +75,13 @@ class Rule:
             raise HandError("a schedule has prices of demand and of supply")
         if self.how == "list" and not self.rows:
             raise HandError("the list of values is empty")
-        for price in (*self.demand, *self.supply, *(row.price for row in self.rows)):
+        for price in (*self.demand, *self.supply):
             tick_of(price)
+        for row in self.rows:
+            try:
+                tick_of(row.price)
+            except HandError as fault:
+                raise ListError(str(fault), row.member) from None
 
     def dealt(
         self,

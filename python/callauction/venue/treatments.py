@@ -96,7 +96,7 @@ def rule_of(fields: Fields, read: Read | None) -> Rule:
     try:
         rows = rows_of(read(file) if read else file) if file else ()
     except HandError as fault:
-        raise fields.fault("file", str(fault)) from None
+        raise fields.fault(f"file {file}:" if read else "file", str(fault)) from None
     return Rule(
         how=fields.choice("values", HOWS, default.how),
         low=fields.price("low"),
