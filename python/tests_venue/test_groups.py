@@ -199,8 +199,11 @@ def test_groups_that_lost_members_are_dealt_anew(tmp_path: pathlib.Path) -> None
         assert sorted(there.values()) == [2, 2]
 
 
-def test_who_comes_again_has_a_group_that_is_there(tmp_path: pathlib.Path) -> None:
-    """Its own was the third of three, and there are two by now."""
+@pytest.mark.parametrize("is_cut", [False, True])
+def test_who_comes_again_has_a_group_that_is_there(tmp_path: pathlib.Path, is_cut: bool) -> None:
+    """Its own was the third of three, and there are two by now; also where the venue is killed
+    before it is put into another one.
+    """
     with served.served(tmp_path, SMALL) as venue:
         joined(venue, 7)
         gone = next(name for name, group in groups_of(venue).items() if group == 3)
@@ -208,10 +211,16 @@ def test_who_comes_again_has_a_group_that_is_there(tmp_path: pathlib.Path) -> No
         venue.do("next", round=2)
         assert sees(venue, "round")["groups"] == 2
         token = venue.join(gone, venue.do("readmit", member=gone)["code"])
-        venue.do("start")
-        assert asyncio.run(orders(venue, [token]))[0].endswith(": entered")
+        if not is_cut:
+            venue.do("start")
+            assert asyncio.run(orders(venue, [token]))[0].endswith(": entered")
         killed(venue)
+        if is_cut:
+            cut(tmp_path / "venue/venue.log", '"kind":"member"')
     with served.served(tmp_path, SMALL) as venue:
+        venue.join("new")
+        if is_cut:
+            venue.do("start")
         assert asyncio.run(orders(venue, [token]))[0].endswith(": entered")
 
 

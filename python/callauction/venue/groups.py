@@ -107,11 +107,9 @@ class Groups:
 
     def _sizes(self, newcomer: Member) -> dict[int, int]:
         """How many members each group has, without this one."""
-        sizes = dict.fromkeys(range(1, self._rounds.now.groups + 1), 0)
-        for it in self._members.everybody:
-            if it is not newcomer and (not it.is_removed or self._has_number(it)):
-                sizes[it.group] += 1
-        return sizes
+        others = [it for it in self._members.everybody if it is not newcomer]
+        there = [it.group for it in others if not it.is_removed or self._has_number(it)]
+        return {group: there.count(group) for group in range(1, self._rounds.now.groups + 1)}
 
     def _has_room(self, member: Member) -> bool:
         """Whether a member may stay in its group: it has a number there, or there is room."""
