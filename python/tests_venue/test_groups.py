@@ -199,6 +199,18 @@ def test_groups_that_lost_members_are_dealt_anew(tmp_path: pathlib.Path) -> None
         assert sorted(there.values()) == [2, 2]
 
 
+def test_groups_that_are_even_stay_as_they_are(tmp_path: pathlib.Path) -> None:
+    """So that a market may have the same members again: of five three and two are even."""
+    with served.served(tmp_path, SMALL) as venue:
+        joined(venue, 5)
+        before = groups_of(venue)
+        for number in (2, 3):
+            venue.do("start")
+            venue.do("uncross")
+            venue.do("next", round=number)
+            assert (groups_of(venue), sizes(venue)) == (before, [2, 3])
+
+
 @pytest.mark.parametrize("is_cut", [False, True])
 def test_who_comes_again_has_a_group_that_is_there(tmp_path: pathlib.Path, is_cut: bool) -> None:
     """Its own was the third of three, and there are two by now; also where the venue is killed

@@ -9,7 +9,7 @@ from callauction.venue.members import Member
 from callauction.venue.messages import MessageError
 from callauction.venue.parts import Parts
 from callauction.venue.phases import Phase, PhaseError
-from callauction.venue.rounds import by_side, dealt, small
+from callauction.venue.rounds import by_side, dealt, is_even, small
 from callauction.venue.starts import Starts
 from callauction.venue.treatments import Treatment
 
@@ -172,8 +172,8 @@ class Groups:
         self._rounds.now.move(groups)
 
     def _deal_round(self) -> None:
-        """Deals all members to the groups of a new round, and hands out its values; does that again
-        where the venue was killed meanwhile.
+        """Deals all members to the groups of a new round, unless those of the last one are as many
+        and even, and hands out its values; does that again where the venue was killed meanwhile.
         """
         now = self._rounds.now
         if now.number == 1 or self._values.are_dealt or now.has_begun:
@@ -182,6 +182,6 @@ class Groups:
         values = {it.name: before.values(it.name) for it in self._day.instruments}
         if now.groups == 1:
             self._move({it.name: 1 for it in self._members.everybody})
-        else:
+        elif now.groups != before.groups or not is_even(self._members.sizes, now.groups):
             self._deal_all(values[self._day.instruments[0].name])
         self._values.give_round(values)

@@ -240,6 +240,12 @@ def dealt(names: Sequence[str], groups: int) -> dict[str, int]:
     return {name: 1 + place % groups for place, name in enumerate(names)}
 
 
+def is_even(sizes: Mapping[int, int], groups: int) -> bool:
+    """Whether groups of these sizes, those without members left out, differ by one at most."""
+    found = [sizes.get(group, 0) for group in range(1, groups + 1)]
+    return max(found) - min(found) <= 1
+
+
 def small(sizes: Mapping[int, int]) -> list[int]:
     """Which groups of these sizes have so few members that they hardly trade, beside others that
     have twice as many or more.
