@@ -2,7 +2,7 @@
 use Rattle.std.proofs.Common.{◌≡◌, ◌≢◌, ℕ, zero, suc, ◌+◌, ◌<◌, List, [], ◌∷◌, ◌++◌, length, All}
 use Rattle.std.proofs.Common.{refl, sym, ◌∙◌, ap, arith, append_assoc, length-append}
 use Rattle.std.proofs.lemmas.List.{append-nil}
-use Rattle.journal_file.specs.Committed.{joined, HasShortLines, IsInLine}
+use Rattle.journal_file.specs.Committed.{joined, IsInLine}
 use Rattle.journal_file.specs.declared.committed.TheConstants.{LONGEST_WRITE}
 
 -- Short lines, and this many bytes of one that hasn't ended.
@@ -36,18 +36,6 @@ all-and-last P (l ∷ ls) line all here zero d lt = all 0 d (omega arith)
 all-and-last P (l ∷ ls) line all here (suc k) d lt =
     all-and-last P ls line (λ j e j_lt. all (suc j) e (omega (arith, j_lt))) here k d (omega (arith, lt))
 
-pub none-read : HasReadLines [] 0
-none-read = record {
-  lines = [];
-  begun = [];
-  is = refl;
-  inside = λ k d lt. absurd (omega (arith, lt));
-  short = λ k d lt. absurd (omega (arith, lt));
-  begun_inside = tt;
-  begun_len = refl;
-  begun_short = omega arith;
-}
-
 pub byte-read : (text : List ℕ) (count b : ℕ) → HasReadLines text count → b ≢ 0 → b ≢ 10 → count + 1 < LONGEST_WRITE
     → HasReadLines (text ++ b ∷ []) (count + 1)
 byte-read text count b so_far some other lt = record {
@@ -80,17 +68,3 @@ end-read text count b so_far is = record {
   begun_len = refl;
   begun_short = omega arith;
 }
-
--- where no line has begun all lines have ended
-pub all-read : (text : List ℕ) → HasReadLines text 0 → HasShortLines text
-all-read text so_far = record {
-  lines = so_far.lines;
-  is = so_far.is ∙ ap (λ (t : List ℕ). joined so_far.lines ++ t) (none so_far.begun so_far.begun_len)
-      ∙ append-nil (joined so_far.lines);
-  inside = so_far.inside;
-  short = so_far.short;
-}
-  where
-    none : (xs : List ℕ) → length xs ≡ 0 → xs ≡ []
-    none [] is = refl
-    none (x ∷ xs) is = absurd (omega (arith, is))

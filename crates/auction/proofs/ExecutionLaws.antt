@@ -216,22 +216,6 @@ listed_is tape side last (r ∷ ranked) all =
     let rest = listed_is tape side last ranked (All-tail (λ (x : RankedOrder). x.order.id ≤ last) r ranked all) in
     cc
 
-ids_upto : (last most : ℕ) (ranked : List RankedOrder) → HaveIdsUpTo last ranked → last ≤ most
-    → HaveIdsUpTo most ranked
-ids_upto last most [] all above = All-nil (λ (x : RankedOrder). x.order.id ≤ most)
-ids_upto last most (r ∷ ranked) all above =
-    let first : r.order.id ≤ last = All-head (λ (x : RankedOrder). x.order.id ≤ last) r ranked all in
-    All-cons (λ (x : RankedOrder). x.order.id ≤ most) r ranked (omega arith)
-    (ids_upto last most ranked (All-tail (λ (x : RankedOrder). x.order.id ≤ last) r ranked all) above)
-
--- one more id
-pub ids_more : (last id most : ℕ) (ranked : List RankedOrder) (r : RankedOrder) → HaveIdsUpTo last ranked
-    → r.order.id ≡ id → last ≤ most → id ≤ most → HaveIdsUpTo most (ranked ++ r ∷ [])
-ids_more last id most ranked r all is above covers =
-    All-append (λ (x : RankedOrder). x.order.id ≤ most) ranked (r ∷ []) (ids_upto last most ranked all above)
-    (All-cons (λ (x : RankedOrder). x.order.id ≤ most) r [] (omega arith)
-    (All-nil (λ (x : RankedOrder). x.order.id ≤ most)))
-
 -- the whole of a side
 pub side_listed : (tape : List Trade) (listed : Listed) (last : ℕ) (book : List Order) (ranked : List RankedOrder)
     (executed : List ℕ) → HaveIdsUpTo last ranked → executed ≡ executed_by_id tape listed.side last

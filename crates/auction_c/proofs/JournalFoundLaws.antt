@@ -27,10 +27,10 @@ use Rattle.order_file.specs.File.{FailsAsWanted, within_limit}
 use Rattle.order_file.specs.declared.fault.FileFault.{FileFault}
 use Rattle.order_file.specs.declared.fault.FileFault.TheVariants as file
 use Rattle.auction_c.specs.Calling.{fault_number}
-use Rattle.auction_c.specs.Journals.{ReplyPair, auction_in, fault_found, is_compared}
+use Rattle.auction_c.specs.Journals.{ReplyPair, auction_in, is_compared}
 use Rattle.auction_c.specs.Journals.{is_unlawful, journal_error, journal_found, journal_in, pair_of, paired, pairs_in}
 use Rattle.auction_c.specs.JournalReading.{HasCompared, Reads, ReadsText, Refuses, pair_in, compared_of}
-use Rattle.auction_c.specs.JournalReading.{compared_with, first_with, is_of_journal, told}
+use Rattle.auction_c.specs.JournalReading.{compared_with, first_with, told}
 use Rattle.auction_c.specs.declared.errors.TheConstants.{BAD_JOURNAL, DONE, NO_MEMORY}
 use Rattle.auction_c.specs.declared.journals.comparing.Compared.{Compared}
 use Rattle.auction_c.specs.declared.journals.comparing.Comparison.{Comparison}
@@ -167,38 +167,6 @@ read-all entries c old new found calls is opens hears told_calls tells =
     )
 
 -- ---- what is refused
-
-pub memory-refused : (said : Result RecordedDay FileFault) (old : AuctionJournal) → Refuses said old old NO_MEMORY
-memory-refused said old =
-    record {
-      error = inr refl;
-      refused = omega arith;
-      fault = λ e. absurd (omega (arith, e));
-      same = λ _. refl;
-    }
-
-of-journal : (f : FileFault) (said : Result RecordedDay FileFault) → is_of_journal f ≡ true → FailsAsWanted f said
-    → said ≡ Err f
-of-journal file.TooLong said is h = h
-of-journal file.ReadFailed said is h = cc is
-of-journal (file.BadMember n) said is h = h
-of-journal (file.BadCommand n) said is h = h
-of-journal (file.BadCount n) said is h = h
-of-journal (file.BadField n k) said is h = h
-of-journal (file.TooManyCommands n) said is h = h
-of-journal file.NotADay said is h = h
-of-journal file.NoMemory said is h = cc is
-
-pub journal-refused : (said : Result RecordedDay FileFault) (old new : AuctionJournal) (f : FileFault)
-    → is_of_journal f ≡ true → FailsAsWanted f said → new ≡ fault_found f → Refuses said old new BAD_JOURNAL
-journal-refused said old new f is h found =
-    let fails = of-journal f said is h in
-    record {
-      error = inl (sym (ap journal_error fails));
-      refused = omega arith;
-      fault = λ _. found ∙ sym (ap journal_found fails);
-      same = λ other. absurd (other refl);
-    }
 
 -- the number of a config's fault
 config-number : (fault : OpenFault) → (0 < fault_number fault) × (fault_number fault < BAD_JOURNAL)

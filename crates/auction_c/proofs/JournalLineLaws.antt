@@ -1,6 +1,6 @@
 -- The lines of entries, written one after the other.
 use Rattle.std.proofs.Common.{◌≡◌, ◌≤◌, ◌<◌, ◌+◌, ◌-◌, ◌++◌, ◌∷◌, ◌∙◌, [], ℕ, List, length, map, take, drop, get_or}
-use Rattle.std.proofs.Common.{Result, Ok, Err, Some, None, refl, ap, sym, arith, inl, inr, subst, append_assoc}
+use Rattle.std.proofs.Common.{Result, Ok, Err, Some, None, refl, ap, sym, arith, subst, append_assoc}
 use Rattle.std.proofs.Common.{length-append}
 use Rattle.std.proofs.lemmas.List.{append-nil, drop-drop, length-take-le, length_push, map-append, take_more}
 use Rattle.std.proofs.lemmas.Option.{slice_get-get_or, slice_get_past}
@@ -16,7 +16,7 @@ use Rattle.journal.proofs.JournalTextLaws.{text-by-lines}
 use Rattle.auction_c.specs.Encoding.{command_tagged, tagged}
 use Rattle.auction_c.specs.Journals.{StandsAtHead, Stops, StopsAt, WritesLines, decoded_entry}
 use Rattle.auction_c.specs.JournalReading.{WritesLine}
-use Rattle.auction_c.specs.declared.errors.TheConstants.{DONE, NO_ENTRY, NO_MEMORY}
+use Rattle.auction_c.specs.declared.errors.TheConstants.{DONE}
 use Rattle.auction_c.specs.declared.structs.AuctionEntry.{AuctionEntry}
 
 -- ---- text in a room
@@ -105,33 +105,6 @@ journal-goes_on day before lines =
     ∙ sym (text-by-lines day (before ++ lines))
 
 -- ---- one line, or none
-
-pub none-written : (entry : Option Entry) (text : List ℕ) (before : ℕ) → entry ≡ None
-    → WritesLine entry text text before before (Some NO_ENTRY)
-none-written entry text before is = (refl, refl, rw is refl)
-
-pub refused-written : (entry : Option Entry) (e : Entry) (text : List ℕ) (before : ℕ) → entry ≡ Some e
-    → WritesLine entry text text before before (Some NO_MEMORY)
-refused-written entry e text before is = (refl, refl, rw is (inr refl))
-
-pub long-written : (entry : Option Entry) (e : Entry) (line old new : List ℕ) (before after : ℕ) → entry ≡ Some e
-    → line ≡ call_line e → before ≤ length old → length old < before + length line → new ≡ old → after ≡ before
-    → WritesLine entry old new before after (Some DONE)
-long-written entry e line old new before after is kept within long same uncounted =
-    let room : length old - before < length (call_line e) = omega (arith, within, long, ap length kept) in
-    (same, uncounted, rw is (inl (refl, room)))
-
-pub line-written : (entry : Option Entry) (e : Entry) (line old new : List ℕ) (before after : ℕ) → entry ≡ Some e
-    → line ≡ call_line e → after ≡ before + length line → after ≤ length old
-    → new ≡ take before old ++ (line ++ drop after old)
-    → WritesLine entry old new before after None
-line-written entry e line old new before after is kept counted fits put = (
-  e,
-  is,
-  counted ∙ ap (λ (t : List ℕ). before + length t) kept,
-  fits,
-  put ∙ ap (λ (t : List ℕ). take before old ++ (t ++ drop after old)) kept,
-)
 
 -- ---- the lines of structs
 

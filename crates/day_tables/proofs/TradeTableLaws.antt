@@ -1,8 +1,8 @@
 -- The trades of a day, one by one, with their auctions and members.
 use Rattle.std.proofs.Common.{◌≡◌, ℕ, zero, suc, ◌+◌, ◌-◌, ◌<◌, ◌≤◌, Bool, true, false, eqb, List, [], ◌∷◌, ◌++◌}
-use Rattle.std.proofs.Common.{length, map, find, take, drop, get_or, slice_get, min, replicate, Option, Some, None}
-use Rattle.std.proofs.Common.{is_some, option_map, MatchOption, ◌⊎◌, inl, inr, if◌then◌else◌, refl, sym, ap, ◌∙◌}
-use Rattle.std.proofs.Common.{append_assoc, add-one, drop-cons, take_all, length-append, arith}
+use Rattle.std.proofs.Common.{length, map, find, drop, get_or, slice_get, min, Option, Some, None}
+use Rattle.std.proofs.Common.{is_some, option_map, MatchOption, ◌⊎◌, inl, inr, refl, sym, ap, ◌∙◌}
+use Rattle.std.proofs.Common.{append_assoc, add-one, drop-cons, length-append, arith}
 use Rattle.std.proofs.Common.{OnOk, Result, Ok, Err}
 use Rattle.std.proofs.Math.Dec.{leb}
 use Rattle.std.proofs.Math.Nat.{zero-add}
@@ -30,15 +30,6 @@ use Rattle.day_tables.specs.TableMembers.{entering_members, member_of_id}
 use Rattle.day_tables.proofs.StepLaws.{step-reported}
 
 -- ---- the auctions, trade by trade
-
-pub trade_auctions-resized : (kind : AuctionKind) (n : ℕ) (old : List AuctionKind) (b : Bool) (new : List AuctionKind)
-    → b ≡ true
-    → new ≡ (if b then take (length old + n) old ++ replicate (length old + n - length old) kind else old)
-    → new ≡ old ++ replicate n kind
-trade_auctions-resized kind n old b new ok e =
-    let left : length old + n - length old ≡ n = omega arith in
-    let all : take (length old + n) old ≡ old = take_all (length old + n) old (omega arith) in
-    rw (ok, left, all) at e
 
 pub auctions_none : trade_auctions [] ≡ []
 unfolding trade_auctions

@@ -1,7 +1,6 @@
 -- Calls with their replies that go before others.
 use Rattle.std.proofs.Common.{◌≡◌, ◌<◌, ◌≤◌, ◌+◌, ◌++◌, ◌∷◌, ◌∙◌, [], ℕ, List, Bool, Result, Ok, Err, false, true, refl}
 use Rattle.std.proofs.Common.{sym, ap, append_assoc, length, map, nat_le, nat_lt, rules}
-use Rattle.std.proofs.lemmas.List.{append-nil}
 use Rattle.auction_terms.specs.declared.Call.{Call}
 use Rattle.auction_terms.specs.Results.{◌>>=◌}
 use Rattle.order_file.specs.File.{FailsAsWanted}
@@ -33,10 +32,6 @@ pub behind-more : (front : List RecordedCall) (recording : RecordedCall) (r : Re
     → behind (front ++ recording ∷ []) r ≡ behind front (r >>= λ rest. Ok (recording ∷ rest))
 behind-more front recording (Ok x) = ap Ok (append_assoc front (recording ∷ []) x)
 behind-more front recording (Err e) = refl
-
-pub behind-none : (r : Result (List RecordedCall) FileFault) → behind [] r ≡ r
-behind-none (Ok x) = refl
-behind-none (Err e) = refl
 
 pub one-entry : (members max_calls before : ℕ) (r : List (List ℕ)) (rs : List (List (List ℕ))) → before < max_calls
     → recorded_calls_after members max_calls before (r ∷ rs)
@@ -72,16 +67,6 @@ pub next-behind : (front : List RecordedCall) (r : RecordedCall)
     → behind front left ≡ all → left ≡ (rest >>= λ recordings. Ok (r ∷ recordings))
     → behind (front ++ r ∷ []) rest ≡ all
 next-behind front r left rest all same is = behind-more front r rest ∙ ap (behind front) (sym is) ∙ same
-
--- none is left
-pub end-behind : (front : List RecordedCall) (left all : Result (List RecordedCall) FileFault)
-    → behind front left ≡ all → left ≡ Ok [] → all ≡ Ok front
-end-behind front left all same none = sym same ∙ ap (behind front) none ∙ ap Ok (append-nil front)
-
--- what is left has a fault
-pub fails-behind : (front : List RecordedCall) (left all : Result (List RecordedCall) FileFault) (f : FileFault)
-    → behind front left ≡ all → FailsAsWanted f left → FailsAsWanted f all
-fails-behind front left all f same = fails-alike f left all (λ e. sym same ∙ ap (behind front) e)
 
 -- a fault that was wanted
 pub fails-record : {Y : Type 0} (number : ℕ) (fault : RecordFault) (wanted : Result Y FileFault)

@@ -1,12 +1,11 @@
 -- Running sums of two lists, one after the other, and the steps of the loops.
-use Rattle.std.proofs.Common.{◌≡◌, ℕ, ◌+◌, ◌≤◌, ◌<◌, List, [], ◌∷◌, ◌++◌, length, replicate, take, drop, get_or, set}
+use Rattle.std.proofs.Common.{◌≡◌, ℕ, ◌+◌, ◌≤◌, ◌<◌, List, [], ◌∷◌, ◌++◌, length, take, drop, get_or, set}
 use Rattle.std.proofs.Common.{sum, refl, sym, ap, ◌∙◌, arith}
 use Rattle.std.specs.Simd.Lanes.{chunk, put_chunk}
 use Rattle.std.proofs.Math.Seq.{take-add, drop-append_seam}
 use Rattle.std.proofs.lemmas.List.{take_more, take_more_set, drop-drop, length-take-le}
 use Rattle.std.proofs.lemmas.List.Sums.{sum_by-append, sum_by-cons, sum_by-take-drop, sum_by-take-le}
 use Rattle.std.proofs.lemmas.Simd.{take_more_put_chunk, put_chunk_is, length-chunk, chunk-drop}
-use Rattle.std.proofs.lemmas.List.Folds.{sum_by-replicate}
 use Rattle.lanes.specs.RunningSums.{rising_sums, falling_sums}
 use Rattle.std.proofs.lemmas.Grind.{common_steps}
 
@@ -84,6 +83,3 @@ falling_eights s carry at next src out q room same is done =
     ∙ sym (falling_sums-append s (chunk at 8 src) (drop next src))
     ∙ ap (λ n. falling_sums s (chunk at 8 src ++ drop n src)) q
     ∙ ap (falling_sums s) (sym (chunk-drop at 8 src))
-
-pub sum_ones : (n : ℕ) → sum (replicate n 1) ≡ n
-sum_ones n = omega (arith, sum_by-replicate (λ x. x) n 1)

@@ -28,10 +28,6 @@ use Rattle.live_session.specs.declared.begin_fault.CutOff.{CutOff}
 use Rattle.live_session.specs.Resumed.{IsResumedFrom}
 use Rattle.live_session.proofs.CommitLaws.{as-failure}
 
-pub none : (text : List ℕ) → length text ≡ 0 → text ≡ []
-none [] is = refl
-none (b ∷ bs) is = absurd (omega (arith, is))
-
 pub some : (text : List ℕ) → length text ≢ 0 → text ≢ []
 some text is empty = is (ap length empty)
 
@@ -55,11 +51,6 @@ can-go-on day file auction lines torn read = record {
   new_day = λ empty. absurd (lines empty);
   gone_on = λ _. (torn, (auction, read));
 }
-
--- nothing comes after the lines that a file has
-pub opening-none : (day : DayHeader) (lines : List ℕ) → (lines ≡ [] → ⊥) → opening_lines day lines ≡ []
-opening-none day [] some_lines = absurd (some_lines refl)
-opening-none day (b ∷ lines) some_lines = refl
 
 -- what a crash leaves of a first record, which one write can have, has a torn end
 pub torn-end-of-first : (first file : List ℕ) → length first ≤ LONGEST_WRITE → IsTornOf first file → HasTornEnd file

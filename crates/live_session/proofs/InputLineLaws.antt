@@ -120,10 +120,6 @@ take-short zero xs = omega arith
 take-short (suc n) [] = omega arith
 take-short (suc n) (x ∷ xs) = omega (arith, take-short n xs)
 
-take-length : (n : ℕ) (xs : List ℕ) → length xs ≤ length (take (n + 1) xs) → length (take (n + 1) xs) ≤ n
-    → take (n + 1) xs ≡ xs
-take-length n xs all short = take_all (n + 1) xs (omega arith)
-
 -- a line is too long where what is held of it is
 take-long : (n : ℕ) (xs : List ℕ) → n < length xs → length (take (n + 1) xs) ≡ n + 1
 take-long zero [] lt = absurd (omega arith)
@@ -143,9 +139,6 @@ pub record IsHeldOf (held line : List ℕ) : Type 0 where
 
 is-long : (n : ℕ) (xs : List ℕ) → n < length xs → nat_lt n (length xs) ≡ true
 is-long n xs lt = search rules
-
-is-short : (n : ℕ) (xs : List ℕ) → length xs ≤ n → nat_lt n (length xs) ≡ false
-is-short n xs le = search rules
 
 held-short : (held line : List ℕ) → held ≡ line → IsHeldOf held line
 held-short held line is = record { fault = ap line_fault is; whole = λ _. is }
@@ -169,9 +162,6 @@ held-line line = by_length (is_too_long line) refl
 pub held-none : (line : List ℕ) → take (MAX_RECORD_BYTES + 1) line ≡ [] → line ≡ []
 held-none [] is = refl
 held-none (b ∷ bs) is = absurd (cc (sym (take-more MAX_RECORD_BYTES b bs) ∙ is))
-
-pub held-some : (b : ℕ) (bs : List ℕ) → take (MAX_RECORD_BYTES + 1) (b ∷ bs) ≡ b ∷ take MAX_RECORD_BYTES bs
-held-some b bs = take-more MAX_RECORD_BYTES b bs
 
 -- ---- the byte order mark
 

@@ -20,7 +20,7 @@ use Rattle.live_session.specs.Giving.{GivesGathered, HasGiven, IsEmptied, IsUnre
 use Rattle.live_session.specs.Hearing.{HasAnsweredAll, HasHeard, IsNewSession}
 use Rattle.live_session.specs.InputLines.{Lines, lines_once_read, lines_of, no_lines}
 use Rattle.live_session.specs.Talk.{AppendsAtLeast, AppendsBetween, EndsSession, HasAnswered, HasRead}
-use Rattle.live_session.specs.Talk.{IsAnswered, IsAnswerTo, MayBeWritten}
+use Rattle.live_session.specs.Talk.{IsAnswerTo, MayBeWritten}
 use Rattle.live_session.specs.declared.conversation.Conversation.{Ghosts}
 use Rattle.live_session.specs.declared.fault.LiveFault.{LiveFault}
 use Rattle.live_session.specs.declared.fault.LiveFault.TheVariants as fault
@@ -107,12 +107,6 @@ ready-first c terms start base session same new = record {
   answered = answered-nothing c terms start base;
   reads = refl;
 }
-
-pub ready-answered : {C : Type 0} (c : Ghosts C) (terms : SessionTerms) (start : RunningAuction) (base now : C)
-    (session : Session)
-    (heard : List ℕ) → IsReadyToRead c terms start base now session heard → IsAnswered c terms start base now
-ready-answered c terms start base now session heard h =
-    record { heard = heard; device = h.device; answered = h.answered; reads = h.reads }
 
 -- ---- a read
 

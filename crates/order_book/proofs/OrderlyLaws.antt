@@ -1,5 +1,5 @@
 -- What holds of every list of open orders.
-use Rattle.std.proofs.Common.{◌≡◌, ℕ, ◌<◌, ◌≤◌, inl, inr, List, [], ◌∷◌, All, Option, refl, sym, ap, subst, ◌∙◌, arith}
+use Rattle.std.proofs.Common.{◌≡◌, ℕ, ◌<◌, ◌≤◌, inl, inr, List, [], ◌∷◌, All, Option, refl, sym, ap, ◌∙◌, arith}
 use Rattle.std.proofs.lemmas.Cmp.{tied_itself}
 use Rattle.std.proofs.lemmas.List.Elements.{All-nil, All-cons}
 use Rattle.std.specs.declared.cmp.Ordering.TheVariants.{Less}
@@ -48,8 +48,3 @@ IsOrderly-line slots keys stamps is = record {
   bounded = all_orders (λ order. order.quantity ≤ MAX_QUANTITY) (line_of slots) (λ y m. let h =
       Among-line_from slots y m in (is.held h.0 y h.1).bounded);
 }
-
-pub orderly_line : (slots : List (Option Stamped)) (keys : List ℕ) (stamps : ℕ) (line : List Stamped)
-    → HasSoundSlots slots keys stamps → line_of slots ≡ line → IsOrderly (orders_of line)
-orderly_line slots keys stamps line is same =
-    subst (λ l. IsOrderly (orders_of l)) same (IsOrderly-line slots keys stamps is)

@@ -1,5 +1,5 @@
 -- Orders that are put back into slots are the same line.
-use Rattle.std.proofs.Common.{◌≡◌, ◌≢◌, inl, inr, ℕ, ◌+◌, ◌-◌, ◌<◌, ◌≤◌, List, [], length, Option, Some, None}
+use Rattle.std.proofs.Common.{◌≡◌, ◌≢◌, inl, inr, ℕ, ◌+◌, ◌-◌, ◌<◌, ◌≤◌, List, length, Option, Some, None}
 use Rattle.std.proofs.Common.{sym, ap, subst, ◌∙◌, arith, set, take}
 use Rattle.std.proofs.Common.{length-append, count_by, is_some, IfSome}
 use Rattle.std.specs.Option.{option_to_list}
@@ -186,20 +186,6 @@ module _ (from : List (Option Stamped)) (from_keys : List ℕ) (stamps : ℕ)
         | inr past ↦
             absurd (none_is_some (slot_at from h.0) z (get_or_past from h.0 None (omega arith)) h.1)
       ])
-
-pub restored_nothing : (from slots : List (Option Stamped)) (stamps : ℕ) (keys : List ℕ) → slots ≡ []
-    → AreRestored from 0 stamps slots keys
-restored_nothing from slots stamps keys empty =
-    let none : (k : ℕ) (s : Stamped) → slot_at slots k ≡ Some s → ⊥ =
-    λ k s e. none_is_some (slot_at slots k) s (ap (λ l. slot_at l k) empty) e in
-    record {
-      sound = record {
-        held = λ k s e. absurd (none k s e);
-        apart = λ i j s t e f same. absurd (none i s e);
-      };
-      all = λ p s within at. absurd (omega arith);
-      only = λ key s e. absurd (none key s e);
-    }
 
 -- ---- how many there are
 

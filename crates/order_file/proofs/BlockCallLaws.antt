@@ -1,14 +1,13 @@
 -- The calls of an input that is read block by block: what a loop over its blocks keeps.
-use Rattle.std.proofs.Common.{◌≡◌, ◌+◌, ℕ, List, [], ◌++◌, length, Option, Some, None, Result, Ok, Err, true, refl, ap}
+use Rattle.std.proofs.Common.{◌≡◌, ◌+◌, ℕ, List, [], ◌++◌, length, Option, Some, None, Result, Ok, Err, refl, ap}
 use Rattle.std.proofs.Common.{sym, append_assoc, arith, length-append, ◌∙◌}
 use Rattle.auction_terms.specs.declared.Call.{Call}
 use Rattle.auction_terms.specs.Results.{◌>>=◌}
 use Rattle.csv.specs.Reading.{default_config, records, strip_bom}
 use Rattle.order_file.specs.Blocks.{BlockState, Rows, and_then_rows, block_rows, calls_with_more, rows_to_come}
 use Rattle.order_file.specs.Blocks.{rows_within}
-use Rattle.std.specs.Prelude.{IfOk, IfSome, IsSomeAnd, is_ok}
-use Rattle.std.proofs.lemmas.Bool.{true≢false}
-use Rattle.order_file.specs.File.{FailsAsWanted, GivesWanted, calls_after, calls_of_file, file, within_limit}
+use Rattle.std.specs.Prelude.{IfSome, IsSomeAnd}
+use Rattle.order_file.specs.File.{FailsAsWanted, calls_after, calls_of_file, file, within_limit}
 use Rattle.order_file.specs.declared.fault.FileFault.{FileFault}
 use Rattle.order_file.specs.declared.fault.FileFault.TheVariants as fault
 use Rattle.order_file.specs.declared.reading.TheConstants.{MAX_BYTES}
@@ -65,15 +64,6 @@ at-next_block members max_calls front calls rows before now all same is good =
         ≡ and_calls members max_calls (front ++ calls) r
     by_result (Ok rest) = calls-before members max_calls front calls rows rest good
     by_result (Err e) = refl
-
--- the last block's records have calls
-pub at-last_block : (members max_calls : ℕ) (front calls : List Call) (rows : Rows) (before : Result Rows FileFault)
-    (all : Result (List Call) FileFault)
-    → all ≡ and_calls members max_calls front before → before ≡ Ok rows
-    → calls_after members max_calls (length front) rows ≡ Ok calls
-    → all ≡ Ok (front ++ calls)
-at-last_block members max_calls front calls rows before all same is good =
-    same ∙ ap (and_calls members max_calls front) is ∙ ap (after front) good
 
 -- a block's records have a fault, and what is left was passed over
 pub at-bad_block : (members max_calls : ℕ) (front : List Call) (e : FileFault) (rows rest : Rows)
@@ -197,21 +187,3 @@ fails-file None members max_calls e bad = tt
 fails-file (Some text) members max_calls e bad =
     fails-alike e (rows_within MAX_BYTES text) (file text members max_calls) (λ h. file-rows text members max_calls
     ∙ ap (and_calls members max_calls []) h) bad
-
--- an exit at a fault
-pub gives-fault : {X : Type 0} (view : X → List Call) (result : Result X FileFault) (e : FileFault)
-    (a : Option (List ℕ)) (members max_calls : ℕ) → result ≡ Err e
-    → IfSome a (λ text. FailsAsWanted e (file text members max_calls))
-    → IfSome a (λ text. GivesWanted view result (file text members max_calls))
-gives-fault view result e a members max_calls is bad = rw is bad
-
--- an answer that is none but the wanted one
-pub gives-good : {X Y : Type 0} (view : X → Y) (result : Result X FileFault) (y : Y) (wanted : Result Y FileFault)
-    → is_ok result ≡ true
-    → ((x : X) → view x ≡ y) → GivesWanted view result wanted → wanted ≡ Ok y
-gives-good view (Ok x) y wanted good same gives = gives ∙ ap Ok (same x)
-gives-good view (Err e) y wanted good same gives = absurd (true≢false (sym good))
-
-pub good-so : {X : Type 0} (result : Result X FileFault) (P : Type 0) → is_ok result ≡ true → IfOk result (λ _. P) → P
-good-so (Ok x) P good so = so
-good-so (Err e) P good so = absurd (true≢false (sym good))

@@ -6,13 +6,12 @@ use Rattle.std.proofs.Common.{Err}
 use Rattle.std.proofs.Math.Seq.{drop-cons, take-suc}
 use Rattle.std.proofs.lemmas.Bool.{cases_lt, true≢false}
 use Rattle.std.proofs.lemmas.List.{append-nil, take-append-drop, take_all}
-use Rattle.std.proofs.lemmas.List.Elements.{All-nil}
 use Rattle.std.specs.Prelude.{IfErr, IfOk, IfSome, IsSomeAnd, MatchBool}
 use Rattle.std.specs.Io.KnownBytes.{Consumes, IsAtEnd, prepend_known}
 use Rattle.csv.specs.Reading.{default_config, is_bom, records, strip_bom}
 use Rattle.byte_streams.specs.Streams.{TakesAtMost}
 use Rattle.order_file.specs.File.{FailsAsWanted, within_limit}
-use Rattle.order_file.specs.Blocks.{ExplainsReading, BlockState, IsCut, IsBlock, GivesNextBlock, IsOfReading}
+use Rattle.order_file.specs.Blocks.{ExplainsReading, BlockState, IsCut, IsBlock, GivesNextBlock}
 use Rattle.order_file.specs.Blocks.{OpensBlock, PassesOverRest, ReadsBytes, Rows, TakesBytes, TakesBytesOrFails}
 use Rattle.order_file.specs.Blocks.{bytes_ahead, and_then_rows, block_rows, rows_to_come, rows_within, without_mark}
 use Rattle.order_file.specs.declared.blocks.TheConstants.{BLOCK}
@@ -105,17 +104,6 @@ pub taken-after : (a b c : Option (List ℕ)) (x y : List ℕ) (m n : ℕ) → R
     → TakesAtMost (m + 1) a c
 taken-after a b c x y m n r t =
     (r.bytes ++ t.0, consumes-more a b c r.bytes t.0 r.read t.1, omega (arith, r.took, t.2, length-append r.bytes t.0))
-
-pub explains-is_of_reading : (e : FileFault) (m : ℕ) (a : Option (List ℕ)) → ExplainsReading e m a → IsOfReading e
-explains-is_of_reading file.ReadFailed m a h = tt
-explains-is_of_reading file.NoMemory m a h = tt
-explains-is_of_reading file.TooLong m a h = tt
-explains-is_of_reading (file.BadMember k) m a h = h
-explains-is_of_reading (file.BadCommand k) m a h = h
-explains-is_of_reading (file.BadCount k) m a h = h
-explains-is_of_reading (file.BadField k f) m a h = h
-explains-is_of_reading (file.TooManyCommands k) m a h = h
-explains-is_of_reading file.NotADay m a h = h
 
 -- a fault of the reading is that of whatever is within the limit
 explains-fails : {X : Type 0} (e : FileFault) (m : ℕ) (left : List ℕ) (wanted : Result X FileFault)
@@ -332,31 +320,9 @@ passes-over_rest held (Some left) (Some after) x is stays read fits end = (
     short : length left ≤ held.room
     short = omega (arith, fits, ap length (read ∙ ap (λ (xs : List ℕ). x ++ xs) end ∙ append-nil x))
 
--- the line end before the next block
-pub begins-again : (bytes : List ℕ) (whole : ℕ) (ended : Bool) (fresh : List ℕ) → ended ≡ false
-    → IsBlock bytes whole ended → fresh ≡ drop (whole - 1) bytes
-    → (slice_index fresh 0 ≡ 10) × (0 < length fresh)
-begins-again bytes whole ended fresh stays held is =
-    let cut = cut-at bytes whole ended stays held in
-    let first = is ∙ (at-line-end bytes (whole - 1) cut.short-within_limit cut.line_end).1 in
-    (rw first refl, rw first (omega arith))
-
 pub still-first : (x y more : List ℕ) → 0 < length x → slice_index x 0 ≡ 10 → y ≡ x ++ more → slice_index y 0 ≡ 10
 still-first [] y more some first grown = absurd (omega arith)
 still-first (b ∷ x) y more some first grown = rw grown first
-
-still-some : (x y more : List ℕ) → 0 < length x → y ≡ x ++ more → 0 < length y
-still-some x y more some grown = omega (arith, some, ap length grown, length-append x more)
-
--- the line end alone is whole
-pub held-first : (x y more : List ℕ) (ended : Bool) → ended ≡ false → 0 < length x → slice_index x 0 ≡ 10
-    → y ≡ x ++ more → IsBlock y 1 ended
-held-first x y more true stays some first grown = absurd (true≢false stays)
-held-first x y more false stays some first grown = record {
-  begun = search rules;
-  first = still-first x y more some first grown;
-  cut = (still-some x y more some grown, still-first x y more some first grown, All-nil (λ c. c ≢ 34));
-}
 
 -- a block has no byte order mark at its start
 begins-records-without_mark : (x : List ℕ) → strip_bom (10 ∷ x) ≡ 10 ∷ x
@@ -403,9 +369,6 @@ pub fails-taking : {X : Type 0} (result : Result X FileFault) (e : FileFault) (r
     (a b : Option (List ℕ)) → result ≡ Err e
     → TakesAtMost (room + 1) a b → TakesBytesOrFails result room room_left a b
 fails-taking result e room room_left a b is taken = rw is taken
-
-pub reads-takes_bytes : (a b : Option (List ℕ)) (x y : List ℕ) (m n : ℕ) → ReadsBytes a b x y m n → TakesBytes m n a b
-reads-takes_bytes a b x y m n r = (r.bytes, r.read, r.took)
 
 -- the line end before the first block
 pub mark-first : (bytes x : List ℕ) → bytes ≡ (10 ∷ []) ++ x → (slice_index (without_mark bytes) 0 ≡ 10)
@@ -456,20 +419,6 @@ pub large : (ended : Bool) (a : Option (List ℕ)) (bytes : List ℕ) → MatchB
     → MatchBool ended (IsAtEnd a) (4 ≤ length bytes)
 large true a bytes h = h
 large false a bytes h = omega (arith, h)
-
--- bytes taken after others
-pub reads-takes_bytes-more : (a b c : Option (List ℕ)) (m n o : ℕ) → TakesBytes m n a b → TakesBytes n o b c
-    → TakesBytes m o a c
-reads-takes_bytes-more a b c m n o t u =
-    (t.0 ++ u.0, consumes-more a b c t.0 u.0 t.1 u.1, omega (arith, t.2, u.2, length-append t.0 u.0))
-
-pub reads-takes_bytes-then : (a b c : Option (List ℕ)) (m n : ℕ) → TakesBytes m n a b → TakesAtMost (n + 1) b c
-    → TakesAtMost (m + 1) a c
-reads-takes_bytes-then a b c m n t u =
-    (t.0 ++ u.0, consumes-more a b c t.0 u.0 t.1 u.1, omega (arith, t.2, u.2, length-append t.0 u.0))
-
-pub reads-takes_bytes-in_all : (a b : Option (List ℕ)) (m n : ℕ) → TakesBytes m n a b → TakesAtMost (m + 1) a b
-reads-takes_bytes-in_all a b m n t = (t.0, t.1, omega (arith, t.2))
 
 -- ---- bytes at the start, which were read before
 

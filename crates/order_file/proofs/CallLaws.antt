@@ -66,29 +66,11 @@ calls_after-next members max_calls before rows r rs call is room good =
 
 -- ---- calls that go before those that are left
 
--- no call is left
-pub after-end : (front : List Call) (left all : Result (List Call) FileFault) → after front left ≡ all → left ≡ Ok []
-    → all ≡ Ok front
-after-end front left all same none = grind (arith, common_steps, append-nil)
-
 -- the first that is left goes to the end of those before
 pub after-next : (front : List Call) (call : Call) (left rest all : Result (List Call) FileFault)
     → after front left ≡ all
     → left ≡ (rest >>= λ calls. Ok (call ∷ calls)) → after (front ++ call ∷ []) rest ≡ all
 after-next front call left rest all same is = after-more front call rest ∙ ap (after front) (sym is) ∙ same
-
--- what is left has a fault
-pub after-fails : (front : List Call) (left all : Result (List Call) FileFault) (e : FileFault) → after front left ≡ all
-    → FailsAsWanted e left → FailsAsWanted e all
-after-fails front left all file.TooLong same fails = sym same ∙ ap (after front) fails
-after-fails front left all file.ReadFailed same fails = tt
-after-fails front left all (file.BadMember n) same fails = sym same ∙ ap (after front) fails
-after-fails front left all (file.BadCommand n) same fails = sym same ∙ ap (after front) fails
-after-fails front left all (file.BadCount n) same fails = sym same ∙ ap (after front) fails
-after-fails front left all (file.BadField n f) same fails = sym same ∙ ap (after front) fails
-after-fails front left all (file.TooManyCommands n) same fails = sym same ∙ ap (after front) fails
-after-fails front left all file.NotADay same fails = sym same ∙ ap (after front) fails
-after-fails front left all file.NoMemory same fails = tt
 
 -- no record is left
 pub at-end : (members max_calls before : ℕ) (front : List Call) (rows : List (List (List ℕ)))
@@ -96,24 +78,6 @@ pub at-end : (members max_calls before : ℕ) (front : List Call) (rows : List (
     → after front (calls_after members max_calls before rows) ≡ all → rows ≡ [] → all ≡ Ok front
 unfolding calls_after
 at-end members max_calls before front rows all same none = grind (arith, common_steps, append-nil)
-
--- a record has a fault
-pub at-fault : (members max_calls before : ℕ) (front : List Call) (rows : List (List (List ℕ)))
-    (all : Result (List Call) FileFault)
-    (r : List (List ℕ)) (rs : List (List (List ℕ))) (fault : FileFault)
-    → after front (calls_after members max_calls before rows) ≡ all → rows ≡ r ∷ rs → before < max_calls
-    → numbered_call members (before + 1) r ≡ Err fault → all ≡ Err fault
-at-fault members max_calls before front rows all r rs fault same is room bad = grind (arith, common_steps, one_more)
-
--- a record has a call
-pub at-call : (members max_calls before : ℕ) (front : List Call) (rows : List (List (List ℕ)))
-    (all : Result (List Call) FileFault)
-    (r : List (List ℕ)) (rs : List (List (List ℕ))) (call : Call)
-    → after front (calls_after members max_calls before rows) ≡ all → rows ≡ r ∷ rs → before < max_calls
-    → numbered_call members (before + 1) r ≡ Ok call
-    → after (front ++ call ∷ []) (calls_after members max_calls (before + 1) rs) ≡ all
-at-call members max_calls before front rows all r rs call same is room good =
-    grind (arith, common_steps, one_more, after-more)
 
 -- there is a record too many
 pub at-too_many : (members max_calls before : ℕ) (front : List Call) (rows : List (List (List ℕ)))

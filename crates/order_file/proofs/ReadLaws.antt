@@ -1,5 +1,5 @@
 -- The bytes that were read so far.
-use Rattle.std.proofs.Common.{◌≡◌, ◌<◌, ◌≤◌, ◌+◌, ◌-◌, ◌∙◌, ℕ, List, [], ◌++◌, ap, refl, length, length-append, take}
+use Rattle.std.proofs.Common.{◌≡◌, ◌<◌, ◌≤◌, ◌+◌, ◌-◌, ◌∙◌, ℕ, List, ◌++◌, ap, refl, length, length-append, take}
 use Rattle.std.proofs.Common.{Option, Some, None, Ok, Err, true, nat_lt, sym, append_assoc, arith, rules}
 use Rattle.std.proofs.lemmas.List.{append-nil}
 use Rattle.std.specs.Prelude.{IfSome}
@@ -45,12 +45,6 @@ consumes-behind start all more None b is h = tt
 consumes-behind start all more (Some p) None is h = absurd h
 consumes-behind start all more (Some p) (Some q) is h =
     ap (λ (xs : List ℕ). start ++ xs) h ∙ sym (append_assoc start more q) ∙ ap (λ (xs : List ℕ). xs ++ q) (sym is)
-
--- no byte is put after them
-pub nothing-consumes-behind : (start all : List ℕ) (a : Option (List ℕ)) → all ≡ start
-    → (more : List ℕ) × (all ≡ start ++ more) × Consumes a a more
-nothing-consumes-behind start all None is = ([], is ∙ sym (append-nil start), tt)
-nothing-consumes-behind start all (Some p) is = ([], is ∙ sym (append-nil start), refl)
 
 -- more bytes are
 pub more-consumes-behind : (start all now x : List ℕ) (a b c : Option (List ℕ))
