@@ -109,6 +109,6 @@ where
             board.abandon(rt);
             None
         }
-        Err(CloseFault::Behind { .. }) => None,
+        Err(CloseFault::Ahead { .. }) => None,
     }
 }

@@ -15,7 +15,7 @@ use Rattle.board_terms.specs.declared.calls.CallFault.{CallFault}
 use Rattle.board_terms.specs.declared.calls.Receipt.{Receipt}
 use Rattle.board_terms.specs.declared.calls.Shown.{Shown}
 use Rattle.board_terms.specs.declared.closing.Closing.{Closing}
-use Rattle.board_terms.specs.BoardViews.{OpenedBoard, BoardMember, BoardHistory, IsBehindHistory, IsClosingOf}
+use Rattle.board_terms.specs.BoardViews.{OpenedBoard, BoardMember, BoardHistory, IsToldOutOfStep, IsClosingOf}
 use Rattle.board_terms.specs.BoardViews.{SeesStory, board_history}
 use Rattle.board_terms.specs.BoardViews.{new_board_members, opened_board, ladder_after, tape_after}
 use Rattle.shared_board.specs.Reserves.{LeavesReserve, SeesNoneLeft}
@@ -77,9 +77,9 @@ IsCallError error = IsLockError error ⊎ ((error ≡ FULL) ⊎ ((error ≡ BEHI
 abbrev pub FindsFull : ℕ → BoardMember → BoardMember → Type 0
 FindsFull reserve old new = (new.board ≡ old.board) × SeesNoneLeft reserve old.board.config old.view new.view
 
--- the member is behind a legal history of its board that isn't full
-abbrev pub IsBehindBoard : BoardMember → Type 0
-IsBehindBoard m = (fault : CallFault) × IsBehindHistory m.board.config m.view fault
+-- the member is out of step with a legal history of its board that isn't full
+abbrev pub IsOutOfStepWithBoard : BoardMember → Type 0
+IsOutOfStepWithBoard m = (fault : CallFault) × IsToldOutOfStep m.board.config m.view fault
 
 -- a legal history of its board has fewer entries than the member has seen
 pub record SeesMore (m : BoardMember) : Type 0 where

@@ -13,7 +13,7 @@ use Rattle.auction.specs.declared.OpenFault.TheVariants.{BadBounds, BadReference
 use Rattle.auction_c.specs.declared.errors.TheConstants.{BAD_BOUNDS, BAD_REFERENCE, BAD_CAPACITY, NO_MEMORY}
 use Rattle.auction_c.specs.declared.errors.TheConstants.{DONE, NO_COMMAND, FULL, BAD_LENGTH}
 use Rattle.auction_c.specs.declared.errors.TheConstants.{BUSY, BEHIND, CLOSED, OVERTAKEN}
-use Rattle.board_terms.specs.declared.calls.CallFault.TheVariants.{HistoryFull, Behind, Overtaken}
+use Rattle.board_terms.specs.declared.calls.CallFault.TheVariants.{HistoryFull, OutOfStep, Overtaken}
 use Rattle.shared_board.specs.Reserves.{finds_reserve}
 use Rattle.shared_board.specs.declared.member.BoardFault.{BoardFault}
 use Rattle.shared_board.specs.declared.member.BoardFault.TheVariants.{Busy, Closed, Call as CallRefused}
@@ -32,7 +32,7 @@ abbrev pub board_fault_number : BoardFault → ℕ
 board_fault_number Busy = BUSY
 board_fault_number Closed = CLOSED
 board_fault_number (CallRefused HistoryFull) = FULL
-board_fault_number (CallRefused (Behind history counted)) = BEHIND
+board_fault_number (CallRefused (OutOfStep history counted)) = BEHIND
 board_fault_number (CallRefused Overtaken) = OVERTAKEN
 
 -- ---- one command

@@ -4,7 +4,7 @@ use Rattle.board_terms.specs.BoardViews.{BoardMember}
 use Rattle.auction_c.specs.declared.structs.AuctionCommand.{AuctionCommand}
 use Rattle.auction_c.specs.declared.structs.AuctionReceipt.{AuctionReceipt}
 use Rattle.auction_c.specs.declared.errors.TheConstants.{BEHIND, DONE, FULL, NO_COMMAND, OVERTAKEN}
-use Rattle.auction_c.specs.BoardCalls.{FindsFull, IsBehindBoard, IsLockError, RecordsCall}
+use Rattle.auction_c.specs.BoardCalls.{FindsFull, IsOutOfStepWithBoard, IsLockError, RecordsCall}
 use Rattle.auction_c.specs.Decoding.{command_in}
 
 -- the command in this struct was recorded once, with this receipt
@@ -31,7 +31,7 @@ pub record RecordsMany (reserve : ℕ) (commands : List AuctionCommand) (receipt
 abbrev pub StopsCall : ℕ → ℕ → BoardMember → BoardMember → Type 0
 StopsCall reserve error old new =
     ((error ≡ FULL) × FindsFull reserve old new)
-    ⊎ (((error ≡ BEHIND) × (new ≡ old) × IsBehindBoard old) ⊎ ((error ≡ OVERTAKEN) × (new ≡ old)))
+    ⊎ (((error ≡ BEHIND) × (new ≡ old) × IsOutOfStepWithBoard old) ⊎ ((error ≡ OVERTAKEN) × (new ≡ old)))
 
 -- the same of a struct, which may be no command
 abbrev pub StopsStruct : ℕ → AuctionCommand → ℕ → BoardMember → BoardMember → Type 0

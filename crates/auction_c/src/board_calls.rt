@@ -4,7 +4,7 @@ ghost use Rattle.std.specs.Prelude.{None, IfNone, IfSome, IsNone, IsSome, IsSome
 ghost use Rattle.auction_c.specs.BoardCalls.{HoldsAfter, HoldsNewMembers, RecordsCall, ShowsDisplay, is_in_use};
 ghost use Rattle.auction_c.specs.BoardCalls.{ShowsEntries, ShowsLadder, ShowsState, ShowsTrades, WritesClosing};
 ghost use Rattle.auction_c.specs.BoardCalls.{AreOfBoards, IsCloseError, first_boxed, lacks_room};
-ghost use Rattle.auction_c.specs.BoardCalls.{FindsFull, IsBehindBoard, IsCallError, IsClone, IsLadderError};
+ghost use Rattle.auction_c.specs.BoardCalls.{FindsFull, IsOutOfStepWithBoard, IsCallError, IsClone, IsLadderError};
 ghost use Rattle.auction_c.specs.BoardCalls.{IsListError, IsShowError};
 ghost use Rattle.auction.specs.OpenOrders as limits;
 ghost use Rattle.auction_c.specs.Calling.{fault_number, ladder_error, ticks_of};
@@ -96,7 +96,7 @@ pub extern "C" fn callauction_board_call(
         0 < result → IsCallError result)) }
     ensures full { result ≡ FULL →
         HoldsAfter (FindsFull member.old.reserve) member.old.boxed.value member.new.boxed.value }
-    ensures behind { result ≡ BEHIND → IsSomeAnd member.old.boxed.value IsBehindBoard }
+    ensures out_of_step { result ≡ BEHIND → IsSomeAnd member.old.boxed.value IsOutOfStepWithBoard }
     ensures clients { member.new.clients ≡ member.old.clients }
 {
     if !member.is_open {

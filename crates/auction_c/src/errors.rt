@@ -93,7 +93,7 @@ pub(crate) fn board_fault_out(fault: BoardFault) -> u32
         BoardFault::Busy => BUSY,
         BoardFault::Closed => CLOSED,
         BoardFault::Call(CallFault::HistoryFull) => FULL,
-        BoardFault::Call(CallFault::Behind { .. }) => BEHIND,
+        BoardFault::Call(CallFault::OutOfStep { .. }) => BEHIND,
         BoardFault::Call(CallFault::Overtaken) => OVERTAKEN,
     }
 }

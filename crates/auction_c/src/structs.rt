@@ -71,7 +71,7 @@ pub struct AuctionReply {
     /// The highest bid limit and the lowest ask limit, where their flags are 1.
     pub best_bid: u32,
     pub best_ask: u32,
-    /// 1 entered, 2 changed, 3 deleted, 4 standing, 5 priced, 6 unpriced, 7 traded, 8 uncrossed, 9 interrupted,
+    /// 1 entered, 2 changed, 3 deleted, 4 open order, 5 priced, 6 unpriced, 7 traded, 8 uncrossed, 9 interrupted,
     /// 10 refused.
     pub tag: u8,
     /// The side of an order or of a surplus: 0 none, 1 bid, 2 ask.

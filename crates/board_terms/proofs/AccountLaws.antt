@@ -17,7 +17,7 @@ use Rattle.board_terms.specs.MemberView.{placed_calls}
 use Rattle.board_terms.proofs.PrefixLaws.{prefix_whole, prefix_length}
 use Rattle.board_terms.proofs.HistoryLaws.{placed_calls-prefix}
 use Rattle.board_terms.specs.Closings.{HasEachNumberOnce, AreMemberCounts, HasSeenBeginning, IsAccount, IsKeptBack}
-use Rattle.board_terms.specs.Closings.{HasLate, IsClosing, IsLate, calls_with_number}
+use Rattle.board_terms.specs.Closings.{HasMemberAhead, IsClosing, IsAhead, calls_with_number}
 
 pub calls_with_number-push : (k : ℕ) (ms : List MemberView) (m : MemberView)
     → calls_with_number k (ms ++ m ∷ []) ≡ calls_with_number k ms + (if m.number == k then m.calls else 0)
@@ -228,15 +228,15 @@ accounts n story ms counts counted amount once h follow wide own_counts sums j d
     account_by_count n story m f (sym all)
 
 -- a member more, which isn't kept back
-pub keeps : (late : Option ℕ) (end : ℕ) (ms : List MemberView) (m : MemberView) (kept : Option MemberView)
-    → IsKeptBack late end ms kept → (kept ≡ None → late ≡ Some m.number → length m.seen ≤ end)
-    → IsKeptBack late end (ms ++ m ∷ []) kept
-keeps late end ms m kept h f = grind (arith, common_steps, All-push, Contains-append_left)
+pub keeps : (ahead : Option ℕ) (end : ℕ) (ms : List MemberView) (m : MemberView) (kept : Option MemberView)
+    → IsKeptBack ahead end ms kept → (kept ≡ None → ahead ≡ Some m.number → length m.seen ≤ end)
+    → IsKeptBack ahead end (ms ++ m ∷ []) kept
+keeps ahead end ms m kept h f = grind (arith, common_steps, All-push, Contains-append_left)
 
--- no member was kept back, so none that is late was asked for
-pub none_late : (late : Option ℕ) (k end : ℕ) (ms : List MemberView) → IsKeptBack late end ms None → late ≡ Some k
-    → HasLate k end ms → ⊥
-none_late late k end ms h is has = grind (arith, common_steps, All-contains)
+-- no member was kept back, so none that is ahead was asked for
+pub none_ahead : (ahead : Option ℕ) (k end : ℕ) (ms : List MemberView) → IsKeptBack ahead end ms None → ahead ≡ Some k
+    → HasMemberAhead k end ms → ⊥
+none_ahead ahead k end ms h is has = grind (arith, common_steps, All-contains)
 
 -- the same members, and how many there are
 pub complete : (n n' : ℕ) (ms ms' : List MemberView) → n' ≡ n → ms' ≡ ms → HasEachNumberOnce n' ms'
@@ -249,21 +249,21 @@ pub closes : (c : Config) (n : ℕ) (ms : List MemberView) (closing : Closing) (
 closes c n ms closing amount total once h legal total_is amount_is = search (arith, each_of)
 
 -- where no member was kept back, all follow the story
-pub all_follow : (n end long : ℕ) (story : List Call) (ms ms' : List MemberView) (late : Option ℕ) → end ≡ long
-    → ms' ≡ ms → IsKeptBack late end ms None → IfNone late (All (HasSeenBeginning n story) ms')
-    → IfSome late (λ k. HasLate k long ms') → All (HasSeenBeginning n story) ms
+pub all_follow : (n end long : ℕ) (story : List Call) (ms ms' : List MemberView) (ahead : Option ℕ) → end ≡ long
+    → ms' ≡ ms → IsKeptBack ahead end ms None → IfNone ahead (All (HasSeenBeginning n story) ms')
+    → IfSome ahead (λ k. HasMemberAhead k long ms') → All (HasSeenBeginning n story) ms
 all_follow n end long story ms ms' None is same h none some = subst (All (HasSeenBeginning n story)) same none
 all_follow n end long story ms ms' (Some k) is same h none some =
     absurd
-    (none_late (Some k) k end ms h refl
-    (subst (λ (e : ℕ). HasLate k e ms) (sym is) (subst (HasLate k long) same some)))
+    (none_ahead (Some k) k end ms h refl
+    (subst (λ (e : ℕ). HasMemberAhead k e ms) (sym is) (subst (HasMemberAhead k long) same some)))
 
--- the member that was kept back is the first that is late
-pub is_late : (c : Config) (n end long : ℕ) (ms ms' : List MemberView) (late : Option ℕ)
+-- the member that was kept back is the first that is ahead
+pub is_ahead : (c : Config) (n end long : ℕ) (ms ms' : List MemberView) (ahead : Option ℕ)
     (m m' : MemberView) (seen : ℕ) (closing : Closing)
-    → IsClosing c n ms closing → end ≡ long → ms' ≡ ms → IsKeptBack late end ms (Some m) → m' ≡ m
+    → IsClosing c n ms closing → end ≡ long → ms' ≡ ms → IsKeptBack ahead end ms (Some m) → m' ≡ m
     → seen ≡ length m'.seen → long ≡ length closing.history.items
-    → IfSome late (λ k. All (λ (x : MemberView). x.number < k → length x.seen ≤ long) ms')
-    → IsLate c n ms m' seen closing
-is_late c n end long ms ms' late m m' seen closing closed is same kept same_m seen_is history first =
+    → IfSome ahead (λ k. All (λ (x : MemberView). x.number < k → length x.seen ≤ long) ms')
+    → IsAhead c n ms m' seen closing
+is_ahead c n end long ms ms' ahead m m' seen closing closed is same kept same_m seen_is history first =
     grind (arith, common_steps, closes)

@@ -13,7 +13,7 @@ use Rattle.auction_terms.specs.declared.Entry.{Entry}
 use Rattle.board_terms.specs.declared.calls.CallFault.{CallFault}
 use Rattle.board_terms.specs.declared.calls.Shown.{Shown}
 use Rattle.board_terms.specs.MemberView.{MemberView, newcomer, placed_calls}
-use Rattle.board_terms.specs.CallsAndLooks.{IsBehind, ShowsAfter, behind_fault}
+use Rattle.board_terms.specs.CallsAndLooks.{IsOutOfStep, ShowsAfter, out_of_step_fault}
 
 -- a beginning of the story that a book has
 pub record Beginning : Type 0 where
@@ -81,13 +81,13 @@ pub record SeesStory (story : List Call) (old new : MemberView) : Type 0 where
   pub begins : IsPrefix old.seen new.seen
   pub all : new.seen ≡ story
 
--- the member is behind a legal history that isn't full, as the fault says
-pub record IsBehindHistory (c : Config) (m : MemberView) (fault : CallFault) : Type 0 where
+-- the member is out of step with a legal history that isn't full, as the fault says
+pub record IsToldOutOfStep (c : Config) (m : MemberView) (fault : CallFault) : Type 0 where
   pub history : List Entry
   pub legal : IsLegal c history
   pub room : length history ≢ c.max_calls
-  pub behind : IsBehind history m
-  pub told : fault ≡ behind_fault history m.number
+  pub differs : IsOutOfStep history m
+  pub told : fault ≡ out_of_step_fault history m.number
 
 -- the quantities of the orders that count after these calls, and the trades
 abbrev pub ladder_after : Config → List Call → LadderView

@@ -10,7 +10,7 @@ use Rattle.auction_terms.specs.Day.{IsLegal, step, replay, calls_of, display}
 use Rattle.auction.specs.AuctionState.{call_by}
 use Rattle.board_terms.specs.MemberView.{MemberView, placed_calls, placed_call}
 use Rattle.board_terms.specs.declared.calls.CallFault.{CallFault}
-use Rattle.board_terms.specs.declared.calls.CallFault.TheVariants.{Behind}
+use Rattle.board_terms.specs.declared.calls.CallFault.TheVariants.{OutOfStep}
 use Rattle.board_terms.specs.declared.calls.Receipt.{Receipt}
 use Rattle.board_terms.specs.declared.calls.Shown.{Shown}
 
@@ -53,12 +53,12 @@ pub record IsLook (c : Config) (old new : MemberView) (s : Shown) : Type 0 where
   pub own_begins : IsPrefix new.mine (placed_calls new.seen new.number)
 
 -- the member has seen more than the history has, or its count isn't that of its entries there
-abbrev pub IsBehind : List Entry → MemberView → Type 0
-IsBehind history m = (length history < length m.seen) ⊎ (m.calls ≢ length (placed_calls (calls_of history) m.number))
+abbrev pub IsOutOfStep : List Entry → MemberView → Type 0
+IsOutOfStep history m = (length history < length m.seen) ⊎ (m.calls ≢ length (placed_calls (calls_of history) m.number))
 
--- the fault of a member with this number that is behind this history
-abbrev pub behind_fault : List Entry → ℕ → CallFault
-behind_fault history number = Behind (length history) (length (placed_calls (calls_of history) number))
+-- the fault of a member with this number that is out of step with this history
+abbrev pub out_of_step_fault : List Entry → ℕ → CallFault
+out_of_step_fault history number = OutOfStep (length history) (length (placed_calls (calls_of history) number))
 
 -- the member has seen all of a full history, and is else as before
 pub record SeesFullHistory (c : Config) (old new : MemberView) : Type 0 where

@@ -27,23 +27,23 @@ pub record IsClosing (c : Config) (n : ℕ) (members : List MemberView) (closing
   pub each : All (λ (m : MemberView). slice_index closing.calls.items m.number ≡ m.calls) members
 
 -- a closing beside a member that was shown more than the history has: it is the first such member by number
-pub record IsLate (c : Config) (n : ℕ) (members : List MemberView)
-    (late : MemberView) (seen : ℕ) (closing : Closing) : Type 0 where
+pub record IsAhead (c : Config) (n : ℕ) (members : List MemberView)
+    (ahead : MemberView) (seen : ℕ) (closing : Closing) : Type 0 where
   pub closes : IsClosing c n members closing
-  pub one_of : Contains members late
-  pub seen_is : seen ≡ length late.seen
+  pub one_of : Contains members ahead
+  pub seen_is : seen ≡ length ahead.seen
   pub more : length closing.history.items < seen
-  pub first : All (λ (m : MemberView). m.number < late.number → length m.seen ≤ length closing.history.items) members
+  pub first : All (λ (m : MemberView). m.number < ahead.number → length m.seen ≤ length closing.history.items) members
 
 -- the fault that hands back the first such member, what it has seen, and the closing
-abbrev pub IsLateFault : {F : Type 0} → (MemberView → ℕ → Closing → F) → Config → ℕ → List MemberView → F → Type 0
-IsLateFault behind c n members fault =
-    (m : MemberView) × (seen : ℕ) × (closing : Closing) × (fault ≡ behind m seen closing)
-    × IsLate c n members m seen closing
+abbrev pub IsAheadFault : {F : Type 0} → (MemberView → ℕ → Closing → F) → Config → ℕ → List MemberView → F → Type 0
+IsAheadFault ahead c n members fault =
+    (m : MemberView) × (seen : ℕ) × (closing : Closing) × (fault ≡ ahead m seen closing)
+    × IsAhead c n members m seen closing
 
 -- some member with this number has seen more than `end` calls
-abbrev pub HasLate : ℕ → ℕ → List MemberView → Type 0
-HasLate k end members = (m : MemberView) × Contains members m × (m.number ≡ k) × (end < length m.seen)
+abbrev pub HasMemberAhead : ℕ → ℕ → List MemberView → Type 0
+HasMemberAhead k end members = (m : MemberView) × Contains members m × (m.number ≡ k) × (end < length m.seen)
 
 -- what a member that was kept back holds
 abbrev pub kept_calls : Option MemberView → ℕ
@@ -56,16 +56,16 @@ kept_parts (Some m) = 1
 
 -- the member that was kept back is the one that was asked for
 abbrev pub IsKeptBack : Option ℕ → ℕ → List MemberView → Option MemberView → Type 0
-IsKeptBack late end members None =
-    (k : ℕ) → late ≡ Some k → All (λ (m : MemberView). m.number ≡ k → length m.seen ≤ end) members
-IsKeptBack late end members (Some m) = (late ≡ Some m.number) × (end < length m.seen) × Contains members m
+IsKeptBack ahead end members None =
+    (k : ℕ) → ahead ≡ Some k → All (λ (m : MemberView). m.number ≡ k → length m.seen ≤ end) members
+IsKeptBack ahead end members (Some m) = (ahead ≡ Some m.number) × (end < length m.seen) × Contains members m
 
 -- the calls that members with this number brought
 abbrev pub calls_with_number : ℕ → List MemberView → ℕ
 calls_with_number k [] = 0
 calls_with_number k (m ∷ ms) = (if m.number == k then m.calls else 0) + calls_with_number k ms
 
--- what is known of a member that isn't behind
+-- what is known of a member that isn't ahead of the history
 pub record HasSeenBeginning (n : ℕ) (story : List Call) (m : MemberView) : Type 0 where
   pub number : m.number < n
   pub begins : IsPrefix m.seen story

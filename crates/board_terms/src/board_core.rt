@@ -3,8 +3,9 @@ ghost use Rattle.std.specs.Prelude.{◌≡◌, ◌≢◌, ◌+◌, ◌<◌, ◌�
 ghost use Rattle.std.specs.Prelude.{IfOk, IfErr, IfNone, IfSome, OnOk, OnErr, Err, Some};
 ghost use Rattle.auction.specs.AuctionState.{call_by};
 ghost use Rattle.auction_terms.specs.Day.{IsLegal, calls_of};
-ghost use Rattle.board_terms.specs.BoardViews.{IsBehindHistory, IsClosingOf, IsSnapshotOf};
-ghost use Rattle.board_terms.specs.CallsAndLooks.{behind_fault, entry, CallsOnce, EndsWithCall, IsBehind, IsLook};
+ghost use Rattle.board_terms.specs.BoardViews.{IsToldOutOfStep, IsClosingOf, IsSnapshotOf};
+ghost use Rattle.board_terms.specs.CallsAndLooks.{entry, CallsOnce, EndsWithCall, IsLook};
+ghost use Rattle.board_terms.specs.CallsAndLooks.{out_of_step_fault, IsOutOfStep};
 ghost use Rattle.board_terms.specs.CallsAndLooks.{SeesFullHistory};
 ghost use Rattle.board_terms.specs.Closings.{HasSeenBeginning, IsAccount};
 ghost use Rattle.board_terms.specs.MemberView.{placed_calls};
@@ -63,8 +64,8 @@ impl BoardCore {
             SeesFullHistory self.old.board.config by.old.view by.new.view }
         ensures fault { IfErr result (λ e. e ≢ CallFault.HistoryFull → by.new ≡ by.old) }
         ensures same { IfErr result (λ e. self.new ≡ self.old) }
-        ensures behind { (h k : ℕ) → result ≡ Err (CallFault.Behind h k) →
-            IsBehindHistory self.old.board.config by.old.view (CallFault.Behind h k) }
+        ensures out_of_step { (h k : ℕ) → result ≡ Err (CallFault.OutOfStep h k) →
+            IsToldOutOfStep self.old.board.config by.old.view (CallFault.OutOfStep h k) }
     {
         let result = self.record(by, command);
         if result == Err(CallFault::HistoryFull) {
@@ -85,12 +86,12 @@ impl BoardCore {
         ensures story { OnOk result (by.new.view.seen ≡ calls_of self.new.history) }
         ensures full { (result ≡ Err CallFault.HistoryFull)
             ↔ (length self.old.history ≡ self.old.board.config.max_calls) }
-        ensures behind { IsBehind self.old.history by.old.view →
+        ensures out_of_step { IsOutOfStep self.old.history by.old.view →
             length self.old.history ≢ self.old.board.config.max_calls →
-            result ≡ Err (behind_fault self.old.history by.old.view.number) }
-        ensures behind_only { (h k : ℕ) → result ≡ Err (CallFault.Behind h k) →
-            IsBehind self.old.history by.old.view
-            × (CallFault.Behind h k ≡ behind_fault self.old.history by.old.view.number) }
+            result ≡ Err (out_of_step_fault self.old.history by.old.view.number) }
+        ensures out_of_step_only { (h k : ℕ) → result ≡ Err (CallFault.OutOfStep h k) →
+            IsOutOfStep self.old.history by.old.view
+            × (CallFault.OutOfStep h k ≡ out_of_step_fault self.old.history by.old.view.number) }
         ensures fault { OnErr result ((self.new ≡ self.old) × (by.new ≡ by.old)) }
         ensures legal { IsLegal self.new.board.config self.new.history }
     {
@@ -117,12 +118,12 @@ impl BoardCore {
         ensures full { (result ≡ Some CallFault.HistoryFull)
             ↔ (length self.now.history ≡ self.now.board.config.max_calls) }
         ensures room { IfNone result (length self.now.history < self.now.board.config.max_calls) }
-        ensures behind { IsBehind self.now.history by.now.view →
+        ensures out_of_step { IsOutOfStep self.now.history by.now.view →
             length self.now.history ≢ self.now.board.config.max_calls →
-            result ≡ Some (behind_fault self.now.history by.now.view.number) }
+            result ≡ Some (out_of_step_fault self.now.history by.now.view.number) }
         ensures only { IfSome result (λ fault. (fault ≡ CallFault.HistoryFull)
-            ⊎ (IsBehind self.now.history by.now.view
-            × (fault ≡ behind_fault self.now.history by.now.view.number))) }
+            ⊎ (IsOutOfStep self.now.history by.now.view
+            × (fault ≡ out_of_step_fault self.now.history by.now.view.number))) }
         ensures follows { IfNone result
             (HasSeenBeginning self.now.board.members (calls_of self.now.history) by.now.view) }
         ensures counted { IfNone result
@@ -134,7 +135,7 @@ impl BoardCore {
         let history = self.auction.calls();
         let counted = self.counted[usize::from(by.number())];
         if !self.is_followed_by(by) || by.calls() != counted {
-            return Some(CallFault::Behind { history, counted });
+            return Some(CallFault::OutOfStep { history, counted });
         }
         None
     }

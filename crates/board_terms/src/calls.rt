@@ -9,8 +9,8 @@ pub struct Receipt {
     pub reply: Reply,
 }
 
-/// Why a call was not recorded. They are looked at in the order `HistoryFull`, `Behind`, `Overtaken`, and after any of
-/// them the history, what is shown and the member's counts are as they were.
+/// Why a call was not recorded. They are looked at in the order `HistoryFull`, `OutOfStep`, `Overtaken`, and after any
+/// of them the history, what is shown and the member's counts are as they were.
 #[derive(Clone, Copy, PartialEq, Eq, Debug)]
 pub enum CallFault {
     /// The history has `max_calls` entries.
@@ -20,7 +20,7 @@ pub enum CallFault {
     Overtaken,
     /// The member has seen more than the `history` calls that are recorded, or has counted other than the `counted`
     /// entries with its number.
-    Behind { history: u32, counted: u32 },
+    OutOfStep { history: u32, counted: u32 },
 }
 
 /// What a look shows: the number of calls so far, and the display of the book after them.

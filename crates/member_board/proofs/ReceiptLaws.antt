@@ -12,7 +12,7 @@ use Rattle.auction.specs.AuctionState.{call_by}
 use Rattle.board_terms.specs.MemberView.{MemberView, PlacedCall, placed_call}
 use Rattle.board_terms.specs.CallsAndLooks.{CallsOnce, EndsWithCall, SeesFullHistory, entry}
 use Rattle.board_terms.specs.declared.calls.CallFault.{CallFault}
-use Rattle.board_terms.specs.declared.calls.CallFault.TheVariants.{HistoryFull, Overtaken, Behind}
+use Rattle.board_terms.specs.declared.calls.CallFault.TheVariants.{HistoryFull, Overtaken, OutOfStep}
 use Rattle.board_terms.specs.declared.calls.Receipt.{Receipt}
 use Rattle.board_terms.proofs.PrefixLaws.{prefix_self, prefix_trans}
 use Rattle.member_board.specs.PlaysScript.{recorded_calls, AreAnswered, EndsWithReceipt}
@@ -106,4 +106,4 @@ pub after_fault : (c : Config) (fault : CallFault) (old new : MemberView)
     → (new.number ≡ old.number) × (new.calls ≡ old.calls) × (new.mine ≡ old.mine) × IsPrefix old.seen new.seen
 after_fault c HistoryFull old new full same = let f = full refl in (f.number, f.calls, f.mine, f.begins)
 after_fault c Overtaken old new full same = unchanged old new (same (λ e. cc))
-after_fault c (Behind history counted) old new full same = unchanged old new (same (λ e. cc))
+after_fault c (OutOfStep history counted) old new full same = unchanged old new (same (λ e. cc))

@@ -12,7 +12,7 @@ use Rattle.board_terms.specs.MemberView.{MemberView, PlacedCall, placed_call}
 use Rattle.board_terms.specs.CallsAndLooks.{EndsWithCall}
 use Rattle.board_terms.specs.declared.calls.Receipt.{Receipt}
 use Rattle.board_terms.specs.declared.calls.CallFault.{CallFault}
-use Rattle.board_terms.specs.declared.calls.CallFault.TheVariants.{HistoryFull, Behind}
+use Rattle.board_terms.specs.declared.calls.CallFault.TheVariants.{HistoryFull, OutOfStep}
 use Rattle.member_board.specs.declared.script.Script.{Script}
 
 -- the calls of these receipts, each at its place
@@ -45,7 +45,7 @@ pub record PlayedScript : Type 0 where
 
 -- The member's calls are those of the receipts, and what it has seen has grown by them and by others' calls. Without a
 -- fault the script was played to its end; where the history was full the member has seen a full history, and where it
--- was behind it has seen more than the history has, or counted other calls.
+-- was out of step it has seen more than the history has, or counted other calls.
 pub record PlaysScript (c : Config) (old : MemberView) (commands : List Command) (run : PlayedScript) : Type 0 where
   pub number : run.member.number ≡ old.number
   pub calls : run.member.calls ≡ old.calls + length run.receipts
@@ -53,7 +53,7 @@ pub record PlaysScript (c : Config) (old : MemberView) (commands : List Command)
   pub answered : AreAnswered c old.number old.seen run.receipts commands run.member.seen
   pub whole : run.fault ≡ None → length run.receipts ≡ length commands
   pub full : run.fault ≡ Some HistoryFull → c.max_calls ≤ length run.member.seen
-  pub behind : (h k : ℕ) → run.fault ≡ Some (Behind h k) → (h < length run.member.seen) ⊎ (run.member.calls ≢ k)
+  pub out_of_step : (h k : ℕ) → run.fault ≡ Some (OutOfStep h k) → (h < length run.member.seen) ⊎ (run.member.calls ≢ k)
 
 -- a member with its script's commands
 pub record MemberScript : Type 0 where

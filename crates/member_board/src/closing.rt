@@ -5,7 +5,7 @@ ghost use Rattle.auction_terms.specs.declared.limits.TheConstants.{MAX_CALLS};
 ghost use Rattle.auction_terms.specs.Day.{calls_of};
 ghost use Rattle.board_terms.specs.MemberView.{MemberView};
 ghost use Rattle.board_terms.specs.Closings.{HasEachNumberOnce, AreMemberCounts, HasSeenBeginning, IsAccount};
-ghost use Rattle.board_terms.specs.Closings.{IsClosing, IsLateFault, HasLate};
+ghost use Rattle.board_terms.specs.Closings.{IsClosing, IsAheadFault, HasMemberAhead};
 ghost use Rattle.board_terms.specs.Closings.{IsKeptBack, kept_calls, kept_parts};
 
 use crate::board::Board;
@@ -31,7 +31,7 @@ where
     },
     /// A member was shown `seen` calls, more than the history has. It is the first such member by number; the others
     /// are dropped. The closing is as it would have been.
-    Behind {
+    Ahead {
         member: Member<K>,
         seen: u32,
         closing: Closing,
@@ -61,12 +61,16 @@ fn are_complete<K: BoardIdentity>(n: u8, members: &[Member<K>]) -> bool
 }
 
 // The least number of a member that has seen more than the history, if there is one.
-fn first_late<K: BoardIdentity>(n: u8, locked: &LockedBoard<K>, members: &[Member<K>]) -> Option<u8>
+fn first_ahead<K: BoardIdentity>(
+    n: u8,
+    locked: &LockedBoard<K>,
+    members: &[Member<K>],
+) -> Option<u8>
 where
     Version<K>: Absorb<Update<K>, State = ()>,
     requires { n ≡ K.parts }
     ensures none { IfNone result (All (HasSeenBeginning K.parts (calls_of locked.now)) members.now) }
-    ensures some { IfSome result (λ k. HasLate k (length locked.now) members.now) }
+    ensures some { IfSome result (λ k. HasMemberAhead k (length locked.now) members.now) }
     ensures first { IfSome result (λ k. All (λ m. m.number < k → length m.seen ≤ length locked.now) members.now) }
 {
     let mut least = n;
@@ -96,14 +100,14 @@ struct Gathering<K: BoardIdentity> {
     kept: Option<Member<K>>,
 }
 
-// Joins the shares and writes down each member's count. The first member with the late number that has seen more than
-// `end` calls is kept back.
+// Joins the shares and writes down each member's count. The first member with the number `ahead` that has seen more
+// than `end` calls is kept back.
 fn gather<K: BoardIdentity>(
     mut counts: Vec<u32>,
     mut joined: Share<K>,
     book: &mut Book<K>,
     members: Vec<Member<K>>,
-    late: Option<u8>,
+    ahead: Option<u8>,
     end: usize,
 ) -> Gathering<K>
     requires counts { (length counts.items ≡ K.parts) × (sum counts.items ≡ 0) }
@@ -113,14 +117,14 @@ fn gather<K: BoardIdentity>(
     ensures book { book.new.total ≡ book.old.total }
     ensures counts { AreMemberCounts K.parts members.items result.counts.items
         (result.joined.amount + kept_calls result.kept) }
-    ensures kept { IsKeptBack late end members.items result.kept }
+    ensures kept { IsKeptBack ahead end members.items result.kept }
 {
     let mut kept: Option<Member<K>> = None;
     for mut member in members {
         let number = member.number();
         member.audit(book);
         counts[usize::from(number)] += member.calls();
-        if kept.is_none() && late == Some(number) && member.seen_len() as usize > end {
+        if kept.is_none() && ahead == Some(number) && member.seen_len() as usize > end {
             kept = Some(member);
         } else {
             joined.merge(member.into_share());
@@ -153,7 +157,7 @@ where
     ensures missing { (result ≡ Err
         (CloseFault.MissingMember board members)) ↔ ¬ HasEachNumberOnce K.parts members.items }
     ensures fault { IfErr result (λ f. (f ≡ CloseFault.MissingMember board members)
-        ⊎ IsLateFault CloseFault.Behind K.config K.parts members.items f) }
+        ⊎ IsAheadFault CloseFault.Ahead K.config K.parts members.items f) }
 {
     let n = board.members;
     if !are_complete(n, &members) {
@@ -161,7 +165,7 @@ where
     }
     let Board { locked, members: _ } = board;
     let locked = locked.into_inner();
-    let late = first_late(n, &locked, &members);
+    let ahead = first_ahead(n, &locked, &members);
     let (Closing { history, calls }, mut book, joined) = locked.end(rt);
     let Gathering {
         counts: calls,
@@ -172,7 +176,7 @@ where
         joined,
         &mut book,
         members,
-        late,
+        ahead,
         history.len(),
     );
     let closing = Closing { history, calls };
@@ -184,7 +188,7 @@ where
         Some(mut member) => {
             member.settle(&mut book, joined);
             let seen = member.seen_len();
-            Err(CloseFault::Behind {
+            Err(CloseFault::Ahead {
                 member,
                 seen,
                 closing,

@@ -3,7 +3,7 @@ ghost use Rattle.std.specs.Prelude.{◌≡◌, ◌≤◌, ◌≢◌, ◌++◌, �
 ghost use Rattle.auction_terms.specs.Day.{IsLegal, calls_of};
 ghost use Rattle.board_terms.specs.BoardViews.{IsClosingOf, opened_board};
 ghost use Rattle.board_terms.specs.declared.calls.Shown.{Shown};
-ghost use Rattle.board_terms.specs.CallsAndLooks.{behind_fault, entry, CallsOnce, IsBehind, IsLook, ShowsAfter};
+ghost use Rattle.board_terms.specs.CallsAndLooks.{out_of_step_fault, entry, CallsOnce, IsOutOfStep, IsLook, ShowsAfter};
 
 use crate::identity::BoardIdentity;
 use crate::member::Member;
@@ -64,10 +64,10 @@ where
         ensures call { IfOk result (λ r. CallsOnce K.config by.old by.new command r) }
         ensures story { OnOk result (by.new.seen ≡ calls_of self.new) }
         ensures full { (result ≡ Err CallFault.HistoryFull) ↔ (length self.old ≡ K.config.max_calls) }
-        ensures behind { IsBehind self.old by.old → length self.old ≢ K.config.max_calls →
-            result ≡ Err (behind_fault self.old by.old.number) }
-        ensures behind_only { (h k : ℕ) → result ≡ Err (CallFault.Behind h k) →
-            IsBehind self.old by.old × (CallFault.Behind h k ≡ behind_fault self.old by.old.number) }
+        ensures out_of_step { IsOutOfStep self.old by.old → length self.old ≢ K.config.max_calls →
+            result ≡ Err (out_of_step_fault self.old by.old.number) }
+        ensures out_of_step_only { (h k : ℕ) → result ≡ Err (CallFault.OutOfStep h k) →
+            IsOutOfStep self.old by.old × (CallFault.OutOfStep h k ≡ out_of_step_fault self.old by.old.number) }
         ensures fault { OnErr result ((self.new ≡ self.old) × (by.new ≡ by.old)) }
         ensures legal { IsLegal K.config self.new }
     {

@@ -78,8 +78,8 @@ impl<K: BoardIdentity> Member<K> {
     /// and it has now seen the calls of a legal history that ends with this one and its reply.
     /// After a fault nothing was recorded, and the member is as it was, except that at `HistoryFull` it has seen the
     /// whole history, of at least `max_calls` entries. A member that has seen at least `max_calls` calls gets no other
-    /// fault but `Behind`, which comes only where the member has seen more than the history has, or counted other calls
-    /// than the history has of it.
+    /// fault but `OutOfStep`, which comes only where the member has seen more than the history has, or counted other
+    /// calls than the history has of it.
     pub fn call<R: Wait>(
         &mut self,
         board: &Board<K>,
@@ -93,9 +93,9 @@ impl<K: BoardIdentity> Member<K> {
             × EndsWithCall K.config h self.old.number command r) }
         ensures full { result ≡ Err CallFault.HistoryFull → SeesFullHistory K.config self.old self.new }
         ensures full_only { K.config.max_calls ≤ length self.old.seen →
-            (result ≡ Err CallFault.HistoryFull) ⊎ ((h k : ℕ) × (result ≡ Err (CallFault.Behind h k))) }
+            (result ≡ Err CallFault.HistoryFull) ⊎ ((h k : ℕ) × (result ≡ Err (CallFault.OutOfStep h k))) }
         ensures fault { IfErr result (λ e. e ≢ CallFault.HistoryFull → self.new ≡ self.old) }
-        ensures behind { (h k : ℕ) → result ≡ Err (CallFault.Behind h k) →
+        ensures out_of_step { (h k : ℕ) → result ≡ Err (CallFault.OutOfStep h k) →
             (h < length self.old.seen) ⊎ (self.old.calls ≢ k) }
     {
         let mut locked = board.lock(rt);

@@ -24,7 +24,7 @@ IsFaultAfter refused played (Some fault.NotClosed) = (refused ≡ Some run.NoThr
 IsFaultAfter refused played (Some fault.NoMemory) = (refused ≡ Some run.NoMemory) × All IsWhole played
 IsFaultAfter refused played (Some f) = ⊥
 
--- Why the day wasn't closed after a run. A member that is missing or behind keeps it open too.
+-- Why the day wasn't closed after a run. A member that is missing or ahead keeps it open too.
 abbrev pub IsUnclosedFault : Option RunFault → List PlayedScript → Fault → Type 0
 IsUnclosedFault refused played f =
     IsFaultAfter refused played (Some f) ⊎ (IsFaultAfter refused played None × (f ≡ fault.NotClosed))

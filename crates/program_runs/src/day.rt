@@ -74,7 +74,7 @@ where
             board.abandon(rt);
             Err(Fault::NotClosed)
         }
-        Err(CloseFault::Behind { .. }) => Err(Fault::NotClosed),
+        Err(CloseFault::Ahead { .. }) => Err(Fault::NotClosed),
     }
 }
 

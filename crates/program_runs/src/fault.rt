@@ -22,7 +22,7 @@ pub enum Fault {
     /// Memory was refused to the scripts, to the members' calls, to the audit or to a listing.
     NoMemory,
     /// The board's day couldn't be closed: a thread couldn't be started, the history was full, or a
-    /// member was behind or missing.
+    /// member was ahead of the history, or missing.
     NotClosed,
     /// A line could not be written.
     WriteFailed,

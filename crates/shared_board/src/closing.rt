@@ -5,7 +5,7 @@ ghost use Rattle.std.specs.Prelude.{MatchBool};
 ghost use Rattle.auction_terms.specs.Day.{IsLegal, calls_of};
 ghost use Rattle.board_terms.specs.CallsAndLooks.{CallsOnce, EndsWithCall, entry};
 ghost use Rattle.board_terms.specs.Closings.{IsAccount};
-ghost use Rattle.board_terms.specs.BoardViews.{IsBehindHistory, SeesStory};
+ghost use Rattle.board_terms.specs.BoardViews.{IsToldOutOfStep, SeesStory};
 ghost use Rattle.shared_board.specs.Reserves.{LeavesReserve, SeesNoneLeft};
 
 use crate::locked::TakenBoard;
@@ -54,8 +54,8 @@ impl SharedMember {
             SeesNoneLeft reserve self.old.board.config self.old.view self.new.view }
         ensures fault { IfErr result (λ e. e ≢ CallFault.HistoryFull → self.new ≡ self.old) }
         ensures same { IfErr result (λ e. locked.new ≡ locked.old) }
-        ensures behind { (h k : ℕ) → result ≡ Err (CallFault.Behind h k) →
-            IsBehindHistory self.old.board.config self.old.view (CallFault.Behind h k) }
+        ensures out_of_step { (h k : ℕ) → result ≡ Err (CallFault.OutOfStep h k) →
+            IsToldOutOfStep self.old.board.config self.old.view (CallFault.OutOfStep h k) }
     {
         call_unreserved(&mut locked.core, &mut self.account, command, reserve)
     }
@@ -80,8 +80,8 @@ impl SharedMember {
         self.shared.shut();
     }
 
-    /// Takes in all calls of the locked board, and says whether they are no fewer than the member has seen. Else it is
-    /// behind.
+    /// Takes in all calls of the locked board, and says whether they are no fewer than the member has seen. Else the
+    /// member is ahead of them.
     pub fn see(&mut self, locked: &TakenBoard) -> bool
         requires { locked.now.board ≡ self.old.board }
         ensures board { self.new.board ≡ self.old.board }

@@ -2,8 +2,8 @@
 //! tried orders them, and looks take no lock. It has no type parameter and no handle of the runtime, so C can hold its
 //! members by handles. The day is a ghost value, the tag of the lock, and the same tag is known of each member.
 //!
-//! A recorded call and a look are as `member_board` promises them, and a `Behind` tells numbers that its member is
-//! behind, as there. A full history too, but that the last calls of the day may be kept for the operator
+//! A recorded call and a look are as `member_board` promises them, and an `OutOfStep` tells numbers that its member
+//! doesn't agree with, as there. A full history too, but that the last calls of the day may be kept for the operator
 //! (`specs/Reserves.antt`). No ledger adds up the members' counts: each account is compared with the history in
 //! its turn (`is_settled`). Nothing says when a call is `Busy` or `Closed`, nor that the history under the lock is the
 //! one that earlier calls left.

@@ -1,7 +1,7 @@
 //! Members: their calls and their looks.
 ghost use Rattle.std.specs.Prelude.{◌≡◌, ◌≢◌, ℕ, List, Err, IfOk, IfErr};
 ghost use Rattle.auction_terms.specs.declared.Entry.{Entry};
-ghost use Rattle.board_terms.specs.BoardViews.{IsBehindHistory};
+ghost use Rattle.board_terms.specs.BoardViews.{IsToldOutOfStep};
 ghost use Rattle.board_terms.specs.CallsAndLooks.{CallsOnce, EndsWithCall, IsLook};
 ghost use Rattle.shared_board.specs.Reserves.{LeavesReserve, SeesNoneLeft};
 
@@ -92,9 +92,9 @@ impl SharedMember {
     /// A recorded call is in the history after all that this member had seen and calls of others only; its receipt has
     /// its place there and the auction's reply at that place; the member's own calls are the ones before and this one.
     /// After a fault nothing was recorded, and the member is as it was, except that at `HistoryFull` it has seen the
-    /// whole history, of at least `max_calls` entries, or `reserve` fewer where it isn't the operator. A `Behind` has
-    /// the numbers of a legal history that isn't full, and the member has seen more than it has, or counted other calls
-    /// than it has of the member.
+    /// whole history, of at least `max_calls` entries, or `reserve` fewer where it isn't the operator. An `OutOfStep`
+    /// has the numbers of a legal history that isn't full, and the member has seen more than it has, or counted other
+    /// calls than it has of the member.
     pub fn call(&mut self, command: Command, reserve: u32) -> Result<Receipt, BoardFault>
         ensures board { self.new.board ≡ self.old.board }
         ensures place { IfOk result (λ r.
@@ -105,8 +105,8 @@ impl SharedMember {
         ensures full { result ≡ Err (BoardFault.Call CallFault.HistoryFull) →
             SeesNoneLeft reserve self.old.board.config self.old.view self.new.view }
         ensures fault { IfErr result (λ e. e ≢ BoardFault.Call CallFault.HistoryFull → self.new ≡ self.old) }
-        ensures behind { (h k : ℕ) → result ≡ Err (BoardFault.Call (CallFault.Behind h k)) →
-            IsBehindHistory self.old.board.config self.old.view (CallFault.Behind h k) }
+        ensures out_of_step { (h k : ℕ) → result ≡ Err (BoardFault.Call (CallFault.OutOfStep h k)) →
+            IsToldOutOfStep self.old.board.config self.old.view (CallFault.OutOfStep h k) }
     {
         let SharedMember { shared, account } = self;
         let mut locked = match shared.take() {

@@ -1,6 +1,6 @@
 //! The last calls of a day, which are the operator's.
 ghost use Rattle.std.specs.Prelude.{◌≡◌, ◌≢◌, ◌++◌, ◌∷◌, [], ℕ, length, Err, IfErr, IfOk};
-ghost use Rattle.board_terms.specs.BoardViews.{IsBehindHistory};
+ghost use Rattle.board_terms.specs.BoardViews.{IsToldOutOfStep};
 ghost use Rattle.board_terms.specs.CallsAndLooks.{CallsOnce, EndsWithCall, entry};
 ghost use Rattle.shared_board.specs.Reserves.{LeavesReserve, SeesNoneLeft, finds_reserve};
 
@@ -35,8 +35,8 @@ pub(crate) fn call_unreserved(
         SeesNoneLeft reserve core.old.board.config by.old.view by.new.view }
     ensures fault { IfErr result (λ e. e ≢ CallFault.HistoryFull → by.new ≡ by.old) }
     ensures same { IfErr result (λ e. core.new ≡ core.old) }
-    ensures behind { (h k : ℕ) → result ≡ Err (CallFault.Behind h k) →
-        IsBehindHistory core.old.board.config by.old.view (CallFault.Behind h k) }
+    ensures out_of_step { (h k : ℕ) → result ≡ Err (CallFault.OutOfStep h k) →
+        IsToldOutOfStep core.old.board.config by.old.view (CallFault.OutOfStep h k) }
 {
     if finds_reserve(core, by.number(), reserve) {
         core.show_history(by);

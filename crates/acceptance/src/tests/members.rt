@@ -107,7 +107,7 @@ impl Plan {
         let receipts = one.receipts.as_slice();
         match (self, one.fault) {
             (Plan::Asks(times), None) => receipts.len() == usize::from(times),
-            (Plan::Asks(_), Some(CallFault::Behind { .. })) => false,
+            (Plan::Asks(_), Some(CallFault::OutOfStep { .. })) => false,
             (Plan::Asks(times), Some(_)) => receipts.len() < usize::from(times),
             (Plan::Turns, fault) => {
                 fault.is_none() && turns::are_receipts_of(one.member.number(), receipts)

@@ -1,7 +1,7 @@
 //! A member's call and its look.
 ghost use Rattle.std.specs.Prelude.{◌≡◌, ◌≢◌, ◌<◌};
 ghost use Rattle.auction_c.specs.declared.errors.TheConstants.{BEHIND, FULL};
-ghost use Rattle.auction_c.specs.BoardCalls.{FindsFull, IsBehindBoard, IsCallError, RecordsCall, ShowsDisplay};
+ghost use Rattle.auction_c.specs.BoardCalls.{FindsFull, IsOutOfStepWithBoard, IsCallError, RecordsCall, ShowsDisplay};
 
 use crate::encoding::{display_out, reply_out};
 use crate::errors::{DONE, FULL, board_fault_out};
@@ -23,7 +23,7 @@ pub(crate) fn call_one(
     ensures board { member.new.board ≡ member.old.board }
     ensures error { 0 < result → IsCallError result }
     ensures full { result ≡ FULL → FindsFull reserve member.old member.new }
-    ensures behind { result ≡ BEHIND → IsBehindBoard member.old }
+    ensures out_of_step { result ≡ BEHIND → IsOutOfStepWithBoard member.old }
 {
     match member.call(command, reserve) {
         Ok(answer) => {

@@ -19,7 +19,7 @@ pub(crate) fn take_locked(member: &mut SharedMember) -> Result<TakenBoard, u32>
     }
 }
 
-/// The locked board, once the member has seen all its calls; it is given back where the member is behind.
+/// The locked board, once the member has seen all its calls; it is given back where the member has seen more.
 pub(crate) fn see_locked(member: &mut SharedMember, locked: TakenBoard) -> Result<TakenBoard, u32>
     requires { locked.board ≡ member.old.board }
     ensures locked { IfOk result (λ f. f ≡ locked) }

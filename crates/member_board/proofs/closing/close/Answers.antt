@@ -5,7 +5,7 @@ use Rattle.auction_terms.specs.Day.{calls_of}
 use Rattle.board_terms.specs.declared.closing.Closing.{Closing}
 use Rattle.board_terms.specs.MemberView.{MemberView}
 use Rattle.board_terms.specs.Closings.{HasEachNumberOnce, HasSeenBeginning, IsKeptBack, kept_calls, kept_parts}
-use Rattle.board_terms.proofs.AccountLaws.{accounts, complete, closes, all_follow, is_late}
+use Rattle.board_terms.proofs.AccountLaws.{accounts, complete, closes, all_follow, is_ahead}
 use Rattle.member_board.proofs.closing.close.Goals as goal
 
 pub returns-then-not-are_complete-clause-missing : goal.returns-then-not-are_complete-clause-missing
@@ -57,12 +57,12 @@ returns-in-None-clause-accounts g c =
     let end : c.len.result ≡ length locked = omega (arith, c.len.ensures, ap length ended.history, closing.history.ok.0)
     in
     let none =
-    subst (λ (k : Option MemberView). IsKeptBack c.first_late-late.result c.len.result ms k) c.in-None.is
+    subst (λ (k : Option MemberView). IsKeptBack c.first_ahead-ahead.result c.len.result ms k) c.in-None.is
     c.gather-calls.ensures.kept in
     let follow : All (HasSeenBeginning n (calls_of closing.history.items)) ms =
     subst (λ (h : List Entry). All (HasSeenBeginning n (calls_of h)) ms) (sym ended.history)
-    (all_follow n c.len.result (length locked) (calls_of locked) ms c.deref-2.result.now c.first_late-late.result end
-    c.deref-2.ensures.value none c.first_late-late.ensures.none c.first_late-late.ensures.some) in
+    (all_follow n c.len.result (length locked) (calls_of locked) ms c.deref-2.result.now c.first_ahead-ahead.result end
+    c.deref-2.ensures.value none c.first_ahead-ahead.ensures.none c.first_ahead-ahead.ensures.some) in
     let same : sum c.gather-calls.result.counts.items ≡ sum closing.calls.items =
     omega (
       arith,
@@ -103,7 +103,7 @@ returns-clause-fault g c =
     ended.closing.legal (ended.book ∙ ap length (sym ended.history))
     (omega (arith, calls, c.settle.ensures.whole, c.gather-calls.ensures.book)) in
     let back =
-    subst (λ (k : Option MemberView). IsKeptBack c.first_late-late.result c.len.result ms k) c.in-Some.is
+    subst (λ (k : Option MemberView). IsKeptBack c.first_ahead-ahead.result c.len.result ms k) c.in-Some.is
     c.gather-calls.ensures.kept in
     let end : c.len.result ≡ length locked = omega (arith, c.len.ensures, ap length ended.history, history.ok.0) in
     inr (
@@ -111,7 +111,8 @@ returns-clause-fault g c =
       c.seen_len-seen.result,
       closing,
       refl,
-      is_late config n c.len.result (length locked) ms c.deref-2.result.now c.first_late-late.result
+      is_ahead config n c.len.result (length locked) ms c.deref-2.result.now c.first_ahead-ahead.result
           c.in-Some.member c.settle.new.self c.seen_len-seen.result closing closed end c.deref-2.ensures.value back
-          c.settle.ensures.same c.seen_len-seen.ensures (ap length (sym ended.history)) c.first_late-late.ensures.first,
+          c.settle.ensures.same c.seen_len-seen.ensures (ap length (sym ended.history))
+          c.first_ahead-ahead.ensures.first,
     )

@@ -26,7 +26,7 @@ loop-member-preserved-then-seen_len-end g c =
     omega (arith, no_calls, calls, held_calls) in
     let below : c.from.result < g.K.Ledger.parts =
     omega (arith, number, c.number-number.ensures.one_of, c.from.ensures) in
-    let asked : c.args.late ≡ Some c.number-number.result = search rules in
+    let asked : c.args.ahead ≡ Some c.number-number.result = search rules in
     let more : c.args.end < c.seen_len.result = search rules in
     let long : c.seen_len.result ≡ length m.seen = c.seen_len.ensures ∙ ap (λ (s : MemberView). length s.seen) same in
     record {
@@ -39,7 +39,7 @@ loop-member-preserved-then-seen_len-end g c =
       most = omega (arith, was.most, c.audit.ensures.same.1);
       kept_calls_most = omega (arith, held_calls, c.audit.ensures.most, c.audit.ensures.same.1);
       kept =
-          subst (λ (s : MemberView). IsKeptBack c.args.late c.args.end (c.loop-member.yielded ++ m ∷ []) (Some s))
+          subst (λ (s : MemberView). IsKeptBack c.args.ahead c.args.end (c.loop-member.yielded ++ m ∷ []) (Some s))
           (sym same) (asked ∙ ap Some number, omega (arith, more, long), Contains-push c.loop-member.yielded m);
     }
 
@@ -87,7 +87,8 @@ loop-member-preserved g c =
           );
       kept_calls_most = omega (arith, was.kept_calls_most, total);
       kept =
-          keeps c.args.late c.args.end c.loop-member.yielded m c.loop-member.kept was.kept (elim c.else-is_none.branch [
+          keeps c.args.ahead c.args.end c.loop-member.yielded m c.loop-member.kept was.kept
+          (elim c.else-is_none.branch [
             | else-is_none-via-then-is_none+then-eq+else-seen_len-end w ↦
                 λ none is. omega (
                   arith,

@@ -10,5 +10,5 @@ invariant-loop-member g l = record {
   counts : AreMemberCounts g.K.Ledger.parts l.yielded l.counts.items (l.joined.amount + kept_calls l.kept);
   most : l.joined.amount ≤ l.book.total;
   kept_calls_most : kept_calls l.kept ≤ l.book.total;
-  kept : IsKeptBack l.late l.end l.yielded l.kept;
+  kept : IsKeptBack l.ahead l.end l.yielded l.kept;
 }

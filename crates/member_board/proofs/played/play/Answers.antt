@@ -44,9 +44,9 @@ returns-in-Err g c =
           c.loop-i.receipts.items c.args.commands.now was.answered after.3;
       whole = λ none. absurd (cc (none));
       full = λ is. (told.full (cc (is))).all_calls;
-      behind =
+      out_of_step =
           λ h k is.
-          elim (told.behind h k (cc (is))) [
+          elim (told.out_of_step h k (cc (is))) [
             | inl more ↦ inl (omega (arith, more, prefix_length old.seen new.seen after.3))
             | inr other ↦ inr (λ same. other (sym after.1 ∙ same))
           ];

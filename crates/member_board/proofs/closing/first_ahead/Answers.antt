@@ -1,6 +1,6 @@
--- Answers of `first_late` (src/closing.rt): what the prover left open; rt looks here.
+-- Answers of `first_ahead` (src/closing.rt): what the prover left open; rt looks here.
 use Rattle.std.proofs.Common.{arith, ◌<◌, get_or}
-use Rattle.member_board.proofs.closing.first_late.Goals as goal
+use Rattle.member_board.proofs.closing.first_ahead.Goals as goal
 
 pub returns-else-least-n-clause-none : goal.returns-else-least-n-clause-none
 returns-else-least-n-clause-none g c =
