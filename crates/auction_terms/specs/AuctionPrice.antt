@@ -48,7 +48,7 @@ upper_end book =
     then highest (best_limits book)
     else lowest (filter (has_ask_surplus book) (best_limits book))
 
--- the reference, held between two ticks; where there is but one, that one
+-- the reference, clamped between two ticks; where there is but one, that one
 abbrev pub clamp_between : Option ℕ → Option ℕ → ℕ → Option ℕ
 clamp_between None high r = high
 clamp_between (Some low) None r = Some low

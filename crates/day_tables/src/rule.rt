@@ -14,7 +14,7 @@ pub enum Rule {
     Highest,
     /// Several limits are best, all with an ask surplus: the lowest of them is the price.
     Lowest,
-    /// The reference decides, held between the two limits that are kept of the best.
+    /// The reference decides, clamped between the two limits that are kept of the best.
     Reference,
 }
 

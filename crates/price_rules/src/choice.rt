@@ -7,8 +7,8 @@ ghost use Rattle.price_rules.specs.Candidates.{IsOfMarkedTicks, lead_of};
 use crate::candidates::Lanes;
 use lanes::{first, gap_size, greatest_where, keep_above, keep_equal, last, least_where, lesser};
 
-/// What the best candidates have in common, and the two of them that the price is held between: with a surplus, the
-/// highest with a bid surplus and the lowest with an ask surplus; with none, the lowest and the highest.
+/// What the best candidates have in common, and the two of them that bound the price: with a surplus, the highest
+/// with a bid surplus and the lowest with an ask surplus; with none, the lowest and the highest.
 #[derive(Clone, Copy)]
 pub struct Leaders {
     pub volume: u64,
@@ -28,7 +28,7 @@ fn tick_in(lanes: &Lanes, lane: Option<usize>) -> Option<u32>
     }
 }
 
-/// The lower of the two that the price is held between, where `flags` are those of the best.
+/// The lower of the two that bound the price, where `flags` are those of the best.
 fn lower_of(lanes: &Lanes, flags: [u64; 8], surplus: u64) -> Option<u32>
     ensures { IsOfMarkedTicks lanes.now flags (λ book best. result ≡ lower_among book surplus best) }
 {
@@ -40,7 +40,7 @@ fn lower_of(lanes: &Lanes, flags: [u64; 8], surplus: u64) -> Option<u32>
     tick_in(lanes, last(&bid_flags))
 }
 
-/// The upper of the two that the price is held between, where `flags` are those of the best.
+/// The upper of the two that bound the price, where `flags` are those of the best.
 fn upper_of(lanes: &Lanes, flags: [u64; 8], surplus: u64) -> Option<u32>
     ensures { IsOfMarkedTicks lanes.now flags (λ book best. result ≡ upper_among book surplus best) }
 {

@@ -148,7 +148,7 @@ fn highest_deciding(ladder: &Ladder, around: &Around) -> u32
 ///
 /// The price is the limit with the most volume and, among those, the least surplus. Where several are left, it is the
 /// highest of them if all have more wanted than offered, the lowest if all have more offered than wanted, and else the
-/// reference price, held between the highest with a bid surplus and the lowest with an ask surplus. A book of market
+/// reference price, clamped between the highest with a bid surplus and the lowest with an ask surplus. A book of market
 /// orders alone is priced at the reference price.
 ///
 /// Around the place where demand and supply cross lie at most four limits among which the price is chosen. A bid below

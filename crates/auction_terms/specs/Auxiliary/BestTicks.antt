@@ -10,8 +10,8 @@ abbrev pub has : ℕ → List ℕ → Bool
 has t [] = false
 has t (tick ∷ ticks) = (tick == t) || has t ticks
 
--- the volume and the surplus of the best, and the two ticks that the price is held between: with a surplus, the highest
--- with a bid surplus and the lowest with an ask surplus; with none, the lowest and the highest
+-- the volume and the surplus of the best, and the two ticks that bound the price: with a surplus, the highest with a
+-- bid surplus and the lowest with an ask surplus; with none, the lowest and the highest
 pub record Leaders : Type 0 where
   pub volume : ℕ
   pub surplus : ℕ
@@ -26,7 +26,7 @@ has_key book v s p = (volume book p == v) && (surplus book p == s)
 abbrev pub keyed : List Order → ℕ → ℕ → List ℕ → List ℕ
 keyed book v s ps = filter (has_key book v s) ps
 
--- the two that the price is held between, of ticks with the same surplus
+-- the two that bound the price, of ticks with the same surplus
 abbrev pub lower_among : List Order → ℕ → List ℕ → Option ℕ
 lower_among book s ps = if s == 0 then lowest ps else highest (filter (has_bid_surplus book) ps)
 
