@@ -1,11 +1,11 @@
 //! The price of books that are the worked cases of its rules.
 
-ghost use Rattle.std.specs.Prelude.{◌≡◌, ◌≤◌, length};
+ghost use Rattle.std.specs.Prelude.{◌≡◌, ◌≤◌, IfSome, length};
 ghost use Rattle.tick_ladder.specs.TickLadder.{total_quantity};
 
 use auction_terms::{Limit, Price, Side};
 use price_rules::determine_price;
-use std::alloc::{AllocError, Global};
+use std::alloc::Global;
 use std::test::Fail;
 use tick_ladder::Ladder;
 
@@ -13,11 +13,11 @@ const BID: Side = Side::Bid;
 
 const ASK: Side = Side::Ask;
 
-/// Adds an order if it fits, and returns what the quantities come to at most.
+/// Adds an order, and returns what the quantities come to at most; or none where the order doesn't fit.
 #[tactic(auto, using(tick_ladder::proofs::TotalQuantityLaws::added_more))]
-fn add(ladder: &mut Ladder, total: u64, side: Side, limit: Limit, quantity: u64) -> u64
+fn add(ladder: &mut Ladder, total: u64, side: Side, limit: Limit, quantity: u64) -> Option<u64>
     requires { total_quantity ladder.old ≤ total }
-    ensures total { total_quantity ladder.new ≤ result }
+    ensures total { IfSome result (λ all. total_quantity ladder.new ≤ all) }
     ensures low { ladder.new.low ≡ ladder.old.low }
     ensures len { length ladder.new.bids ≡ length ladder.old.bids }
 {
@@ -27,20 +27,20 @@ fn add(ladder: &mut Ladder, total: u64, side: Side, limit: Limit, quantity: u64)
     match limit {
         Limit::Market if room => {
             ladder.add(side, Limit::Market, quantity);
-            total + quantity
+            Some(total + quantity)
         }
         Limit::At(tick) if room && tick >= low && ((tick - low) as usize) < ticks => {
             ladder.add(side, Limit::At(tick), quantity);
-            total + quantity
+            Some(total + quantity)
         }
-        _ => total,
+        _ => None,
     }
 }
 
-/// Adds orders of a side, each with its limit.
-fn add_all(ladder: &mut Ladder, total: u64, side: Side, orders: &[(u64, Limit)]) -> u64
+/// Adds orders of a side, each with its limit; or answers none where one doesn't fit.
+fn add_all(ladder: &mut Ladder, total: u64, side: Side, orders: &[(u64, Limit)]) -> Option<u64>
     requires { total_quantity ladder.old ≤ total }
-    ensures total { total_quantity ladder.new ≤ result }
+    ensures total { IfSome result (λ all. total_quantity ladder.new ≤ all) }
     ensures low { ladder.new.low ≡ ladder.old.low }
     ensures len { length ladder.new.bids ≡ length ladder.old.bids }
 {
@@ -48,25 +48,29 @@ fn add_all(ladder: &mut Ladder, total: u64, side: Side, orders: &[(u64, Limit)])
     let mut order = 0;
     'orders: while order < orders.len() {
         let (quantity, limit) = orders[order];
-        total = add(ladder, total, side, limit, quantity);
+        total = add(ladder, total, side, limit, quantity)?;
         order += 1;
     }
-    total
+    Some(total)
 }
 
-/// The price of these orders on a ladder from 1 to 1000.
+/// The price of these orders on a ladder from 1 to 1000, which takes each of them.
 fn price_of_orders(
     alloc: Global,
     bids: &[(u64, Limit)],
     asks: &[(u64, Limit)],
     reference: u32,
-) -> Result<Option<Price>, AllocError>
+) -> Result<Option<Price>, Fail>
     requires low { 1 ≤ reference }
     requires high { reference ≤ 1000 }
 {
     let mut ladder = Ladder::open(alloc, 1, 1000)?;
-    let total = add_all(&mut ladder, 0, BID, bids);
-    add_all(&mut ladder, total, ASK, asks);
+    let Some(total) = add_all(&mut ladder, 0, BID, bids) else {
+        return Err(Fail::new("a bid doesn't fit"));
+    };
+    let Some(_) = add_all(&mut ladder, total, ASK, asks) else {
+        return Err(Fail::new("an ask doesn't fit"));
+    };
     Ok(determine_price(&ladder, reference).price)
 }
 

@@ -36,12 +36,38 @@ struct Disk {
     calls: Record,
 }
 
+/// Which bytes of a write a crash leaves on the disk, by their places in it or by chance.
+#[derive(Clone, Copy)]
+enum Kept {
+    Nothing,
+    Everything,
+    Before(usize),
+    From(usize),
+    Half,
+    SevenOf8,
+    AllBut1Of64,
+}
+
 /// How a crash tears.
 #[derive(Clone, Copy)]
 struct Tear {
-    mode: u32,
+    kept: Kept,
     state: u64,
 }
+
+/// The ways to tear that are tried, each with a chance of its own.
+const WAYS: [Kept; 10] = [
+    Kept::Nothing,
+    Kept::Everything,
+    Kept::Before(5),
+    Kept::Before(40),
+    Kept::SevenOf8,
+    Kept::AllBut1Of64,
+    Kept::From(5),
+    Kept::Half,
+    Kept::Half,
+    Kept::Half,
+];
 
 impl Tear {
     /// Whether one more byte is on the disk.
@@ -49,15 +75,14 @@ impl Tear {
         self.state ^= self.state << 13;
         self.state ^= self.state >> 7;
         self.state ^= self.state << 17;
-        match self.mode {
-            0 => false,
-            1 => true,
-            2 => place < 5,
-            3 => place < 40,
-            6 => place >= 5,
-            4 => self.state % 8 != 0,
-            5 => self.state % 64 != 0,
-            _ => self.state % 2 == 0,
+        match self.kept {
+            Kept::Nothing => false,
+            Kept::Everything => true,
+            Kept::Before(end) => place < end,
+            Kept::From(start) => place >= start,
+            Kept::Half => self.state % 2 == 0,
+            Kept::SevenOf8 => self.state % 8 != 0,
+            Kept::AllBut1Of64 => self.state % 64 != 0,
         }
     }
 }
@@ -101,7 +126,11 @@ impl Platter {
         let copy = bytes.to_vec(self.alloc)?;
         self.pending.push(Step::Write(at, copy))?;
         self.spend()?;
-        put(&mut self.bytes, at, bytes, &mut Tear { mode: 1, state: 1 });
+        let mut whole = Tear {
+            kept: Kept::Everything,
+            state: 1,
+        };
+        put(&mut self.bytes, at, bytes, &mut whole);
         Ok(())
     }
 
@@ -305,10 +334,10 @@ fn each_crash_leaves_what_was_answered(rt: HostRuntime) -> Result<(), Fail> {
     let alloc = rt.alloc();
     let mut torn_inside = false;
     for calls in 0..16u32 {
-        for mode in 0..10u32 {
+        for way in 0..10usize {
             let tear = Tear {
-                mode,
-                state: 88_172_645_463_325_252 ^ u64::from(mode),
+                kept: WAYS[way],
+                state: 88_172_645_463_325_252 ^ way as u64,
             };
             let run = run_all(alloc, calls, tear)?;
             let (end, text, left) = recovered(alloc, &run.crashed, 9, tear)?;
@@ -335,7 +364,10 @@ fn each_crash_leaves_what_was_answered(rt: HostRuntime) -> Result<(), Fail> {
 #[test]
 fn a_day_ends_as_a_text(rt: HostRuntime) -> Result<(), Fail> {
     let alloc = rt.alloc();
-    let tear = Tear { mode: 0, state: 1 };
+    let tear = Tear {
+        kept: Kept::Nothing,
+        state: 1,
+    };
     let run = run_all(alloc, 100, tear)?;
     assert!(rt; run.done);
     assert_eq!(rt; run.crashed.as_slice(), run.answered.as_slice());
@@ -351,7 +383,11 @@ fn a_copy_that_never_came_to_the_disk_is_written_again(rt: HostRuntime) -> Resul
     let end = committed_len(read);
     assert_eq!(rt; (end, torn_len(read, end)), (8, 2));
     assert_eq!(rt; recover(&mut device, read, end), Ok(()));
-    let left = crashed(&device, Tear { mode: 0, state: 1 })?;
+    let tear = Tear {
+        kept: Kept::Nothing,
+        state: 1,
+    };
+    let left = crashed(&device, tear)?;
     assert_eq!(rt; left.as_slice(), b"one\ntwo\n".as_slice());
     Ok(())
 }
