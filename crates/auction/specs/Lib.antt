@@ -5,3 +5,4 @@ pub mod Executions
 pub mod LadderBook
 pub mod KnownPrice
 pub mod OpenOrders
+pub mod Reserve

@@ -13,6 +13,7 @@ ghost use Rattle.auction_terms.specs.Auxiliary.RunningAuction.{opened_auction, a
 ghost use Rattle.tick_ladder.specs.TickLadder.{IsLadderOf};
 ghost use Rattle.auction.specs.ConfigFault.{open_fault};
 ghost use Rattle.auction.specs.AuctionState.{current_orders, ladder_over, call_by};
+ghost use Rattle.auction.specs.Reserve.{is_reserved_from};
 
 mod book;
 mod commands;
@@ -138,6 +139,14 @@ impl Auction {
         ensures within { self.now.calls ≤ self.now.config.max_calls }
     {
         self.calls == self.day.config().max_calls
+    }
+
+    /// Whether no more than `reserve` commands are left, which are the operator's, member 0, and the member isn't it.
+    pub fn is_reserved_from(&self, member: u8, reserve: u32) -> bool
+        ensures { result ≡ is_reserved_from reserve self.now.config member self.now.calls }
+    {
+        let calls = u64::from(self.calls) + u64::from(reserve);
+        member != 0 && u64::from(self.day.config().max_calls) <= calls
     }
 
     /// The trades of the day so far, in the order in which they were made.

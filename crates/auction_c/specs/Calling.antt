@@ -14,7 +14,7 @@ use Rattle.auction_c.specs.declared.errors.TheConstants.{BAD_BOUNDS, BAD_REFEREN
 use Rattle.auction_c.specs.declared.errors.TheConstants.{DONE, NO_COMMAND, FULL, BAD_LENGTH}
 use Rattle.auction_c.specs.declared.errors.TheConstants.{BUSY, BEHIND, CLOSED, OVERTAKEN}
 use Rattle.board_terms.specs.declared.calls.CallFault.TheVariants.{HistoryFull, OutOfStep, Overtaken}
-use Rattle.shared_board.specs.Reserves.{finds_reserve}
+use Rattle.auction.specs.Reserve.{is_reserved_from}
 use Rattle.shared_board.specs.declared.member.BoardFault.{BoardFault}
 use Rattle.shared_board.specs.declared.member.BoardFault.TheVariants.{Busy, Closed, Call as CallRefused}
 use Rattle.auction_c.specs.declared.structs.AuctionCommand.{AuctionCommand}
@@ -49,7 +49,8 @@ not_applied error a reply = record { error = error; auction = a; reply = reply }
 
 -- no call is left to the member: as many commands were applied as may be, or those that are left are the operator's
 abbrev pub has_none_left : ℕ → RunningAuction → ℕ → Bool
-has_none_left reserve a member = nat_eq a.calls a.config.max_calls || finds_reserve reserve a.config member a.calls
+has_none_left reserve a member =
+    nat_eq a.calls a.config.max_calls || is_reserved_from reserve a.config member a.calls
 
 -- a command of a member: one step of the day, unless no call is left to it
 abbrev pub apply_command : ℕ → RunningAuction → ℕ → Command → AuctionReply → ApplyResult

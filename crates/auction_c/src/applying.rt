@@ -1,21 +1,12 @@
 //! Commands applied, one or many.
 ghost use Rattle.std.specs.Prelude.{◌≡◌, length};
 ghost use Rattle.auction_c.specs.Calling.{apply_struct, apply_structs};
-ghost use Rattle.shared_board.specs.Reserves.{finds_reserve};
 
 use crate::decoding::command_in;
 use crate::encoding::reply_out;
 use crate::errors::{DONE, FULL, NO_COMMAND};
 use crate::structs::{AuctionCommand, AuctionReply};
 use auction::Auction;
-
-// Whether the calls that are left to the day are the operator's, which the member isn't.
-fn finds_reserve(auction: &Auction, reserve: u32, member: u8) -> bool
-    ensures { result ≡ finds_reserve reserve auction.now.config member auction.now.calls }
-{
-    let calls = u64::from(auction.calls()) + u64::from(reserve);
-    member != 0 && u64::from(auction.config().max_calls) <= calls
-}
 
 /// Applies the command, writes the reply, and answers `DONE`. Else it changes nothing, and answers `NO_COMMAND` for a
 /// struct that is none, `FULL` where no call is left to the member.
@@ -35,7 +26,7 @@ pub(crate) fn apply_one(
     if auction.is_full() {
         return FULL;
     }
-    if finds_reserve(auction, reserve, command.member) {
+    if auction.is_reserved_from(command.member, reserve) {
         return FULL;
     }
     *reply = reply_out(auction.apply(command.member, decoded));

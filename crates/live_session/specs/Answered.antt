@@ -1,5 +1,5 @@
 -- What a session answers to the records that come.
-use Rattle.std.specs.Prelude.{◌==◌, ◌&&◌, ℕ, ◌+◌, List, [], ◌∷◌, ◌++◌, not, nat_le, Bool, if◌then◌else◌}
+use Rattle.std.specs.Prelude.{ℕ, ◌+◌, List, [], ◌∷◌, ◌++◌, nat_le, Bool, if◌then◌else◌}
 use Rattle.std.specs.Prelude.{Option, Some, None, Result, Ok, Err, true, false}
 use Rattle.auction_terms.specs.declared.Call.{Call}
 use Rattle.auction_terms.specs.declared.Entry.{Entry}
@@ -12,6 +12,7 @@ use Rattle.printed_lines.specs.ReplyLines.{line}
 use Rattle.input_hints.specs.RecordHints.{hint_of_record}
 use Rattle.input_hints.specs.declared.hint.Hint.{Hint}
 use Rattle.input_hints.specs.declared.record.DayTerms.{DayTerms}
+use Rattle.auction.specs.Reserve.{is_reserved_from}
 use Rattle.auction_views.specs.View.{is_view, view_of}
 use Rattle.auction_views.specs.ViewText.{view_text}
 use Rattle.auction_views.specs.declared.view.View.{View}
@@ -37,8 +38,7 @@ nothing_yet start = record { auction = start; records = 0; text = []; entries = 
 
 -- a member's call would take one of the last calls of the day, which are the operator's
 abbrev pub is_reserved : SessionTerms → RunningAuction → Call → Bool
-is_reserved terms auction call =
-    not (call.member == 0) && nat_le auction.config.max_calls (auction.calls + terms.reserve)
+is_reserved terms auction call = is_reserved_from terms.reserve auction.config call.member auction.calls
 
 abbrev pub unless_reserved : SessionTerms → RunningAuction → Result Call RecordFault → Result Call BadRecord
 unless_reserved terms auction (Err fault) = Err (bad.Malformed fault)

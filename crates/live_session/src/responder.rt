@@ -9,7 +9,6 @@ ghost use Rattle.journal.specs.KeptLines.{HasEntryLines};
 ghost use Rattle.printed_lines.specs.KeptText.{kept_text};
 ghost use Rattle.auction_views.specs.View.{view_of};
 ghost use Rattle.live_session.specs.Answered.{after_record, after_records, answer_call, answer_view, cause_of};
-ghost use Rattle.live_session.specs.Answered.{is_reserved};
 ghost use Rattle.live_session.specs.Answered.{live_call, refused, refused_row, refused_with, replied, answered_by_view};
 ghost use Rattle.live_session.specs.Gathered.{AddsAnswers, IsCommitted};
 ghost use Rattle.live_session.specs.Giving.{GivesGathered, IsGatheredAs, IsNew};
@@ -30,14 +29,6 @@ use order_file::{Records, call_of_record};
 use printed_lines::{KeptText, LastTexts};
 use std::alloc::{AllocError, Global};
 
-/// Whether a call would take one of the day's last calls, which are the operator's.
-fn is_reserved(auction: &Auction, terms: SessionTerms, call: Call) -> bool
-    ensures { result ≡ is_reserved terms auction.now call }
-{
-    let calls = u64::from(auction.calls()) + u64::from(terms.reserve);
-    call.member != 0 && u64::from(auction.config().max_calls) <= calls
-}
-
 /// The call of a record, or its fault.
 #[tactic(auto, unfolding(crate::specs::Answered::live_call))]
 fn live_call(auction: &Auction, terms: SessionTerms, row: &ByteRecord) -> Result<Call, BadRecord>
@@ -51,7 +42,7 @@ fn live_call(auction: &Auction, terms: SessionTerms, row: &ByteRecord) -> Result
         Ok(call) => call,
         Err(fault) => return Err(BadRecord::Malformed(fault)),
     };
-    if is_reserved(auction, terms, call) {
+    if auction.is_reserved_from(call.member, terms.reserve) {
         return Err(BadRecord::Reserved);
     }
     Ok(call)

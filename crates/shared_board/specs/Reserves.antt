@@ -1,5 +1,5 @@
 -- The last calls of a day, which are the operator's.
-use Rattle.std.specs.Prelude.{◌≡◌, ℕ, ◌+◌, ◌≤◌, ◌==◌, ◌&&◌, Bool, not, nat_le, length, if◌then◌else◌}
+use Rattle.std.specs.Prelude.{◌≡◌, ℕ, ◌+◌, ◌≤◌, ◌==◌, length, if◌then◌else◌}
 use mathlib.Core.List.{IsPrefix}
 use Rattle.auction_terms.specs.declared.Config.{Config}
 use Rattle.board_terms.specs.MemberView.{MemberView}
@@ -7,10 +7,6 @@ use Rattle.board_terms.specs.MemberView.{MemberView}
 -- of a reserve of calls, those that a member with this number can't make: all but for member 0, the operator
 abbrev pub kept_back : ℕ → ℕ → ℕ
 kept_back reserve number = if number == 0 then 0 else reserve
-
--- after so many calls, those that are left to the day are the operator's, which the member with this number isn't
-abbrev pub finds_reserve : ℕ → Config → ℕ → ℕ → Bool
-finds_reserve reserve config number calls = not (number == 0) && nat_le config.max_calls (calls + reserve)
 
 -- the call with this place left as many to the day as are kept back from the member that made it
 abbrev pub LeavesReserve : ℕ → Config → ℕ → ℕ → Type 0

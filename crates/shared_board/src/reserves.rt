@@ -2,17 +2,17 @@
 ghost use Rattle.std.specs.Prelude.{◌≡◌, ◌≢◌, ◌++◌, ◌∷◌, [], ℕ, length, Err, IfErr, IfOk};
 ghost use Rattle.board_terms.specs.BoardViews.{IsToldOutOfStep};
 ghost use Rattle.board_terms.specs.CallsAndLooks.{CallsOnce, EndsWithCall, entry};
-ghost use Rattle.shared_board.specs.Reserves.{LeavesReserve, SeesNoneLeft, finds_reserve};
+ghost use Rattle.auction.specs.Reserve.{is_reserved_from};
+ghost use Rattle.shared_board.specs.Reserves.{LeavesReserve, SeesNoneLeft};
 
 use auction_terms::Command;
 use board_terms::{Account, BoardCore, CallFault, Receipt};
 
 // Whether the calls that are left to the day are the operator's, which the member with this number isn't.
-fn finds_reserve(core: &BoardCore, number: u8, reserve: u32) -> bool
-    ensures { result ≡ finds_reserve reserve core.now.board.config number (length core.now.history) }
+fn is_reserved_from(core: &BoardCore, number: u8, reserve: u32) -> bool
+    ensures { result ≡ is_reserved_from reserve core.now.board.config number (length core.now.history) }
 {
-    let calls = u64::from(core.auction.calls()) + u64::from(reserve);
-    number != 0 && u64::from(core.auction.config().max_calls) <= calls
+    core.auction.is_reserved_from(number, reserve)
 }
 
 /// Calls a member's command, as the core of every board does. But where no more than `reserve` calls are left, a member
@@ -38,7 +38,7 @@ pub(crate) fn call_unreserved(
     ensures out_of_step { (h k : ℕ) → result ≡ Err (CallFault.OutOfStep h k) →
         IsToldOutOfStep core.old.board.config by.old.view (CallFault.OutOfStep h k) }
 {
-    if finds_reserve(core, by.number(), reserve) {
+    if is_reserved_from(core, by.number(), reserve) {
         core.show_history(by);
         return Err(CallFault::HistoryFull);
     }
