@@ -1,5 +1,6 @@
 pub mod Calling
 pub mod HeapBox
+pub mod Handles
 pub mod Decoding
 pub mod Lending
 pub mod MemberLending

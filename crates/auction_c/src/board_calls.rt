@@ -8,6 +8,7 @@ ghost use Rattle.auction_c.specs.BoardCalls.{FindsFull, IsOutOfStepWithBoard, Is
 ghost use Rattle.auction_c.specs.BoardCalls.{IsListError, IsShowError};
 ghost use Rattle.auction.specs.OpenOrders as limits;
 ghost use Rattle.auction_c.specs.Calling.{fault_number, ladder_error, ticks_of};
+ghost use Rattle.auction_c.specs.Handles.{IsMemberUnchanged, KeepsMemberTerms};
 ghost use Rattle.auction_c.specs.Decoding as decoded_as;
 ghost use Rattle.auction_c.specs.Encoding as encoded_as;
 ghost use Rattle.auction_c.specs.ManyCalls.{CallsMany, IsSameFrom};
@@ -86,7 +87,7 @@ pub extern "C" fn callauction_board_call(
 ) -> u32
     ensures done { result ≡ 0 → IsSomeAnd (decoded_as.command_in command.now) (λ c.
         HoldsAfter (RecordsCall member.old.reserve c receipt.new) member.old.boxed.value member.new.boxed.value) }
-    ensures reserve { member.new.reserve ≡ member.old.reserve }
+    ensures terms { KeepsMemberTerms member.old member.new }
     ensures fault { 0 < result → receipt.new ≡ receipt.old }
     ensures member { 0 < result → result ≢ FULL → member.new.boxed.value ≡ member.old.boxed.value }
     ensures missing { IfNone member.old.boxed.value (result ≡ NO_MEMBER) }
@@ -97,7 +98,6 @@ pub extern "C" fn callauction_board_call(
     ensures full { result ≡ FULL →
         HoldsAfter (FindsFull member.old.reserve) member.old.boxed.value member.new.boxed.value }
     ensures out_of_step { result ≡ BEHIND → IsSomeAnd member.old.boxed.value IsOutOfStepWithBoard }
-    ensures clients { member.new.clients ≡ member.old.clients }
 {
     if !member.is_open {
         return NO_MEMBER;
@@ -125,13 +125,12 @@ pub extern "C" fn callauction_board_apply_many(
     ensures called { IsSome member.old.boxed.value → length receipts.old ≡ length commands.now →
         HoldsAfter (CallsMany member.old.reserve commands.now receipts.new applied.new result)
         member.old.boxed.value member.new.boxed.value }
-    ensures reserve { member.new.reserve ≡ member.old.reserve }
+    ensures terms { KeepsMemberTerms member.old member.new }
     ensures length { IsSome member.old.boxed.value → length receipts.old ≢ length commands.now →
         (result ≡ BAD_LENGTH) × (applied.new ≡ 0) × (member.new.boxed.value ≡ member.old.boxed.value) }
     ensures missing { IfNone member.old.boxed.value
         ((result ≡ NO_MEMBER) × (applied.new ≡ 0) × (member.new.boxed.value ≡ None)) }
     ensures rest { IsSameFrom applied.new receipts.old receipts.new }
-    ensures clients { member.new.clients ≡ member.old.clients }
 {
     *applied = 0;
     if !member.is_open {
@@ -151,10 +150,9 @@ pub extern "C" fn callauction_board_look(
     shown: &mut AuctionShown,
 ) -> u32
     ensures done { result ≡ 0 → HoldsAfter (ShowsDisplay shown.new) member.old.boxed.value member.new.boxed.value }
-    ensures reserve { member.new.reserve ≡ member.old.reserve }
+    ensures terms { KeepsMemberTerms member.old member.new }
     ensures none { 0 < result → (member.old.boxed.value ≡ None) × (result ≡ NO_MEMBER) }
     ensures fault { 0 < result → (member.new.boxed.value ≡ member.old.boxed.value) × (shown.new ≡ shown.old) }
-    ensures clients { member.new.clients ≡ member.old.clients }
 {
     if !member.is_open {
         return NO_MEMBER;
@@ -175,7 +173,7 @@ pub extern "C" fn callauction_board_ladder(
 ) -> u32
     ensures done { result ≡ 0 → HoldsAfter (ShowsLadder bids.new asks.new market.new calls.new)
         member.old.boxed.value member.new.boxed.value }
-    ensures reserve { member.new.reserve ≡ member.old.reserve }
+    ensures terms { KeepsMemberTerms member.old member.new }
     ensures fault { 0 < result → member.new.boxed.value ≡ member.old.boxed.value }
     ensures missing { IfNone member.old.boxed.value (result ≡ NO_MEMBER) }
     ensures error { IfSome member.old.boxed.value (λ m. 0 < result →
@@ -184,7 +182,6 @@ pub extern "C" fn callauction_board_ladder(
         ladder_error (ticks_of m.board.config) (length bids.old) (length asks.old) ≡ 0) }
     ensures arrays { 0 < result → (bids.new ≡ bids.old) × (asks.new ≡ asks.old) }
     ensures numbers { 0 < result → (market.new ≡ market.old) × (calls.new ≡ calls.old) }
-    ensures clients { member.new.clients ≡ member.old.clients }
 {
     if !member.is_open {
         return NO_MEMBER;
@@ -204,12 +201,11 @@ pub extern "C" fn callauction_board_trades(
 ) -> u32
     ensures done { result ≡ 0 → HoldsAfter (ShowsTrades seen trades.old trades.new copied.new calls.new)
         member.old.boxed.value member.new.boxed.value }
-    ensures reserve { member.new.reserve ≡ member.old.reserve }
+    ensures terms { KeepsMemberTerms member.old member.new }
     ensures fault { 0 < result → member.new.boxed.value ≡ member.old.boxed.value }
     ensures missing { IfNone member.old.boxed.value (result ≡ NO_MEMBER) }
     ensures error { IfSome member.old.boxed.value (λ m. 0 < result → IsShowError m result) }
     ensures same { 0 < result → (trades.new ≡ trades.old) × (copied.new ≡ copied.old) × (calls.new ≡ calls.old) }
-    ensures clients { member.new.clients ≡ member.old.clients }
 {
     if !member.is_open {
         return NO_MEMBER;
@@ -231,7 +227,7 @@ pub extern "C" fn callauction_board_clone(
 ) -> u32
     ensures done { result ≡ 0 → IsSomeAnd other.new.boxed.value (λ a.
         HoldsAfter (IsClone a) member.old.boxed.value member.new.boxed.value) }
-    ensures reserve { member.new.reserve ≡ member.old.reserve }
+    ensures terms { KeepsMemberTerms member.old member.new }
     ensures fault { 0 < result → member.new.boxed.value ≡ member.old.boxed.value }
     ensures copied { result ≡ 0 → other.new.reserve ≡ member.old.reserve }
     ensures refused { 0 < result →
@@ -243,7 +239,6 @@ pub extern "C" fn callauction_board_clone(
         limits.has_same_limits m.board.config a.config ≡ true → 0 < result → IsShowError m result)) }
     ensures fresh { IfSome member.old.boxed.value (λ m. IfNone other.old.boxed.value (
         0 < result → IsListError m result)) }
-    ensures clients { member.new.clients ≡ member.old.clients }
     ensures other_clients { other.new.clients ≡ other.old.clients }
 {
     if !member.is_open {
@@ -276,12 +271,11 @@ pub extern "C" fn callauction_board_state(
 ) -> u32
     ensures done { result ≡ 0 →
         HoldsAfter (ShowsState member.old.reserve state.new) member.old.boxed.value member.new.boxed.value }
-    ensures reserve { member.new.reserve ≡ member.old.reserve }
+    ensures terms { KeepsMemberTerms member.old member.new }
     ensures fault { 0 < result → member.new.boxed.value ≡ member.old.boxed.value }
     ensures missing { IfNone member.old.boxed.value (result ≡ NO_MEMBER) }
     ensures error { IfSome member.old.boxed.value (λ m. 0 < result → IsShowError m result) }
     ensures same { 0 < result → state.new ≡ state.old }
-    ensures clients { member.new.clients ≡ member.old.clients }
 {
     if !member.is_open {
         return NO_MEMBER;
@@ -301,12 +295,11 @@ pub extern "C" fn callauction_board_history(
 ) -> u32
     ensures done { result ≡ 0 → HoldsAfter (ShowsEntries seen entries.old entries.new copied.new)
         member.old.boxed.value member.new.boxed.value }
-    ensures reserve { member.new.reserve ≡ member.old.reserve }
+    ensures terms { KeepsMemberTerms member.old member.new }
     ensures fault { 0 < result → member.new.boxed.value ≡ member.old.boxed.value }
     ensures missing { IfNone member.old.boxed.value (result ≡ NO_MEMBER) }
     ensures error { IfSome member.old.boxed.value (λ m. 0 < result → IsShowError m result) }
     ensures same { 0 < result → (entries.new ≡ entries.old) × (copied.new ≡ copied.old) }
-    ensures clients { member.new.clients ≡ member.old.clients }
 {
     if !member.is_open {
         return NO_MEMBER;
@@ -319,8 +312,7 @@ pub extern "C" fn callauction_board_history(
 pub extern "C" fn callauction_board_calls(member: &mut AuctionMember, calls: &mut u32) -> u32
     ensures done { result ≡ 0 → IsSomeAnd member.old.boxed.value (λ m. calls.new ≡ m.view.calls) }
     ensures none { 0 < result → (member.old.boxed.value ≡ None) × (result ≡ NO_MEMBER) × (calls.new ≡ calls.old) }
-    ensures member { (member.new.boxed.value ≡ member.old.boxed.value) × (member.new.reserve ≡ member.old.reserve) }
-    ensures clients { member.new.clients ≡ member.old.clients }
+    ensures member { IsMemberUnchanged member.old member.new }
 {
     if !member.is_open {
         return NO_MEMBER;
@@ -339,8 +331,7 @@ pub extern "C" fn callauction_board_config_of(
         IsSomeAnd member.old.boxed.value (λ m.
         config.new ≡ encoded_as.config_out m.board.config member.old.reserve) }
     ensures none { 0 < result → (member.old.boxed.value ≡ None) × (result ≡ NO_MEMBER) × (config.new ≡ config.old) }
-    ensures member { (member.new.boxed.value ≡ member.old.boxed.value) × (member.new.reserve ≡ member.old.reserve) }
-    ensures clients { member.new.clients ≡ member.old.clients }
+    ensures member { IsMemberUnchanged member.old member.new }
 {
     if !member.is_open {
         return NO_MEMBER;

@@ -14,6 +14,7 @@ ghost use Rattle.auction.specs.ConfigFault.{open_fault};
 ghost use Rattle.auction.specs.OpenOrders.{has_same_limits};
 ghost use Rattle.auction_c.specs.Calling.{fault_number, apply_struct, apply_all};
 ghost use Rattle.auction_c.specs.Calling.{ladder_now, ladder_error, ticks_of, unseen_trades};
+ghost use Rattle.auction_c.specs.Handles.{IsHandleUnchanged, KeepsTerms};
 ghost use Rattle.auction_c.specs.Decoding as decoded_as;
 ghost use Rattle.auction_c.specs.Encoding as encoded_as;
 
@@ -111,11 +112,10 @@ pub extern "C" fn callauction_apply(
         handle.old.boxed.value NO_AUCTION }
     ensures auction { handle.new.boxed.value ≡
         option_map (λ a. (apply_struct handle.old.reserve a command.now reply.old).auction) handle.old.boxed.value }
-    ensures reserve { handle.new.reserve ≡ handle.old.reserve }
+    ensures terms { KeepsTerms handle.old handle.new }
     ensures reply { reply.new ≡
         option_map_or (λ a. (apply_struct handle.old.reserve a command.now reply.old).reply)
         handle.old.boxed.value reply.old }
-    ensures clients { handle.new.clients ≡ handle.old.clients }
 {
     if !handle.is_open {
         return NO_AUCTION;
@@ -143,11 +143,10 @@ pub extern "C" fn callauction_apply_many(
         handle.old.boxed.value 0 }
     ensures auction { handle.new.boxed.value ≡
         option_map (λ a. (apply_all handle.old.reserve a commands.now replies.old).auction) handle.old.boxed.value }
-    ensures reserve { handle.new.reserve ≡ handle.old.reserve }
+    ensures terms { KeepsTerms handle.old handle.new }
     ensures replies { replies.new ≡
         option_map_or (λ a. (apply_all handle.old.reserve a commands.now replies.old).replies)
         handle.old.boxed.value replies.old }
-    ensures clients { handle.new.clients ≡ handle.old.clients }
 {
     *applied = 0;
     if !handle.is_open {
@@ -164,11 +163,9 @@ pub extern "C" fn callauction_apply_many(
 #[unsafe(no_mangle)]
 pub extern "C" fn callauction_display(handle: &mut AuctionHandle, shown: &mut AuctionReply) -> u32
     ensures error { result ≡ option_map_or (λ a. DONE) handle.old.boxed.value NO_AUCTION }
-    ensures auction { handle.new.boxed.value ≡ handle.old.boxed.value }
-    ensures reserve { handle.new.reserve ≡ handle.old.reserve }
+    ensures handle { IsHandleUnchanged handle.old handle.new }
     ensures shown { shown.new ≡
         option_map_or (λ a. encoded_as.display_out (display a.state)) handle.old.boxed.value shown.old }
-    ensures clients { handle.new.clients ≡ handle.old.clients }
 {
     if !handle.is_open {
         return NO_AUCTION;
@@ -191,14 +188,12 @@ pub extern "C" fn callauction_ladder(
 ) -> u32
     ensures error { result ≡ option_map_or
         (λ a. ladder_error (ticks_of a.config) (length bids.old) (length asks.old)) handle.old.boxed.value NO_AUCTION }
-    ensures auction { handle.new.boxed.value ≡ handle.old.boxed.value }
-    ensures reserve { handle.new.reserve ≡ handle.old.reserve }
+    ensures handle { IsHandleUnchanged handle.old handle.new }
     ensures bids { result ≡ 0 → IfSome handle.old.boxed.value (λ a. bids.new ≡ (ladder_now a).bids) }
     ensures asks { result ≡ 0 → IfSome handle.old.boxed.value (λ a. asks.new ≡ (ladder_now a).asks) }
     ensures market { result ≡ 0 → IfSome handle.old.boxed.value (λ a. market.new ≡
         encoded_as.market_out (ladder_now a)) }
     ensures unchanged { 0 < result → (bids.new ≡ bids.old) × (asks.new ≡ asks.old) × (market.new ≡ market.old) }
-    ensures clients { handle.new.clients ≡ handle.old.clients }
 {
     if !handle.is_open {
         return NO_AUCTION;
@@ -216,13 +211,11 @@ pub extern "C" fn callauction_trades(
     copied: &mut usize,
 ) -> u32
     ensures error { result ≡ option_map_or (λ a. DONE) handle.old.boxed.value NO_AUCTION }
-    ensures auction { handle.new.boxed.value ≡ handle.old.boxed.value }
-    ensures reserve { handle.new.reserve ≡ handle.old.reserve }
+    ensures handle { IsHandleUnchanged handle.old handle.new }
     ensures copied { copied.new ≡ min (length (unseen_trades seen handle.old.boxed.value)) (length trades.old) }
     ensures trades { trades.new ≡
         map encoded_as.trade_out (take copied.new (unseen_trades seen handle.old.boxed.value))
         ++ drop copied.new trades.old }
-    ensures clients { handle.new.clients ≡ handle.old.clients }
 {
     *copied = 0;
     if !handle.is_open {
@@ -240,10 +233,8 @@ pub extern "C" fn callauction_trades(
 #[unsafe(no_mangle)]
 pub extern "C" fn callauction_calls(handle: &mut AuctionHandle, calls: &mut u32) -> u32
     ensures error { result ≡ option_map_or (λ a. DONE) handle.old.boxed.value NO_AUCTION }
-    ensures auction { handle.new.boxed.value ≡ handle.old.boxed.value }
-    ensures reserve { handle.new.reserve ≡ handle.old.reserve }
+    ensures handle { IsHandleUnchanged handle.old handle.new }
     ensures calls { calls.new ≡ option_map_or (λ a. a.calls) handle.old.boxed.value calls.old }
-    ensures clients { handle.new.clients ≡ handle.old.clients }
 {
     if !handle.is_open {
         return NO_AUCTION;
@@ -257,11 +248,9 @@ pub extern "C" fn callauction_calls(handle: &mut AuctionHandle, calls: &mut u32)
 #[unsafe(no_mangle)]
 pub extern "C" fn callauction_state(handle: &mut AuctionHandle, state: &mut AuctionDayState) -> u32
     ensures error { result ≡ option_map_or (λ a. DONE) handle.old.boxed.value NO_AUCTION }
-    ensures auction { handle.new.boxed.value ≡ handle.old.boxed.value }
-    ensures reserve { handle.new.reserve ≡ handle.old.reserve }
+    ensures handle { IsHandleUnchanged handle.old handle.new }
     ensures state { state.new ≡
         option_map_or (λ a. encoded_as.state_out handle.old.reserve a) handle.old.boxed.value state.old }
-    ensures clients { handle.new.clients ≡ handle.old.clients }
 {
     if !handle.is_open {
         return NO_AUCTION;
@@ -278,11 +267,9 @@ pub extern "C" fn callauction_config_of(
     config: &mut AuctionConfig,
 ) -> u32
     ensures error { result ≡ option_map_or (λ a. DONE) handle.old.boxed.value NO_AUCTION }
-    ensures auction { handle.new.boxed.value ≡ handle.old.boxed.value }
-    ensures reserve { handle.new.reserve ≡ handle.old.reserve }
+    ensures handle { IsHandleUnchanged handle.old handle.new }
     ensures config { config.new ≡
         option_map_or (λ a. encoded_as.config_out a.config handle.old.reserve) handle.old.boxed.value config.old }
-    ensures clients { handle.new.clients ≡ handle.old.clients }
 {
     if !handle.is_open {
         return NO_AUCTION;
@@ -297,8 +284,7 @@ pub extern "C" fn callauction_config_of(
 pub extern "C" fn callauction_reset(handle: &mut AuctionHandle) -> u32
     ensures error { result ≡ option_map_or (λ a. DONE) handle.old.boxed.value NO_AUCTION }
     ensures auction { handle.new.boxed.value ≡ option_map (λ a. opened_auction a.config) handle.old.boxed.value }
-    ensures reserve { handle.new.reserve ≡ handle.old.reserve }
-    ensures clients { handle.new.clients ≡ handle.old.clients }
+    ensures terms { KeepsTerms handle.old handle.new }
 {
     if !handle.is_open {
         return NO_AUCTION;
@@ -318,8 +304,7 @@ pub extern "C" fn callauction_clone(
     handle: &mut AuctionHandle,
     other: &mut AuctionHandle,
 ) -> u32
-    ensures auction { handle.new.boxed.value ≡ handle.old.boxed.value }
-    ensures reserve { handle.new.reserve ≡ handle.old.reserve }
+    ensures handle { IsHandleUnchanged handle.old handle.new }
     ensures copied { result ≡ 0 →
         (other.new.boxed.value ≡ handle.old.boxed.value) × (other.new.reserve ≡ handle.old.reserve) }
     ensures refused { 0 < result →
@@ -331,7 +316,6 @@ pub extern "C" fn callauction_clone(
         has_same_limits a.config b.config ≡ true → result ≡ DONE)) }
     ensures memory { IsSome handle.old.boxed.value → IsNone other.old.boxed.value →
         0 < result → result ≡ NO_MEMORY }
-    ensures clients { handle.new.clients ≡ handle.old.clients }
     ensures other_clients { other.new.clients ≡ other.old.clients }
 {
     if !handle.is_open {

@@ -3,6 +3,7 @@ ghost use Rattle.std.specs.Prelude.{◌≡◌, ◌<◌, ◌++◌, IsSome, IsNone
 ghost use Rattle.std.specs.Prelude.{length, map, min, take, drop};
 ghost use Rattle.auction_terms.specs.Priority.{orders_in_priority, orders_expiring};
 ghost use Rattle.auction_c.specs.BoardCalls.{HoldsAfter, IsListError, ShowsOrders};
+ghost use Rattle.auction_c.specs.Handles.{IsHandleUnchanged, KeepsMemberTerms};
 ghost use Rattle.auction_c.specs.Decoding as decoded_as;
 ghost use Rattle.auction_c.specs.Encoding as encoded_as;
 ghost use Rattle.auction_c.specs.declared.errors.TheConstants.{BAD_MEMBER, NO_AUCTION, NO_MEMBER, NO_MEMORY};
@@ -28,8 +29,7 @@ pub extern "C" fn callauction_orders(
     orders: &mut [AuctionOrder],
     copied: &mut usize,
 ) -> u32
-    ensures auction { handle.new.boxed.value ≡ handle.old.boxed.value }
-    ensures reserve { handle.new.reserve ≡ handle.old.reserve }
+    ensures handle { IsHandleUnchanged handle.old handle.new }
     ensures missing { IsNone handle.old.boxed.value → result ≡ NO_AUCTION }
     ensures member { IsSome handle.old.boxed.value → IsNone (decoded_as.decoded_member member) → result ≡ BAD_MEMBER }
     ensures memory { IsSome handle.old.boxed.value → IsSome (decoded_as.decoded_member member) → 0 < result →
@@ -40,7 +40,6 @@ pub extern "C" fn callauction_orders(
         orders.new ≡ map encoded_as.order_out (take copied.new (orders_in_priority m a.state))
         ++ drop copied.new orders.old)) }
     ensures unchanged { 0 < result → (copied.new ≡ 0) × (orders.new ≡ orders.old) }
-    ensures clients { handle.new.clients ≡ handle.old.clients }
 {
     *copied = 0;
     if !handle.is_open {
@@ -69,8 +68,7 @@ pub extern "C" fn callauction_expiring(
     orders: &mut [AuctionOrder],
     copied: &mut usize,
 ) -> u32
-    ensures auction { handle.new.boxed.value ≡ handle.old.boxed.value }
-    ensures reserve { handle.new.reserve ≡ handle.old.reserve }
+    ensures handle { IsHandleUnchanged handle.old handle.new }
     ensures missing { IsNone handle.old.boxed.value → result ≡ NO_AUCTION }
     ensures memory { IsSome handle.old.boxed.value → 0 < result → result ≡ NO_MEMORY }
     ensures copied { result ≡ 0 → IfSome handle.old.boxed.value (λ a.
@@ -79,7 +77,6 @@ pub extern "C" fn callauction_expiring(
         orders.new ≡ map encoded_as.order_out (take copied.new (orders_expiring a.config a.state))
         ++ drop copied.new orders.old) }
     ensures unchanged { 0 < result → (copied.new ≡ 0) × (orders.new ≡ orders.old) }
-    ensures clients { handle.new.clients ≡ handle.old.clients }
 {
     *copied = 0;
     if !handle.is_open {
@@ -111,14 +108,13 @@ pub extern "C" fn callauction_board_orders(
     ensures done { result ≡ 0 → IsSomeAnd (decoded_as.decoded_member of) (λ o.
         HoldsAfter (ShowsOrders (λ a. orders_in_priority o a.state) orders.old orders.new copied.new calls.new)
         member.old.boxed.value member.new.boxed.value) }
-    ensures reserve { member.new.reserve ≡ member.old.reserve }
+    ensures terms { KeepsMemberTerms member.old member.new }
     ensures fault { 0 < result → member.new.boxed.value ≡ member.old.boxed.value }
     ensures missing { IfNone member.old.boxed.value (result ≡ NO_MEMBER) }
     ensures number { IsSome member.old.boxed.value → IsNone (decoded_as.decoded_member of) → result ≡ BAD_MEMBER }
     ensures error { IfSome member.old.boxed.value (λ m. IsSome (decoded_as.decoded_member of) → 0 < result →
         IsListError m result) }
     ensures unchanged { 0 < result → (copied.new ≡ 0) × (orders.new ≡ orders.old) × (calls.new ≡ calls.old) }
-    ensures clients { member.new.clients ≡ member.old.clients }
 {
     *copied = 0;
     if !member.is_open {
@@ -145,12 +141,11 @@ pub extern "C" fn callauction_board_expiring(
     ensures done { result ≡ 0 →
         HoldsAfter (ShowsOrders (λ a. orders_expiring a.config a.state) orders.old orders.new copied.new calls.new)
         member.old.boxed.value member.new.boxed.value }
-    ensures reserve { member.new.reserve ≡ member.old.reserve }
+    ensures terms { KeepsMemberTerms member.old member.new }
     ensures fault { 0 < result → member.new.boxed.value ≡ member.old.boxed.value }
     ensures missing { IfNone member.old.boxed.value (result ≡ NO_MEMBER) }
     ensures error { IfSome member.old.boxed.value (λ m. 0 < result → IsListError m result) }
     ensures unchanged { 0 < result → (copied.new ≡ 0) × (orders.new ≡ orders.old) × (calls.new ≡ calls.old) }
-    ensures clients { member.new.clients ≡ member.old.clients }
 {
     *copied = 0;
     if !member.is_open {

@@ -1,6 +1,7 @@
 //! An uncross that tells what it does to each order, for C.
 ghost use Rattle.std.specs.Prelude.{◌≡◌, ◌<◌, ◌++◌, true, false, IsNone, IfSome};
 ghost use Rattle.std.specs.Prelude.{drop, length, min, nat_eq, option_map, take};
+ghost use Rattle.auction_c.specs.Handles.{KeepsTerms};
 ghost use Rattle.auction_c.specs.Encoding as encoded_as;
 ghost use Rattle.auction_c.specs.Outcomes as uncrossing;
 ghost use Rattle.auction_c.specs.declared.errors.TheConstants.{FULL, NO_AUCTION, NO_MEMORY};
@@ -25,7 +26,7 @@ pub extern "C" fn callauction_uncross(
     copied: &mut usize,
 ) -> u32
     ensures auction { result ≡ 0 → handle.new.boxed.value ≡ option_map uncrossing.after_uncross handle.old.boxed.value }
-    ensures reserve { handle.new.reserve ≡ handle.old.reserve }
+    ensures terms { KeepsTerms handle.old handle.new }
     ensures reply { result ≡ 0 → IfSome handle.old.boxed.value (λ a.
         reply.new ≡ encoded_as.reply_out (uncrossing.uncross_reply a)) }
     ensures copied { result ≡ 0 → IfSome handle.old.boxed.value (λ a.
@@ -39,7 +40,6 @@ pub extern "C" fn callauction_uncross(
         nat_eq a.calls a.config.max_calls ≡ false → 0 < result → result ≡ NO_MEMORY) }
     ensures unchanged { 0 < result → (handle.new.boxed.value ≡ handle.old.boxed.value) × (reply.new ≡ reply.old)
         × (outcomes.new ≡ outcomes.old) × (copied.new ≡ 0) }
-    ensures clients { handle.new.clients ≡ handle.old.clients }
 {
     *copied = 0;
     if !handle.is_open {
