@@ -4,7 +4,7 @@
 
 ghost use Rattle.std.specs.Prelude.{◌≡◌, ◌<◌, ◌≤◌, ◌^◌, ◌+◌, ◌++◌, List, ℕ, length, OnOk, IsErrOf, take, drop};
 ghost use Rattle.journal_file.specs.Committed.{committed, HasShortLines, HasTornEnd, IsBegun, Means};
-ghost use Rattle.journal_file.specs.Device.{IsOnlyOutcome, LeavesOnly};
+ghost use Rattle.journal_file.specs.Device.{HasCause, IsOnlyOutcome, LeavesOnly};
 ghost use Rattle.journal_file.specs.Settled.{IsSettled};
 
 use crate::committed::{LONGEST_WRITE, committed_len};
@@ -131,10 +131,7 @@ impl<D: Device> CommittedLines<D> {
             (committed (D.seen self.new.device) ≡ committed (D.seen self.old.device) ++ lines.now) }
         ensures any_moment { LeavesOnly D.moment D.left_since self.old.device self.new.device
             (IsBegun (committed (D.seen self.old.device)) lines.now) }
-        ensures causes { D.faults self.old.device ≤ D.faults self.new.device }
-        ensures failed { IsErrOf result DeviceError.Failed → D.faults self.old.device < D.faults self.new.device }
-        ensures changed { IsErrOf result DeviceError.Changed → D.faults self.old.device < D.faults self.new.device }
-        ensures full { IsErrOf result DeviceError.Full → ⊥ }
+        ensures cause { HasCause (D.faults self.old.device) (D.faults self.new.device) result }
     {
         let mut rest = lines;
         'pieces: while !rest.is_empty() {
@@ -157,10 +154,7 @@ impl<D: Device> CommittedLines<D> {
             (committed (D.seen self.new.device) ≡ committed (D.seen self.old.device) ++ lines.now) }
         ensures any_moment { LeavesOnly D.moment D.left_since self.old.device self.new.device
             (IsBegun (committed (D.seen self.old.device)) lines.now) }
-        ensures causes { D.faults self.old.device ≤ D.faults self.new.device }
-        ensures failed { IsErrOf result DeviceError.Failed → D.faults self.old.device < D.faults self.new.device }
-        ensures changed { IsErrOf result DeviceError.Changed → D.faults self.old.device < D.faults self.new.device }
-        ensures full { IsErrOf result DeviceError.Full → ⊥ }
+        ensures cause { HasCause (D.faults self.old.device) (D.faults self.new.device) result }
     {
         self.device.write_at(self.end, lines)?;
         self.device.sync()?;
@@ -185,10 +179,7 @@ impl<D: Device> CommittedLines<D> {
             → LeavesOnly D.moment D.left_since since self.old.device (IsBegun text before)
             → LeavesOnly D.moment D.left_since since self.new.device (IsBegun text before) }
 
-        ensures causes { D.faults self.old.device ≤ D.faults self.new.device }
-        ensures failed { IsErrOf result DeviceError.Failed → D.faults self.old.device < D.faults self.new.device }
-        ensures changed { IsErrOf result DeviceError.Changed → D.faults self.old.device < D.faults self.new.device }
-        ensures full { IsErrOf result DeviceError.Full → ⊥ }
+        ensures cause { HasCause (D.faults self.old.device) (D.faults self.new.device) result }
     {
         self.cut()
     }
@@ -200,10 +191,7 @@ impl<D: Device> CommittedLines<D> {
         ensures text { OnOk result (D.seen self.new.device ≡ committed (D.seen self.old.device)) }
         ensures any_moment { LeavesOnly D.moment D.left_since self.old.device self.new.device
             (Means (committed (D.seen self.old.device))) }
-        ensures causes { D.faults self.old.device ≤ D.faults self.new.device }
-        ensures failed { IsErrOf result DeviceError.Failed → D.faults self.old.device < D.faults self.new.device }
-        ensures changed { IsErrOf result DeviceError.Changed → D.faults self.old.device < D.faults self.new.device }
-        ensures full { IsErrOf result DeviceError.Full → ⊥ }
+        ensures cause { HasCause (D.faults self.old.device) (D.faults self.new.device) result }
     {
         self.device.resize(self.end)?;
         self.device.sync()?;
@@ -244,10 +232,7 @@ pub fn recover<D: Device>(device: &mut D, bytes: &[u8], end: usize) -> Result<()
         → LeavesOnly D.moment D.left_since since device.old (IsBegun text before)
         → LeavesOnly D.moment D.left_since since device.new (IsBegun text before) }
 
-    ensures causes { D.faults device.old ≤ D.faults device.new }
-    ensures failed { IsErrOf result DeviceError.Failed → D.faults device.old < D.faults device.new }
-    ensures changed { IsErrOf result DeviceError.Changed → D.faults device.old < D.faults device.new }
-    ensures full { IsErrOf result DeviceError.Full → ⊥ }
+    ensures cause { HasCause (D.faults device.old) (D.faults device.new) result }
 {
     repair(device, bytes, end)
 }
@@ -261,10 +246,7 @@ fn settle<D: Device>(device: &mut D, bytes: &[u8], end: usize) -> Result<(), Dev
     ensures aside { D.aside device.new ≡ D.aside device.old }
     ensures any_moment { IsOnlyOutcome (D.seen device.old) (D.may_leave device.old)
         → LeavesOnly D.moment D.left_since device.old device.new (λ c. c ≡ D.seen device.old) }
-    ensures causes { D.faults device.old ≤ D.faults device.new }
-    ensures failed { IsErrOf result DeviceError.Failed → D.faults device.old < D.faults device.new }
-    ensures changed { IsErrOf result DeviceError.Changed → D.faults device.old < D.faults device.new }
-    ensures full { IsErrOf result DeviceError.Full → ⊥ }
+    ensures cause { HasCause (D.faults device.old) (D.faults device.new) result }
 {
     let (lines, _) = bytes.split_at(end);
     device.write_at(0, lines)?;
@@ -283,10 +265,7 @@ fn cut<D: Device>(device: &mut D, end: usize) -> Result<(), DeviceError>
     ensures aside { D.aside device.new ≡ D.aside device.old }
     ensures any_moment { LeavesOnly D.moment D.left_since device.old device.new
         (Means (committed (D.seen device.old))) }
-    ensures causes { D.faults device.old ≤ D.faults device.new }
-    ensures failed { IsErrOf result DeviceError.Failed → D.faults device.old < D.faults device.new }
-    ensures changed { IsErrOf result DeviceError.Changed → D.faults device.old < D.faults device.new }
-    ensures full { IsErrOf result DeviceError.Full → ⊥ }
+    ensures cause { HasCause (D.faults device.old) (D.faults device.new) result }
 {
     device.resize(end)?;
     device.sync()?;
@@ -304,10 +283,7 @@ fn repair<D: Device>(device: &mut D, bytes: &[u8], end: usize) -> Result<(), Dev
     ensures aside { D.aside device.new ≡ D.aside device.old }
     ensures any_moment { IsOnlyOutcome (D.seen device.old) (D.may_leave device.old)
         → LeavesOnly D.moment D.left_since device.old device.new (Means (committed (D.seen device.old))) }
-    ensures causes { D.faults device.old ≤ D.faults device.new }
-    ensures failed { IsErrOf result DeviceError.Failed → D.faults device.old < D.faults device.new }
-    ensures changed { IsErrOf result DeviceError.Changed → D.faults device.old < D.faults device.new }
-    ensures full { IsErrOf result DeviceError.Full → ⊥ }
+    ensures cause { HasCause (D.faults device.old) (D.faults device.new) result }
 {
     settle(device, bytes, end)?;
     cut(device, end)

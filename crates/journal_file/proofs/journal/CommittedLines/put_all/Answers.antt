@@ -107,5 +107,5 @@ pieces-preserved g c =
           chain g.D.Device.moment g.D.Device.left_since c.args.self.now.device c.pieces.self.device
           c.put.new.self.device (committed (g.D.Device.seen c.args.self.now.device)) i.done front
           (committed (g.D.Device.seen c.pieces.self.device)) i.has i.whole i.leaves c.put.ensures.any_moment;
-      risen = omega (arith, i.risen, c.put.ensures.causes);
+      risen = omega (arith, i.risen, c.put.ensures.cause.later);
     }
