@@ -140,16 +140,19 @@ def joined(*parts: Structs) -> Structs:
     return numpy.concatenate(parts, out=numpy.zeros(sum(map(len, parts)), parts[0].dtype))
 
 
-def whole(name: str, array: object, kind: "numpy.dtype[numpy.void]", is_written: bool) -> Structs:
-    """The array itself, which is one-dimensional, of this dtype, contiguous and aligned, and may be
-    written where it is to be. Raises TypeError for another dtype or no array, else ValueError.
+def whole(
+    name: str, array: object, *kinds: "numpy.dtype[numpy.void]", is_written: bool
+) -> Structs:
+    """The array itself, which is one-dimensional, of one of these dtypes, contiguous and aligned,
+    and may be written where it is to be. Raises TypeError for another dtype or no array, else
+    ValueError.
     """
     if not isinstance(array, numpy.ndarray):
         raise TypeError(f"{name} must be a numpy array, not {type(array).__name__}")
-    if array.dtype is not kind and array.dtype != kind:
+    if array.dtype not in kinds:
         other = "a struct of other fields" if array.dtype.names else array.dtype
-        found = _NAMES.get(array.dtype, other)
-        raise TypeError(f"{name} must be an array of {_NAMES[kind]}, not of {found}")
+        found, wanted = _NAMES.get(array.dtype, other), " or ".join(_NAMES[kind] for kind in kinds)
+        raise TypeError(f"{name} must be an array of {wanted}, not of {found}")
     if array.ndim != 1:
         raise ValueError(f"{name} must have one dimension, not {array.ndim}")
     flags = array.flags

@@ -5,7 +5,7 @@ from typing import Any
 
 import numpy
 
-from callauction.arrays import REPLY, Structs, wrong_field_of
+from callauction.arrays import RECEIPT, REPLY, Structs, wrong_field_of
 from callauction.errors import (
     AuctionError,
     BusyError,
@@ -191,12 +191,15 @@ def not_entered(answer: int, check: bool) -> Refused:
 
 
 def reply_of(record: numpy.void) -> Reply:
-    """What a reply of an array of REPLY says, such as `reply_of(replies[3])`.
+    """What a reply of an array of REPLY says, such as `reply_of(replies[3])`, or the one that a
+    receipt of an array of RECEIPT has.
 
-    Raises TypeError where it isn't one, and ValueError where it is none that the library writes.
+    Raises TypeError where it is neither, and ValueError where it is none that the library writes.
     """
+    if isinstance(record, numpy.void) and record.dtype == RECEIPT:
+        record = record["reply"]
     if not isinstance(record, numpy.void) or record.dtype != REPLY:
-        raise TypeError("record must be an element of an array of the dtype REPLY")
+        raise TypeError("record must be an element of an array of REPLY or RECEIPT")
     reply = ffi.from_buffer("callauction_reply *", numpy.array(record))
     is_reply = 1 <= reply.tag < len(_READERS) and reply.side < len(SIDES)
     if reply.tag == _UNCROSSED:

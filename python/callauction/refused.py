@@ -2,7 +2,7 @@
 import numpy
 import pandas
 
-from callauction.arrays import COMMAND, REPLY, Structs, whole
+from callauction.arrays import COMMAND, RECEIPT, REPLY, Structs, whole
 from callauction.words import CommandTag, Refusal, ReplyTag
 
 REFUSALS = {"place": "int64", "refusal": "int64", "name": "object"}
@@ -13,11 +13,14 @@ def refusals(replies: Structs, commands: Structs | None = None) -> pandas.DataFr
     """Which commands of an `apply_many` were refused: a row for each (REFUSALS), none where none
     was.
 
-    `replies` is its array of REPLY; `place` is an element of it, from 0, `refusal` the number of a
-    Refusal and `name` its name. The array of `commands` adds who gave them and what they were.
-    Raises TypeError or ValueError for another array, or where there are fewer than replies.
+    `replies` is its array of REPLY, or of a board's member of RECEIPT; `place` is an element of it,
+    from 0, `refusal` the number of a Refusal and `name` its name. The array of `commands` adds who
+    gave them and what they were: the `member` of each struct. Raises TypeError or ValueError for
+    another array, or where there are fewer than replies.
     """
-    whole("replies", replies, REPLY, is_written=False)
+    whole("replies", replies, REPLY, RECEIPT, is_written=False)
+    if replies.dtype == RECEIPT:
+        replies = replies["reply"]
     places = numpy.flatnonzero(replies["tag"] == ReplyTag.REFUSED)
     numbers = replies["refusal"][places]
     names = [Refusal(number).name for number in numbers]
