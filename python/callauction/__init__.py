@@ -28,6 +28,7 @@ if TYPE_CHECKING:
         FullError,
         NoCommandError,
         NotAppliedError,
+        NotEnteredError,
         RefusedError,
     )
     from callauction.gains import Gains, gains_of
@@ -99,6 +100,7 @@ __all__ = [
     "NoCommandError",
     "NoPrice",
     "NotAppliedError",
+    "NotEnteredError",
     "ORDER",
     "OUTCOME",
     "OpenOrder",

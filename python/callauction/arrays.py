@@ -140,6 +140,11 @@ def joined(*parts: Structs) -> Structs:
     return numpy.concatenate(parts, out=numpy.zeros(sum(map(len, parts)), parts[0].dtype))
 
 
+def replies_in(answers: Structs) -> Structs:
+    """The replies of an array of REPLY, or those that an array of RECEIPT has."""
+    return answers["reply"] if answers.dtype == RECEIPT else answers
+
+
 def whole(
     name: str, array: object, *kinds: "numpy.dtype[numpy.void]", is_written: bool
 ) -> Structs:

@@ -19,7 +19,7 @@ from callauction.arrays import (
     Structs,
     whole,
 )
-from callauction.carried import CarriedOver, carried_over
+from callauction.carried import CarriedOver, all_entered, carried_over, commands_in
 from callauction.errors import (
     AuctionError,
     BusyError,
@@ -349,6 +349,16 @@ class Auction:
         except NotAppliedError as error:
             raise not_applied(error, commands, replies, applied[0]) from None
         return replies
+
+    def enter_carried(self, left: CarriedOver, *, check: bool = True) -> Structs:
+        """Enters what is left of another day, in its order: the replies, a new array of REPLY.
+
+        Raises NotEnteredError, when all were tried, where the day refuses an order, as one whose
+        limit is no tick of it, or that finds the book full; without `check` its reply alone says
+        so. Stops as apply_many. Raises TypeError for what is no CarriedOver.
+        """
+        replies = self.apply_many(commands_in(left))
+        return all_entered(left, replies) if check else replies
 
     # ---- what is shown
 

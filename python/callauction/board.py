@@ -22,7 +22,7 @@ from callauction.arrays import (
     refuse_first,
 )
 from callauction.auction import ALL_MEMBERS, Auction, config_of, config_struct, copy_over
-from callauction.carried import CarriedOver
+from callauction.carried import CarriedOver, all_entered, commands_in
 from callauction.errors import AuctionError, NotAppliedError, close_after
 from callauction.library import ffi, lib
 from callauction.limits import MOST_CLIENT, MOST_MEMBERS, MOST_NUMBER, MOST_RANGE
@@ -426,14 +426,20 @@ class Board:
             raise IndexError(f"a board of {most + 1} members has numbers 0 to {most}, not {place}")
         return self._members[place]
 
-    def enter_carried(self, left: CarriedOver) -> Structs:
+    def enter_carried(self, left: CarriedOver, *, check: bool = True) -> Structs:
         """Enters what is left of another day, each order by its own member and all in their order:
         their receipts, a new array of RECEIPT.
 
-        Stops as Member.apply_many. Raises ValueError, and records nothing, where the board hasn't
-        the member of an order.
+        Raises NotEnteredError as Auction.enter_carried, and stops as Member.apply_many. Raises
+        ValueError, and records nothing, where the board hasn't the member of an order, and
+        TypeError for what is no CarriedOver.
         """
-        commands, count = left.commands, len(self)
+        receipts = self._entered(commands_in(left))
+        return all_entered(left, receipts) if check else receipts
+
+    def _entered(self, commands: Structs) -> Structs:
+        """The receipts of commands, each of which its own member gives."""
+        count = len(self)
         look_through(commands)
         wrong = commands["member"] >= count
         refuse_first(commands, "member", wrong, f"from 0 to {count - 1}")

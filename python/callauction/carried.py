@@ -4,8 +4,9 @@ import dataclasses
 import numpy
 from numpy.typing import NDArray
 
-from callauction.arrays import COMMAND, Structs
-from callauction.words import CommandTag, Restriction
+from callauction.arrays import COMMAND, Structs, replies_in
+from callauction.errors import NotEnteredError
+from callauction.words import CommandTag, Refusal, ReplyTag, Restriction
 
 
 @dataclasses.dataclass(frozen=True, slots=True, eq=False)
@@ -30,6 +31,25 @@ class CarriedOver:
         pairs = (self.commands, other.commands), (self.ids, other.ids)
         is_same = all(numpy.array_equal(own, others) for own, others in pairs)
         return is_same and self.reference == other.reference
+
+
+def commands_in(left: object) -> Structs:
+    """The commands of what was carried over. Raises TypeError for what is none."""
+    if not isinstance(left, CarriedOver):
+        raise TypeError(f"left must be a CarriedOver, not {type(left).__name__}")
+    return left.commands
+
+
+def all_entered(left: CarriedOver, answers: Structs) -> Structs:
+    """The answers to the commands of what was carried over, of REPLY or RECEIPT. Raises
+    NotEnteredError where one is a refusal.
+    """
+    replies = replies_in(answers)
+    places = numpy.flatnonzero(replies["tag"] == ReplyTag.REFUSED)
+    if len(places):
+        refused = {int(left.ids[it]): Refusal(replies["refusal"][it]) for it in places}
+        raise NotEnteredError(refused, answers)
+    return answers
 
 
 def carried_over(orders: Structs, reference: int) -> CarriedOver:

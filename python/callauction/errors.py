@@ -1,5 +1,5 @@
 """What calls of an auction raise beside TypeError, ValueError and MemoryError."""
-from collections.abc import Callable
+from collections.abc import Callable, Mapping
 
 from callauction.arrays import Structs
 from callauction.words import Refusal
@@ -52,6 +52,28 @@ class FullError(NotAppliedError):
 
 class NoCommandError(NotAppliedError, ValueError):
     """A struct of an array is no command."""
+
+
+class NotEnteredError(AuctionError):
+    """A day refused orders that were carried over to it; it entered the others.
+
+    `refused` has why, by the ids of the day before, and `replies` are the replies to all of them,
+    an array of REPLY, of a board of RECEIPT.
+    """
+
+    def __init__(self, refused: Mapping[int, Refusal], replies: Structs) -> None:
+        super().__init__(refused, replies)
+        self.refused, self.replies = refused, replies
+
+    def __str__(self) -> str:
+        first = [f"{id} {refusal.name}" for id, refusal in [*self.refused.items()][:_NAMED]]
+        more = ", .." if len(self.refused) > _NAMED else ""
+        count = f"{len(self.refused)} of {len(self.replies)} orders"
+        return f"{count} weren't entered: {', '.join(first)}{more}"
+
+
+_NAMED = 5
+"""How many orders that weren't entered the text names."""
 
 
 def close_after(raised: BaseException | None, name: str, close: Callable[[], object]) -> None:

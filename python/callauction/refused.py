@@ -2,7 +2,7 @@
 import numpy
 import pandas
 
-from callauction.arrays import COMMAND, RECEIPT, REPLY, Structs, whole
+from callauction.arrays import COMMAND, RECEIPT, REPLY, Structs, replies_in, whole
 from callauction.words import CommandTag, Refusal, ReplyTag
 
 REFUSALS = {"place": "int64", "refusal": "int64", "name": "object"}
@@ -19,8 +19,7 @@ def refusals(replies: Structs, commands: Structs | None = None) -> pandas.DataFr
     another array, or where there are fewer than replies.
     """
     whole("replies", replies, REPLY, RECEIPT, is_written=False)
-    if replies.dtype == RECEIPT:
-        replies = replies["reply"]
+    replies = replies_in(replies)
     places = numpy.flatnonzero(replies["tag"] == ReplyTag.REFUSED)
     numbers = replies["refusal"][places]
     names = [Refusal(number).name for number in numbers]

@@ -33,6 +33,7 @@ from callauction import (
     Member,
     NoCommandError,
     NoPrice,
+    NotEnteredError,
     OpenOrder,
     Price,
     Receipt,
@@ -43,6 +44,7 @@ from callauction import (
     Uncross,
     Uncrossed,
     commands,
+    refusals,
     reply_of,
 )
 from callauction._native import ffi
@@ -499,6 +501,13 @@ def test_what_is_carried_over_is_entered_by_its_members() -> None:
         with pytest.raises(ValueError, match="element 1: member must be from 0 to 1, not 2$"):
             small.enter_carried(left)
         assert small[0].look().calls == 0
+    with Board(3, max_open=3) as little:
+        with pytest.raises(NotEnteredError) as refused:
+            little.enter_carried(left)
+        assert refused.value.refused == {4: Refusal.BOOK_FULL, 5: Refusal.BOOK_FULL}
+        assert refused.value.replies["number"].tolist() == [1, 2, 3, 4, 5]
+        receipts = little.enter_carried(left, check=False)
+        assert refusals(receipts, left.commands)["member"].tolist() == [1, 2, 2, 1, 0]
     with Board(3, max_calls=4, reserve=1) as full:
         with pytest.raises(FullError, match="^command 3: no call is left") as stopped:
             full.enter_carried(left)

@@ -12,10 +12,13 @@ from callauction import (
     Board,
     FullError,
     Interrupted,
+    NotEnteredError,
+    Refusal,
     Refused,
     Restriction,
     Side,
     Uncrossed,
+    refusals,
 )
 from callauction.arrays import Structs
 from days import EXAMPLES, options_of
@@ -197,6 +200,31 @@ def test_the_next_day_begins_with_what_is_left() -> None:
     assert carried > 1_000 and moved > 5
 
 
+def test_a_new_day_names_the_orders_that_it_refuses() -> None:
+    with Auction() as auction:
+        for limit in (190, 191, 250, 192):
+            auction.enter(1, BID, 10, limit, check=True)
+        auction.delete(1, 2, check=True)
+        left = auction.carried_over()
+    assert left.ids.tolist() == [1, 3, 4]
+    with Auction(high=200, max_open=1, reference=left.reference) as day:
+        with pytest.raises(NotEnteredError) as fault:
+            day.enter_carried(left)
+        text = "2 of 3 orders weren't entered: 3 BAD_LIMIT, 4 BOOK_FULL"
+        assert str(fault.value) == str(copy.copy(fault.value)) == text
+        assert fault.value.refused == {3: Refusal.BAD_LIMIT, 4: Refusal.BOOK_FULL}
+        assert fault.value.replies["id"].tolist() == [1, 0, 0]
+        assert day.orders()["limit"].tolist() == [190] and day.calls == 3
+        replies = day.enter_carried(left, check=False)
+        assert refusals(replies, left.commands)["name"].tolist() == [
+            "BOOK_FULL", "BAD_LIMIT", "BOOK_FULL"
+        ]
+    with Auction() as day, Board(2) as board:
+        for other in (day, board):
+            with pytest.raises(TypeError, match="^left must be a CarriedOver, not ndarray$"):
+                other.enter_carried(left.commands)  # type: ignore[arg-type]
+
+
 def enter_listed(auction: Auction, row: tuple[int, ...]) -> None:
     """Enters an order of `kept`."""
     quantity, visible, limit, member, side, has_limit, has_peak = row
@@ -227,5 +255,8 @@ def test_orders_are_carried_over_in_time_order_with_their_peaks() -> None:
         assert left == auction.carried_over() != dataclasses.replace(left, reference=1)
         auction.delete(3, 3)
         assert left != auction.carried_over()
+    with Auction(reference=left.reference) as tomorrow:
+        assert tomorrow.enter_carried(left)["id"].tolist() == [1, 2, 3, 4]
+        assert tomorrow.carried_over().commands.tolist() == left.commands.tolist()
     with Auction(reference=321) as empty:
         assert len(empty.carried_over().commands) == 0 and empty.carried_over().reference == 321
