@@ -17,12 +17,14 @@ from callauction.errors import BusyError, NotAppliedError, RefusedError, close_a
 from callauction.limits import MOST_MEMBERS, MOST_NUMBER, MOST_RANGE
 from callauction.program import Day
 from callauction.reading import number, reply_of
-from callauction.tables import orders_frame
+from callauction.tables import audit_of, commands_of, journal_of, orders_frame, whole_lines_of
 from callauction.words import Command, Config, MarketOrders, Reply, Restriction, Side
 from callauction.written import command_of
 
-_OWN = {"_auction", "_record", "_lock"}
+_OWN = {"_auction", "_record", "_lock", "_members"}
 """What a RecordedAuction keeps; a subclass may keep more."""
+_NUMBERS = ("low", "high", "reference", "open", "calls", "range")
+"""What a RecordedAuction is opened with, as a day record calls it, in its order."""
 
 
 class RecordedAuction(DayTables):
@@ -52,7 +54,27 @@ class RecordedAuction(DayTables):
         self._auction = Auction(low, high, reference, max_open, max_calls, range, reserve)
         self._record: list[tuple[int, Command, Reply]] = []
         self._lock: Any = threading.RLock()
+        self._members = MOST_MEMBERS
         _auctions.add(self)
+
+    @classmethod
+    def resumed(cls, path: str | os.PathLike[str]) -> Self:
+        """The auction of the day of a journal, after its calls and with their record, to go on with
+        by members of that day. Its whole lines are read: what follows, as a line that a crash has
+        cut, isn't. A reserve and clients aren't in a journal.
+
+        Raises OSError, ProgramError where the file is no journal, and ValueError where one of its
+        replies isn't the lawful one.
+        """
+        day = whole_lines_of(Day.read(path))
+        for fault in audit_of(day).itertuples():
+            text = f'recorded "{fault.recorded}", lawful "{fault.lawful}"'
+            raise ValueError(f"entry {fault.entry}: {text}")
+        given = journal_of(day)
+        made = cls(*(given.attrs[name] for name in _NUMBERS))
+        made._members = given.attrs["members"]
+        made.apply_many(commands_of(given))
+        return made
 
     def __repr__(self) -> str:
         return f"<{type(self).__name__} of {self._auction!r}>"
@@ -136,8 +158,8 @@ class RecordedAuction(DayTables):
         or a number that no journal has, and then nothing was applied.
         """
         look_through(commands)
-        wrong = commands["member"] >= MOST_MEMBERS
-        refuse_first(commands, "member", wrong, f"from 0 to {MOST_MEMBERS - 1}")
+        wrong = commands["member"] >= self._members
+        refuse_first(commands, "member", wrong, f"from 0 to {self._members - 1}")
         with self._lock:
             try:
                 replies = self._auction.apply_many(commands)
@@ -149,13 +171,21 @@ class RecordedAuction(DayTables):
 
     def _applied(self, member: int, command: Command, check: bool) -> Reply:
         """The reply to a command, which is kept with it."""
-        _look_at(member, command)
+        self._look_at(member, command)
         with self._lock:
             reply = self._auction.apply(member, command)
             self._record.append((member, command, reply))
         if check and isinstance(reply, words.Refused):
             raise RefusedError(reply.refusal)
         return reply
+
+    def _look_at(self, member: object, command: Command) -> None:
+        """Raises TypeError or ValueError for a member or a number that the journal can't have."""
+        number("member", member, self._members - 1)
+        if isinstance(command, words.Enter | words.Change):
+            number("quantity", command.quantity, MOST_NUMBER)
+        if isinstance(command, words.Enter) and command.peak is not None:
+            number("peak", command.peak, MOST_NUMBER)
 
     def _keep(self, commands: Structs, replies: Structs | None) -> None:
         """Keeps the commands that have replies with these."""
@@ -261,7 +291,7 @@ class RecordedAuction(DayTables):
         with self._lock:
             config, record = self._auction.config, [*self._record]
         entries = ((operator.index(member), command, reply) for member, command, reply in record)
-        return written_day(config, MOST_MEMBERS, entries)
+        return written_day(config, self._members, entries)
 
 
 _auctions: "weakref.WeakSet[RecordedAuction]" = weakref.WeakSet()
@@ -292,12 +322,3 @@ def _keep_locks() -> None:
 
 
 os.register_at_fork(after_in_child=_keep_locks)
-
-
-def _look_at(member: object, command: Command) -> None:
-    """Raises TypeError or ValueError for a member or a number that no journal has."""
-    number("member", member, MOST_MEMBERS - 1)
-    if isinstance(command, words.Enter | words.Change):
-        number("quantity", command.quantity, MOST_NUMBER)
-    if isinstance(command, words.Enter) and command.peak is not None:
-        number("peak", command.peak, MOST_NUMBER)

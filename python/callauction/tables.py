@@ -12,6 +12,7 @@ import re
 import pandas
 
 from callauction.arrays import Structs
+from callauction.columns import commands
 from callauction.program import Day, ProgramError
 
 TRADES = {
@@ -172,6 +173,21 @@ def journal_of(day: Day) -> pandas.DataFrame:
         frame[name] = _typed(frame[name], kind)
     frame.attrs.update(zip(DAY, (int(number) if number else None for number in head[1:])))
     return frame
+
+
+def whole_lines_of(day: Day) -> Day:
+    """The whole lines of a journal: those up to the last LF before any NUL. What follows is a line
+    that a crash has cut, or the room behind the lines of a session that runs.
+    """
+    lines = day.content.partition(b"\0")[0]
+    return Day(lines[: lines.rfind(b"\n") + 1], day.words)
+
+
+def commands_of(journal: pandas.DataFrame) -> Structs:
+    """The commands of a frame of journal_of, as an array of COMMAND."""
+    named = {name: journal[name] for name in ("member", "side", "quantity", "limit", "peak")}
+    ids = journal["id"].fillna(journal["number"])
+    return commands(named, tag=journal["command"], id=ids, restriction=journal["only"])
 
 
 def _typed(column: "pandas.Series", kind: str) -> "pandas.Series":

@@ -3,6 +3,7 @@ import re
 from pathlib import Path
 
 import pytest
+from callauction import RecordedAuction, Side
 from printed import TOP
 
 README = TOP / "python/README.md"
@@ -25,6 +26,16 @@ def test_the_ten_lines_print_what_is_said(
     drawn = (tmp_path / "book.svg").read_text(encoding="utf-8")
     stored = (README.parent / "book.svg").read_text(encoding="utf-8")
     assert paths(drawn) == paths(stored)
+
+
+def test_a_saved_day_is_gone_on_with(tmp_path: Path, monkeypatch: pytest.MonkeyPatch) -> None:
+    monkeypatch.chdir(tmp_path)
+    with RecordedAuction() as auction:
+        auction.save("day.csv")
+    (code,) = (block for block in blocks() if "RecordedAuction.resumed" in block)
+    exec(compile(code, "README.md", "exec"), {"RecordedAuction": RecordedAuction, "Side": Side})
+    saved = (tmp_path / "day.csv").read_text(encoding="ascii").splitlines()
+    assert saved[1:] == ["1,enter,bid,100,200,entered 1"]
 
 
 def paths(picture: str) -> list[str]:

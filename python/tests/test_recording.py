@@ -9,7 +9,7 @@ import numpy
 import pytest
 from arrayed import array_of
 from callauction import Auction, FullError, NoCommandError, RefusedError, Side
-from callauction.program import Day
+from callauction.program import Day, ProgramError
 from callauction.limits import MOST_NUMBER
 from callauction.recording import RecordedAuction
 from callauction.tables import audit_of
@@ -41,6 +41,75 @@ def test_an_example_has_its_tables(file: Path) -> None:
         assert csv_of(auction.books()) == form_of(file, "book")
         assert auction.journal()["reply"].tolist() == auction.journal()["lawful"].tolist()
         assert auction.audit().attrs["is_legal"]
+
+
+def filled(auction: RecordedAuction) -> RecordedAuction:
+    """The auction after a few calls, one of them refused."""
+    auction.enter(1, Side.BID, 500, 200, peak=100, check=True)
+    auction.enter(2, Side.ASK, 300, check=True)
+    auction.enter(2, Side.ASK, 30, 201, restriction=words.Restriction.CLOSING_ONLY, check=True)
+    auction.change(1, 1, 400, 200, check=True)
+    auction.order_status(2, 9)
+    auction.indicate(1)
+    auction.uncross()
+    auction.read_trade(1, 1, check=True)
+    return auction
+
+
+def test_a_saved_day_is_gone_on_with(tmp_path: Path) -> None:
+    numbers = (1, 1000, 200, 5, 30, 9)
+    with filled(RecordedAuction(*numbers)) as auction:
+        auction.save(tmp_path / "day.csv")
+        with RecordedAuction.resumed(tmp_path / "day.csv") as again:
+            assert again.config == auction.config and again.calls == 8
+            for each in (auction, again):
+                assert each.delete(2, 3, check=True) == words.Deleted()
+                assert each.enter(3, Side.ASK, 7, 199) == words.Entered(4)
+                assert isinstance(each.uncross(), words.Uncrossed)
+            assert again.day() == auction.day() and again.audit().attrs["is_legal"]
+            assert again.outcomes().equals(auction.outcomes())
+            again.save(tmp_path / "day.csv")
+            assert (tmp_path / "day.csv").read_bytes() == auction.day().content
+
+
+def test_a_line_that_a_crash_has_cut_is_not_gone_on_with(tmp_path: Path) -> None:
+    file = tmp_path / "day.csv"
+    with filled(RecordedAuction()) as auction:
+        lines = auction.day()
+    for rest in (b"1,delete,1", b"\0\0\0", b"1,enter,bid,30,50\0\0"):
+        file.write_bytes(lines.content + rest)
+        with RecordedAuction.resumed(file) as again:
+            assert again.day() == lines
+
+
+def test_a_board_is_gone_on_with_by_its_members(tmp_path: Path) -> None:
+    file, head = tmp_path / "day.csv", "day,1,1000,200,2,4096,99,"
+    file.write_text(f"{head}\n1,enter,bid,30,190,entered 1\n1,ask,\n")
+    with RecordedAuction.resumed(file) as again:
+        assert again.config.max_calls == 99
+        with pytest.raises(ValueError, match="^member must be from 0 to 1, not 2$"):
+            again.indicate(2)
+        with pytest.raises(ValueError, match="member must be from 0 to 1, not 2$"):
+            again.apply_many(array_of([(2, words.Indicate())]))
+        assert again.copy().delete(1, 1) == words.Deleted()
+        again.save(file)
+    assert file.read_text().splitlines() == [
+        head, "1,enter,bid,30,190,entered 1", "1,ask,no price bid 190 ask -"
+    ]
+
+
+def test_what_is_no_lawful_journal_is_not_gone_on_with(tmp_path: Path) -> None:
+    file, head = tmp_path / "day.csv", "day,1,1000,200,2,4096,99,\n"
+    file.write_text(f"{head}1,ask,no price bid - ask -\n1,enter,bid,30,190,entered 2\n")
+    text = 'entry 2: recorded "entered 2", lawful "entered 1"'
+    with pytest.raises(ValueError, match=f"^{text}$"):
+        RecordedAuction.resumed(file)
+    for content in ("", "1,enter,bid,30,190\n", head.strip(), f"{head}1,enter,bid,x,190,\n"):
+        file.write_text(content)
+        with pytest.raises(ProgramError):
+            RecordedAuction.resumed(file)
+    with pytest.raises(FileNotFoundError):
+        RecordedAuction.resumed(tmp_path / "other.csv")
 
 
 def test_calls_are_those_of_an_auction() -> None:
