@@ -120,7 +120,8 @@ enum class Error : std::uint32_t {
     other_limits = 1010, // of copy_into
     no_tick = 1011, // of Ticks
     bad_reserve = 1012,
-    bad_range = 1013 // of a board's opening
+    bad_range = 1013, // of a board's opening
+    not_entered = 1014 // of enter
 };
 
 enum class Side : std::uint8_t {
@@ -179,6 +180,7 @@ inline const char *text(Error error) {
     case Error::bad_members: return "a board has 1 to 64 members";
     case Error::bad_range: return "the range is above 1,000,000 ticks, the most that the journal of the day can say";
     case Error::bad_reserve: return "a reserve as great as max_calls, 16 where it isn't set, leaves members no call";
+    case Error::not_entered: return "the day refused an order that was carried over";
     case Error::other_limits: return "the other auction has other bounds, max_open or max_calls";
     default: return callauction_error_text(static_cast<std::uint32_t>(error));
     }
@@ -603,6 +605,13 @@ struct CarriedOver {
     std::uint32_t reference;
 };
 
+// An order of what is carried over that the new day refused.
+struct NotEntered {
+    std::size_t place; // of its command, from 0 on
+    std::uint32_t id;  // of the day before
+    Refusal refusal;
+};
+
 // The shares bid and offered by the orders that count, with a limit at each tick from low to high, and those of the
 // market orders; after as many calls as `calls` says.
 struct Ladder {
@@ -677,7 +686,22 @@ inline CarriedOver carried_over(const std::vector<callauction_order> &orders, st
     return found;
 }
 
+inline const callauction_reply &reply_in(const callauction_reply &reply) { return reply; }
+inline const callauction_reply &reply_in(const callauction_receipt &receipt) { return receipt.reply; }
+
 } // namespace detail
+
+// The orders of what is carried over that the new day refused, by what `enter` of an auction or a board answered.
+template <typename Answer>
+std::vector<NotEntered> not_entered(const CarriedOver &left, const std::vector<Answer> &answers) {
+    std::vector<NotEntered> found;
+    for (std::size_t place = 0; place < answers.size() && place < left.ids.size(); place++) {
+        const callauction_reply &reply = detail::reply_in(answers[place]);
+        if (reply.tag == CALLAUCTION_REPLY_REFUSED)
+            found.push_back({place, left.ids[place], static_cast<Refusal>(reply.refusal)});
+    }
+    return found;
+}
 
 // ---- an auction of one thread
 
@@ -734,6 +758,17 @@ public:
         const auto answer = callauction_apply_many(
             &handle_, commands.data(), commands.size(), replies.data(), replies.size(), &applied);
         return {applied, detail::error_of(answer)};
+    }
+
+    // Enters what is left of another day, in its order: the replies to what was applied, and the error that the next
+    // command had. Where all were applied and the day refused an order, Error::not_entered: callauction::not_entered
+    // says which.
+    [[nodiscard]] std::pair<std::vector<callauction_reply>, std::optional<Error>> enter(const CarriedOver &left) {
+        std::vector<callauction_reply> replies(left.commands.size());
+        auto [applied, error] = apply_many(left.commands, replies);
+        replies.resize(applied);
+        if (!error && !not_entered(left, replies).empty()) error = Error::not_entered;
+        return {std::move(replies), error};
     }
 
     // Uncrosses, as apply(0, Uncross{}) does, and says what that did to the orders.
@@ -1259,8 +1294,9 @@ public:
     }
 
     // Enters what is left of another day, each order by its own member and all in their order, waiting where others
-    // call: the receipts of those that were recorded, and the error that the next one had. Error::bad_member, and none
-    // is recorded, where the board hasn't the member of an order.
+    // call: the receipts of those that were recorded, and the error that the next one had. Where all were recorded and
+    // the day refused one, Error::not_entered: callauction::not_entered says which. Error::bad_member, and none is
+    // recorded, where the board hasn't the member of an order.
     [[nodiscard]] std::pair<std::vector<callauction_receipt>, std::optional<Error>> enter(const CarriedOver &left) {
         std::vector<callauction_receipt> receipts;
         if (count_ == 0) return {receipts, Error::no_member};
@@ -1272,7 +1308,8 @@ public:
             if (error) return {std::move(receipts), error};
             receipts.push_back(receipt);
         }
-        return {std::move(receipts), std::nullopt};
+        const bool is_done = not_entered(left, receipts).empty();
+        return {std::move(receipts), is_done ? std::nullopt : std::optional<Error>(Error::not_entered)};
     }
 
     // Closes the board, when no member calls any more. Calls answer Error::closed from then on.

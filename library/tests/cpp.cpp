@@ -219,6 +219,32 @@ void a_board_takes_what_is_carried_over() {
     WANT(closing->counts == (std::vector<std::uint32_t>{1, 2, 2}) && moved.enter(left).second == ca::Error::closed);
 }
 
+// What a new day refuses of what is carried over is an error, and named by its id of the day before.
+void a_day_that_refuses_what_is_carried_over_says_so() {
+    auto auction = opened(day);
+    for (const ca::Whole limit : {490, 491, 600, 492})
+        reply<ca::Entered>(auction.apply(1, ca::Enter{ca::Side::bid, 10, limit}));
+    reply<ca::Deleted>(auction.apply(1, ca::Delete{2}));
+    const auto left = auction.carried_over().value();
+    auto next = opened({1, 599, 500, 1, 5});
+    const auto entered = next.enter(left);
+    WANT(entered.first.size() == 3 && entered.second == ca::Error::not_entered && next.orders()->size() == 1);
+    const auto refused = ca::not_entered(left, entered.first);
+    WANT(refused.size() == 2 && refused[0].place == 1 && refused[0].id == 3 && refused[1].id == 4);
+    WANT(refused[0].refusal == ca::Refusal::bad_limit && refused[1].refusal == ca::Refusal::book_full);
+    WANT(next.enter(left).first.size() == 2 && next.enter(left).second == ca::Error::full);
+    auto wide = opened(day);
+    const auto all = wide.enter(left);
+    WANT(all.first.size() == 3 && !all.second && ca::not_entered(left, all.first).empty());
+    WANT(wide.enter(left).first[0].id == 4 && wide.carried_over()->ids.size() == 6);
+    auto board = ca::Board::open(2, {1, 1000, 500, 2, 100});
+    const auto receipts = board->enter(left);
+    WANT(receipts.first.size() == 3 && receipts.second == ca::Error::not_entered);
+    const auto lost = ca::not_entered(left, receipts.first);
+    WANT(lost.size() == 1 && lost[0].place == 2 && lost[0].id == 4 && lost[0].refusal == ca::Refusal::book_full);
+    WANT(std::string_view(ca::text(ca::Error::not_entered)) == "the day refused an order that was carried over");
+}
+
 // A client is kept with its order and given back; a negative one fits no order.
 void clients_are_given_back() {
     auto auction = opened(day);
@@ -470,6 +496,7 @@ int main() {
     an_uncross_says_what_it_did();
     a_day_is_carried_over();
     a_board_takes_what_is_carried_over();
+    a_day_that_refuses_what_is_carried_over_says_so();
     clients_are_given_back();
     a_reserve_is_the_operators();
     a_board_says_what_an_uncross_did();

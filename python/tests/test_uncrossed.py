@@ -220,7 +220,8 @@ def test_a_new_day_names_the_orders_that_it_refuses() -> None:
             "BOOK_FULL", "BAD_LIMIT", "BOOK_FULL"
         ]
     with Auction() as day, Board(2) as board:
-        for other in (day, board):
+        others: tuple[Auction | Board, ...] = (day, board)
+        for other in others:
             with pytest.raises(TypeError, match="^left must be a CarriedOver, not ndarray$"):
                 other.enter_carried(left.commands)  # type: ignore[arg-type]
 
