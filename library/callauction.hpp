@@ -62,12 +62,12 @@ inline constexpr bool is_integer = std::is_integral_v<T> && !std::is_same_v<T, b
 class Whole {
 public:
     template <typename T, std::enable_if_t<detail::is_integer<T>, int> = 0>
-    constexpr Whole(T number)
+    constexpr Whole(T number) noexcept
         : number_(number > T{0} && static_cast<std::uint64_t>(number) > std::uint64_t{INT64_MAX}
                   ? -1 : static_cast<std::int64_t>(number)) {}
     template <typename T, std::enable_if_t<!detail::is_integer<T>, int> = 0> Whole(T) = delete;
 
-    constexpr operator std::int64_t() const { return number_; }
+    constexpr operator std::int64_t() const noexcept { return number_; }
 
 private:
     std::int64_t number_;
@@ -77,11 +77,12 @@ private:
 class Client {
 public:
     template <typename T, std::enable_if_t<detail::is_integer<T>, int> = 0>
-    constexpr Client(T number) : number_(static_cast<std::uint64_t>(number)), fits_(number == T{0} || number > T{0}) {}
+    constexpr Client(T number) noexcept
+        : number_(static_cast<std::uint64_t>(number)), fits_(number == T{0} || number > T{0}) {}
     template <typename T, std::enable_if_t<!detail::is_integer<T>, int> = 0> Client(T) = delete;
 
-    constexpr std::uint64_t number() const { return number_; }
-    constexpr bool fits() const { return fits_; }
+    constexpr std::uint64_t number() const noexcept { return number_; }
+    constexpr bool fits() const noexcept { return fits_; }
 
 private:
     std::uint64_t number_;
@@ -166,7 +167,7 @@ enum class JournalFault : std::uint32_t {
 };
 
 // One line of English, without a full stop.
-inline const char *text(Error error) {
+inline const char *text(Error error) noexcept {
     switch (error) {
     case Error::no_tick_size: return "a tick size is a decimal number above 0, with at most nine decimals";
     case Error::no_price: return "the price is no decimal number, or lies between two ticks";
@@ -185,8 +186,10 @@ inline const char *text(Error error) {
     default: return callauction_error_text(static_cast<std::uint32_t>(error));
     }
 }
-inline const char *text(Refusal refusal) { return callauction_refusal_text(static_cast<std::uint32_t>(refusal)); }
-inline const char *text(JournalFault fault) {
+inline const char *text(Refusal refusal) noexcept {
+    return callauction_refusal_text(static_cast<std::uint32_t>(refusal));
+}
+inline const char *text(JournalFault fault) noexcept {
     return callauction_journal_fault_text(static_cast<std::uint32_t>(fault));
 }
 
@@ -195,9 +198,9 @@ inline const char *text(JournalFault fault) {
 // What Result::value throws where there is no value.
 class BadResult : public std::exception {
 public:
-    explicit BadResult(Error error) : error_(error) {}
+    explicit BadResult(Error error) noexcept : error_(error) {}
 
-    Error error() const { return error_; }
+    Error error() const noexcept { return error_; }
     const char *what() const noexcept override { return text(error_); }
 
 private:
@@ -216,6 +219,12 @@ template <typename T, typename Exception> [[noreturn]] T fail(const Exception &e
 #endif
 }
 
+// What is there; where nothing is, it ends the program.
+template <typename T> T &there(T *found) noexcept {
+    if (!found) std::abort();
+    return *found;
+}
+
 } // namespace detail
 
 // A value, or why there is none.
@@ -224,22 +233,23 @@ public:
     Result(T value) : answer_(std::in_place_index<0>, std::move(value)) {}
     Result(Error error) : answer_(std::in_place_index<1>, error) {}
 
-    bool has_value() const { return answer_.index() == 0; }
-    explicit operator bool() const { return has_value(); }
+    bool has_value() const noexcept { return answer_.index() == 0; }
+    explicit operator bool() const noexcept { return has_value(); }
 
-    // The value, where there is one; undefined else, as of std::optional.
-    T &operator*() & { return *std::get_if<0>(&answer_); }
-    const T &operator*() const & { return *std::get_if<0>(&answer_); }
-    T &&operator*() && { return std::move(*std::get_if<0>(&answer_)); }
-    T *operator->() { return std::get_if<0>(&answer_); }
-    const T *operator->() const { return std::get_if<0>(&answer_); }
+    // The value. Where there is none these end the program, by std::abort.
+    T &operator*() & noexcept { return detail::there(std::get_if<0>(&answer_)); }
+    const T &operator*() const & noexcept { return detail::there(std::get_if<0>(&answer_)); }
+    T &&operator*() && noexcept { return std::move(**this); }
+    T *operator->() noexcept { return &**this; }
+    const T *operator->() const noexcept { return &**this; }
 
     // The same, but where there is none it throws BadResult, or ends the program where exceptions are off.
-    T value() const & { return has_value() ? **this : detail::fail<T>(BadResult(error())); }
+    T &value() & { return has_value() ? **this : detail::fail<T &>(BadResult(error())); }
+    const T &value() const & { return has_value() ? **this : detail::fail<const T &>(BadResult(error())); }
     T value() && { return has_value() ? *std::move(*this) : detail::fail<T>(BadResult(error())); }
 
-    // The error, where there is no value; undefined else.
-    Error error() const { return *std::get_if<1>(&answer_); }
+    // The error. Where there is a value it ends the program.
+    Error error() const noexcept { return detail::there(std::get_if<1>(&answer_)); }
 
 private:
     std::variant<T, Error> answer_;
@@ -318,14 +328,14 @@ private:
 // Structs one after another, which somebody else owns.
 template <typename T> class Span {
 public:
-    Span(T *data, std::size_t size) : data_(data), size_(size) {}
+    Span(T *data, std::size_t size) noexcept : data_(data), size_(size) {}
     template <typename Container> Span(Container &owner) : data_(owner.data()), size_(owner.size()) {}
 
-    T *data() const { return data_; }
-    std::size_t size() const { return size_; }
-    T *begin() const { return data_; }
-    T *end() const { return data_ + size_; }
-    T &operator[](std::size_t place) const { return data_[place]; }
+    T *data() const noexcept { return data_; }
+    std::size_t size() const noexcept { return size_; }
+    T *begin() const noexcept { return data_; }
+    T *end() const noexcept { return data_ + size_; }
+    T &operator[](std::size_t place) const noexcept { return data_[place]; }
 
 private:
     T *data_;
@@ -1285,7 +1295,7 @@ public:
     Board &operator=(const Board &) = delete;
     ~Board() { leave(); }
 
-    std::size_t members() const { return count_; }
+    std::size_t members() const noexcept { return count_; }
 
     // A member by its number, which is below members(). Member 0 is the operator. Moving the board leaves it as it is.
     Member member(Whole number) {

@@ -1,10 +1,14 @@
 // callauction.hpp: each reply by value, numbers that don't fit a field, owners that are moved, and a board.
 #include <callauction.hpp>
 
+#include <csignal>
 #include <cstdio>
 #include <cstdlib>
 #include <limits>
 #include <type_traits>
+
+#include <sys/wait.h>
+#include <unistd.h>
 
 namespace ca = callauction;
 
@@ -134,6 +138,37 @@ void a_missing_value_throws() {
         return;
     }
     WANT(false);
+}
+
+// Whether a call ends the program by std::abort.
+template <typename Call> bool aborts(Call call) {
+    const pid_t child = fork();
+    if (child == 0) {
+        call();
+        _exit(0);
+    }
+    int status = 0;
+    return waitpid(child, &status, 0) == child && WIFSIGNALED(status) && WTERMSIG(status) == SIGABRT;
+}
+
+void what_is_not_there_is_not_read() {
+    const auto none = ca::Ticks::by("0");
+    const auto cents = ca::Ticks::by("0.01");
+    WANT(aborts([&] { static_cast<void>(*none); }) && aborts([&] { static_cast<void>(none->of("1")); }));
+    WANT(aborts([&] { static_cast<void>(*ca::Ticks::by("0")); }));
+    WANT(aborts([&] { static_cast<void>(cents.error()); }) && !aborts([&] { static_cast<void>(*cents); }));
+    static_assert(noexcept(none.has_value()) && noexcept(*none) && noexcept(none.error()) && !noexcept(none.value()));
+}
+
+// value() of a result that is kept is what it holds, which may be an owner; of one that isn't kept it is moved out.
+void a_value_is_used_in_its_place() {
+    auto result = ca::Auction::open(day);
+    reply<ca::Entered>(result.value().apply(1, ca::Enter{ca::Side::bid, 1, 500}));
+    WANT(*std::as_const(result).value().calls() == 1);
+    static_assert(std::is_same_v<decltype(result.value()), ca::Auction &>);
+    static_assert(std::is_same_v<decltype(std::as_const(result).value()), const ca::Auction &>);
+    static_assert(std::is_same_v<decltype(std::move(result).value()), ca::Auction>);
+    for (const auto &order : result.value().orders().value()) WANT(order.quantity == 1);
 }
 
 void owners_are_moved() {
@@ -492,6 +527,8 @@ int main() {
     prices_in_money_are_ticks();
     ticks_are_prices_in_money();
     a_missing_value_throws();
+    what_is_not_there_is_not_read();
+    a_value_is_used_in_its_place();
     owners_are_moved();
     an_uncross_says_what_it_did();
     a_day_is_carried_over();
