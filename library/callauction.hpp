@@ -9,7 +9,8 @@
 // are given as a Whole, which takes integers alone, so that a price in money, a truth value or a letter doesn't compile
 // (Ticks has the tick of a price, and the price of a tick). They are checked: where one doesn't fit its field of a
 // struct, the call answers an error that names it, as Error::bad_member for the member 256, or Error::no_config, and
-// does nothing.
+// does nothing. Numbers are answered as callauction.h has them, unsigned: a difference below 0 wraps, so make a
+// std::int64_t of what is subtracted, as `std::int64_t(order.quantity) - std::int64_t(outcome.filled)`.
 //
 // It wants C++17. Headers that have dynamic exception specifications, as QuickFIX's, go into one file with it under
 // clang++ -Wno-dynamic-exception-spec; under g++ they go into another file, which has callauction.h from C++11 on.
@@ -727,6 +728,8 @@ struct BadRecord {
 
 class Auction {
 public:
+    // An auction at its opening. Error::no_config where a number doesn't fit a struct; else the first fault of the
+    // config: Error::bad_bounds, bad_reference or bad_capacity.
     static Result<Auction> open(const Config &config) {
         callauction_config given{};
         if (!detail::config_fits(config, given)) return Error::no_config;
@@ -736,8 +739,9 @@ public:
     }
 
     // By the text of a journal: the auction of its day after all its calls, to go on with, and what was found of its
-    // replies. Where it is no journal, Error::bad_journal, and its first fault in `fault`, if that is given. Its whole
-    // lines alone are read, the first `taken` bytes: what follows, as a line that a crash has cut, isn't.
+    // replies. Where it is no journal, Error::bad_journal, and its first fault in `fault`, if that is given; else the
+    // fault of its day, as of open. Its whole lines alone are read, the first `taken` bytes: what follows, as a line
+    // that a crash has cut, isn't.
     static Result<Resumed> resumed(std::string_view journal, BadRecord *fault = nullptr);
 
     Auction(Auction &&other) noexcept : handle_(std::exchange(other.handle_, callauction_handle{})) {}
@@ -752,6 +756,9 @@ public:
     Auction &operator=(const Auction &) = delete;
     ~Auction() { callauction_close(&handle_); }
 
+    // Applies a command of a member; what the auction refuses is answered by a Refusal. Error::bad_member,
+    // bad_quantity, bad_limit, bad_peak, bad_id, bad_number or bad_client where that doesn't fit a struct, no_command
+    // of Side::none, and full where no call is left to the member.
     Result<Reply> apply(Whole member, const Command &command) {
         const auto given = struct_of(member, command);
         if (!given) return given.error();
@@ -794,12 +801,14 @@ public:
         return UncrossedOrders{reply_of(reply), *std::move(orders)};
     }
 
+    // What is shown: no call of a member.
     Result<Display> display() const {
         callauction_reply shown;
         if (const auto error = detail::error_of(callauction_display(&handle_, &shown))) return *error;
         return display_of(shown);
     }
 
+    // The shares at each tick.
     Result<Ladder> ladder() const {
         const auto config = this->config();
         if (!config) return config.error();
@@ -854,12 +863,14 @@ public:
         return found;
     }
 
+    // How many commands were applied, the refused ones among them.
     Result<std::uint32_t> calls() const {
         std::uint32_t found = 0;
         if (const auto error = detail::error_of(callauction_calls(&handle_, &found))) return *error;
         return found;
     }
 
+    // What the auction was opened with; its reserve is set, also where that wasn't.
     Result<Config> config() const {
         callauction_config found;
         if (const auto error = detail::error_of(callauction_config_of(&handle_, &found))) return *error;
@@ -910,10 +921,10 @@ private:
     callauction_handle handle_{};
 };
 
-// An auction that a journal was gone on with: how many members its day is for, how many calls it has, how many of them
-// have a recorded reply, of how many of these it isn't the lawful one, and the number of the first, from 1 on; and how
-// many bytes of the text its whole lines have. The auction takes any member from 0 to 255: who goes on with it and adds
-// to the journal (journal_lines) gives it calls of members below `members` alone, as the day has no others.
+// An auction by which a journal is gone on with: how many members its day is for, how many calls it has, how many of
+// them have a recorded reply, of how many of these it isn't the lawful one, and the number of the first, from 1 on; and
+// how many bytes of the text its whole lines have. The auction takes any member from 0 to 255: who goes on with it and
+// adds to the journal (journal_lines) gives it calls of members below `members` alone, as the day has no others.
 struct Resumed {
     Auction auction;
     std::uint32_t members, calls, compared, unlawful;
@@ -1126,6 +1137,7 @@ public:
         return Shown{shown.calls, display_of(shown.display)};
     }
 
+    // The shares at each tick, after as many calls as it says.
     Result<Ladder> ladder() {
         if (!handle_) return Error::no_member;
         callauction_config config;
@@ -1322,7 +1334,8 @@ public:
         return {std::move(receipts), is_done ? std::nullopt : std::optional<Error>(Error::not_entered)};
     }
 
-    // Closes the board, when no member calls any more. Calls answer Error::closed from then on.
+    // Closes the board, when no member calls any more: Error::misused where one does. Calls answer Error::closed from
+    // then on.
     Result<Closing> close() {
         callauction_config config;
         if (count_ == 0) return Error::no_member;
