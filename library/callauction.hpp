@@ -37,6 +37,11 @@
 #include <variant>
 #include <vector>
 
+#if defined(__GNUC__) && !defined(__clang__)
+#pragma GCC diagnostic push
+#pragma GCC diagnostic ignored "-Wmaybe-uninitialized" // which g++ 12 says of empty limits and other commands' fields
+#endif
+
 namespace callauction {
 
 // ---- numbers
@@ -551,11 +556,6 @@ inline Result<callauction_command> struct_of(Whole member, const Command &comman
     return made;
 }
 
-#if defined(__GNUC__) && !defined(__clang__)
-#pragma GCC diagnostic push
-#pragma GCC diagnostic ignored "-Wmaybe-uninitialized" // which g++ 12 says of an empty limit, at -O1
-#endif
-
 // The reply of a struct that the library wrote.
 inline Reply reply_of(const callauction_reply &from) {
     switch (from.tag) {
@@ -574,10 +574,6 @@ inline Reply reply_of(const callauction_reply &from) {
     default: return static_cast<Refusal>(from.refusal);
     }
 }
-
-#if defined(__GNUC__) && !defined(__clang__)
-#pragma GCC diagnostic pop
-#endif
 
 inline Display display_of(const callauction_reply &from) {
     if (from.tag == CALLAUCTION_REPLY_PRICED) return detail::price_of(from);
@@ -1363,5 +1359,9 @@ private:
 };
 
 } // namespace callauction
+
+#if defined(__GNUC__) && !defined(__clang__)
+#pragma GCC diagnostic pop
+#endif
 
 #endif
