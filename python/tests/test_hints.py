@@ -3,13 +3,14 @@ say of a day without findings.
 """
 import csv
 import json
+import random
 import re
 from pathlib import Path
 
 import pytest
 from callauction.__main__ import main
 from callauction.verdict import Reading, audit_events
-from damage import places, timed_day
+from damage import DAMAGES, places, timed_day
 from shapes import Written, total_quantities
 from test_desk import UNCROSS, audited, base_day, text_of
 from test_holes import rows_of
@@ -49,8 +50,6 @@ def test_total_quantities_that_are_not_said_condemn_no_day() -> None:
 
 
 def test_days_of_total_quantities_are_never_unlawful() -> None:
-    import random
-
     hints = 0
     for seed in range(60):
         found = Written(timed_day(seed, 20), {})
@@ -59,6 +58,62 @@ def test_days_of_total_quantities_are_never_unlawful() -> None:
         assert verdict.word != "unlawful", f"{seed}\n{verdict}"
         hints += any("--quantity says which" in it.doubt for it in verdict.doubtful)
     assert hints > 3
+
+
+CLOSED = """new A bid 300 10.00
+new S ask 100 10.00
+uncross 10.00 100 200
+trade A S 100 10.00
+replace A bid 90 10.00
+{more}new B bid 20 10.00
+new T ask 80 10.00
+uncross {result}
+trade {made} 10.00"""
+"""A has 90 open, or is closed, as 100 of these 90 were executed."""
+
+
+@pytest.mark.parametrize("more, result, made, word", [
+    ("", "10.00 20 60", "B T 20", "incomplete"),
+    ("replace A bid 80 10.00\n", "10.00 20 60", "B T 20", "unlawful"),
+    ("replace A bid 80 10.00\n", "10.00 80 20", "A T 60 10.00\ntrade B T 20",
+     "unlawful"),
+    ("new U ask 10 10.00\nuncross 10.00 10 80\ntrade A U 10 10.00\n", "10.00 20 60", "B T 20",
+     "unlawful"),
+])  # fmt: skip
+def test_a_total_that_would_close_an_order_of_which_there_is_more_is_none(
+    more: str, result: str, made: str, word: str
+) -> None:
+    """It is replaced again, or executed, below that row."""
+    held = ["opening", "intraday", "closing"] if "uncross" in more else HELD
+    frame = frame_of(rows_of(CLOSED.format(more=more, result=result, made=made)))
+    terms = dict(reference="10", tick_size="0.01", reading=Reading(unrestricted=True))
+    verdict = audit_events(frame, auctions=held, **terms)  # type: ignore[arg-type]
+    assert verdict.word == word, str(verdict)
+    assert ("--quantity says which" in str(verdict)) == (word == "incomplete")
+
+
+@pytest.mark.parametrize("other", [
+    ("trade A S 100", "trade A S 99"), ("new S ask 100", "new S ask 1e3"),
+    ("uncross 10.00 100 200", "uncross 10.00 101 200"),
+])  # fmt: skip
+def test_a_total_may_close_its_order_where_what_was_executed_is_open(
+    other: tuple[str, str]
+) -> None:
+    """No replace below denies it: the trade above, the book or the volume may be another."""
+    day = CLOSED.format(more="replace A bid 80 10.00\n", result="10.00 20 60", made="B T 20")
+    verdict = audit_events(frame_of(rows_of(day.replace(*other))), reference="10",
+                           tick_size="0.01", auctions=HELD)  # fmt: skip
+    assert not [it for it in verdict.findings if it.auction == "closing"], str(verdict)
+
+
+@pytest.mark.parametrize("name", DAMAGES)
+def test_damaged_days_of_total_quantities_are_never_unlawful(name: str) -> None:
+    for seed in range(12):
+        found = Written(timed_day(seed, 20), {})
+        total_quantities(random.Random(seed), found)
+        if DAMAGES[name](random.Random(seed), found.extract.rows) is not None:
+            verdict = judged(found.extract)
+            assert verdict.word != "unlawful", f"{seed}\n{verdict}"
 
 
 # ---- why an order comes first

@@ -28,6 +28,7 @@ from callauction.verdict.reading import End
 from callauction.verdict.rows import (
     BAD, FILL, INTERRUPTED, MARKET, NEW, OF_ORDERS, REPLACE, TRADE, UNCROSS, Doubt, Rows,
 )  # fmt: skip
+from callauction.verdict.totals import Totals
 from callauction.verdict.units import in_one_unit, in_shares, lot_of, why_two_units
 
 TWICE = "each trade has two rows: is there one for each side?"
@@ -60,7 +61,7 @@ def judged_day(rows: Rows, rules: Rules, whole: Rows, watch: Watch = iter) -> Ju
         return found
     refuse_parts(rows, rules.due)
     refuse_markets(whole, rules.due)
-    ways = [*_changes(found, rows, rules), _orders_of_ties(judge), *_over_uncrosses(judge, found)]
+    ways = [*_changes(found, judge), _orders_of_ties(judge), *_over_uncrosses(judge, found)]
     falls, across = falls or _falls(rows, True), _across(rows)
     moves = ((_by_time, falls), (lambda it: it.ordered(all_times(it)), across),
              (_by_number, numbers), _by_table(rows, found))  # fmt: skip
@@ -137,8 +138,9 @@ def _with_differences(found: Judgement, those: Mapping[int, Sequence[Difference]
     return dataclasses.replace(found, uncrosses=uncrosses)
 
 
-def _changes(found: Judgement, rows: Rows, rules: Rules) -> Iterator[list[Change]]:
+def _changes(found: Judgement, judge: Judge) -> Iterator[list[Change]]:
     """What may be read otherwise in rows of this order."""
+    rows, rules = judge.rows, judge.rules
     again = second_trades(rows)
     if len(again):
         yield [_without_rows(rows, again, TWICE)]
@@ -174,7 +176,7 @@ def _changes(found: Judgement, rows: Rows, rules: Rules) -> Iterator[list[Change
     if rules.range is not None and rules.range.whole is None and rules.reference:
         span = dataclasses.replace(rules.range, whole=rules.reference)
         yield [(lambda day: (day[0], dataclasses.replace(day[1], range=span)), PERCENT)]
-    if rules.may_have_totals and _replaces_executed(found, rows):
+    if rules.may_have_totals and Totals(found, rows, judge.doubts).may_be():
         yield [(lambda day: (day[0], dataclasses.replace(day[1], has_totals=True)), TOTALS)]
     shown = lacking(found, rows)
     if shown is not None:
@@ -192,15 +194,6 @@ def _changes(found: Judgement, rows: Rows, rules: Rules) -> Iterator[list[Change
 def _rows(change: Callable[[Rows], Rows], why: str) -> Change:
     """What changes the rows of a day alone."""
     return (lambda day: (change(day[0]), day[1])), why
-
-
-def _replaces_executed(found: Judgement, rows: Rows) -> bool:
-    """Whether a row replaces an order of which shares were executed above."""
-    these = rows.of(REPLACE)
-    return any(
-        numpy.isin(rows.key[these[these > it.place]], it.fills.keys).any()
-        for it in found.uncrosses
-    )
 
 
 def _without_rows(rows: Rows, these: Ints, why: str) -> Change:
