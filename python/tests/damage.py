@@ -369,6 +369,16 @@ def in_cents(chance: random.Random, rows: Rows) -> int | None:
     return min(priced, default=None)
 
 
+def wrong_member(chance: random.Random, rows: Rows) -> int | None:
+    """The entry of an order has another member, or a name that nobody has; all else is right."""
+    place = some(chance, places(rows, "new"))
+    if place is not None:
+        names = {row["member"] for row in rows if row.get("member")}
+        others = [*sorted(names - {rows[place].get("member")}), "M77", "Q", UNREADABLE]
+        rows[place]["member"] = chance.choice(others)
+    return place
+
+
 # ---- what is no law
 
 
@@ -494,6 +504,7 @@ DAMAGES: dict[str, Damage] = {
     "unchanged prices": unchanged_prices,
     "spelled otherwise": spelled_otherwise,
     "order spelled otherwise": order_spelled_otherwise,
+    "wrong member": wrong_member,
     "unread time": unread_time,
     "in cents": in_cents,
     "noisy prices": noisy_prices,

@@ -135,6 +135,8 @@ def test_a_lawful_day_with_several_damages_is_never_unlawful() -> None:
     ("unread order", "at the uncross"),
     ("unread trade", "paired otherwise"),
     ("corrected result", "unchanged prices"),
+    ("wrong member", "spelled otherwise"),
+    ("ties", "wrong member"),
 ])  # fmt: skip
 @pytest.mark.parametrize("unsaid", [{}, {"range": None}])
 def test_damages_that_meet_leave_a_lawful_day(

@@ -141,7 +141,7 @@ trade B T 20 10.00""")
             row["member"] = f"M{row['order']}"
         elif row["event"] == TRADE:
             row["bid_member"] = "--"
-    rows[-1]["ask_member"] = "MT"
+    rows[-1]["ask_member"] = rows[-3]["ask_member"] = "MT"
     terms = dict(reference="10", tick_size="0.01", auctions=["opening"])
     verdict = audit_events(frame_of(rows), **terms)  # type: ignore[arg-type]
     assert verdict.word == "incomplete" and verdict.doubtful, str(verdict)

@@ -89,6 +89,16 @@ def plain(name: str) -> str:
     return re.sub(r"[^a-z0-9]", "", name.casefold())
 
 
+def form_of(name: str) -> str:
+    """An id with a 0 for each of its numbers."""
+    return re.sub(r"\d+", "0", name)
+
+
+def look_of(name: str) -> str:
+    """An id with a 0 for each of its numbers, and an A for each of its words."""
+    return re.sub(r"[^\W\d_]+", "A", form_of(name))
+
+
 def is_unknown(text: str) -> bool:
     """Whether a text stands for an id or a member that isn't known."""
     return text.casefold() in UNKNOWN or bool(_UNKNOWN_SIGNS.fullmatch(text))

@@ -12,7 +12,7 @@ import numpy
 import pandas
 
 from callauction.verdict.cells import Codes, Ints
-from callauction.verdict.columns import UNKNOWN
+from callauction.verdict.columns import UNKNOWN, form_of, look_of
 from callauction.verdict.judged import Judged, Judgement
 from callauction.verdict.phases import recorded_sums, sums
 from callauction.verdict.rows import (
@@ -294,8 +294,8 @@ def renamed(rows: Rows, judgement: Judgement) -> tuple[Rows, str] | None:
         for one, other in _pairs(rows, judged, unknown):
             if meant.setdefault(one, other) != other or other not in retired:
                 return None
-    forms = {_form(rows.names.order(key)) for key in rows.key[entered].tolist()}
-    is_like = len(named) > 1 or all(_form(rows.names.order(key)) in forms for key in meant)
+    forms = {form_of(rows.names.order(key)) for key in rows.key[entered].tolist()}
+    is_like = len(named) > 1 or all(form_of(rows.names.order(key)) in forms for key in meant)
     if not meant or len({*meant.values()}) < len(meant) or not is_like:
         return None
     key, order = next(iter(meant.items()))
@@ -316,10 +316,10 @@ def misentered(rows: Rows, judgement: Judgement) -> tuple[Rows, str] | None:
     if not 0 < len(unknown) <= MOST_TEXTS - len(entered):
         return None
     order = rows.names.order
-    looks = Counter(_look(order(key)) for key in entered.tolist())
-    like = {key for key in unknown.tolist() if looks[_look(order(key))] > 1}
+    looks = Counter(look_of(order(key)) for key in entered.tolist())
+    like = {key for key in unknown.tolist() if looks[look_of(order(key))] > 1}
     meant = dict(it for judged in judgement.uncrosses for it in _pairs(rows, judged, like))
-    if not meant or any(looks[_look(order(key))] > 1 for key in meant.values()):
+    if not meant or any(looks[look_of(order(key))] > 1 for key in meant.values()):
         return None
     one, other = next(iter(meant.items()))
     why = f"no row enters {order(one)!r}, and no trade is of {order(other)!r}: are both one order?"
@@ -333,16 +333,6 @@ def _with_keys(rows: Rows, meant: Mapping[int, int]) -> Rows:
     changed = {name: getattr(rows, name) for name in ("key", "bid", "ask")}
     changed = {name: numpy.where(it >= 0, ids[it], it) for name, it in changed.items()}
     return dataclasses.replace(rows, **changed)
-
-
-def _form(name: str) -> str:
-    """An id with a 0 for each of its numbers."""
-    return re.sub(r"\d+", "0", name)
-
-
-def _look(name: str) -> str:
-    """An id with a 0 for each of its numbers, and an A for each of its words."""
-    return re.sub(r"[^\W\d_]+", "A", _form(name))
 
 
 def _retired(rows: Rows) -> dict[int, int]:

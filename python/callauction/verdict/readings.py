@@ -23,6 +23,7 @@ from callauction.verdict.mixed import (
 from callauction.verdict.names import (
     OTHER_IDS, have_other_ids, misentered, renamed, respelled,
 )  # fmt: skip
+from callauction.verdict.owners import Owners
 from callauction.verdict.phases import recorded_sums
 from callauction.verdict.reading import End
 from callauction.verdict.rows import (
@@ -164,6 +165,9 @@ def _changes(found: Judgement, judge: Judge) -> Iterator[list[Change]]:
     if rows.end is not None and rows.end.is_cut:
         why = f"the file ends within a line, and row {rows.end.label} may be cut"
         yield [_rows(functools.partial(_cut_off, rows.end), why)]
+    others = Owners(rows).told()
+    if others is not None:
+        yield [_rows(_with_owners, others[1])]
     spelled = respelled(rows) or renamed(rows, found) or misentered(rows, found)
     if spelled is not None:
         yield [_rows(functools.partial(_respelled, spelled[0]), spelled[1])]
@@ -265,6 +269,12 @@ def _priced(price: Codes, rows: Rows) -> Rows:
         "quantity": rows.quantity[these], "kept": rows.kept[these], "id": rows.new_id[these],
     })  # fmt: skip
     kind = rows.kind.copy()
+def _with_owners(rows: Rows) -> Rows:
+    """The rows with the members that orders' entries say."""
+    found = Owners(rows).told()
+    return rows if found is None else found[0]
+
+
     kind[these[frame.duplicated().to_numpy()]] = BAD
     return dataclasses.replace(rows, price=price, kind=kind)
 

@@ -1,0 +1,78 @@
+"""Lawful days in which the entry of an order has another member, or nobody's name: none is
+unlawful, and what no reading of that cell excuses is certain.
+"""
+import random
+from typing import Any
+
+import pytest
+from callauction.verdict import Reading, Verdict, audit_events
+from damage import timed_day, wrong_member
+from test_meeting_damages import rows_of
+from test_verdict import frame_of, judged
+
+SEEDS = range(16)
+
+
+def opening(text: str, members: dict[str, str], **cells: dict[str, str]) -> Verdict:
+    """The verdict on an opening of these lines; each row of an order, and each trade, has the
+    members that are said of its orders, but for these cells of rows by the names of places.
+    """
+    rows = rows_of(text)
+    for row in rows:
+        names = {"bid": "bid_member", "ask": "ask_member", "order": "member"}
+        row |= {names[it]: members[row[it]] for it in names if row.get(it) in members}
+    for name, other in cells.items():
+        rows[int(name.removeprefix("row"))] |= other
+    terms: dict[str, Any] = dict(reference="10", tick_size="0.01", auctions=["opening"])
+    return audit_events(frame_of(rows), reading=Reading(unrestricted=True), **terms)
+
+
+def test_a_day_with_another_member_in_an_entry_is_never_unlawful() -> None:
+    doubtful = 0
+    for seed in SEEDS:
+        extract = timed_day(seed)
+        wrong_member(random.Random(seed), extract.rows)
+        verdict = judged(extract)
+        assert verdict.word != "unlawful", f"{seed}\n{verdict}"
+        doubtful += any("is the first wrong?" in it.doubt for it in verdict.doubtful)
+    assert doubtful > 5
+
+
+DAY = """
+    new 08:50:01 A bid 100 10.00
+    new 08:50:02 B bid 50 10.00
+    new 08:50:03 S ask 100 10.00
+    replace 08:51 A bid 90 10.00
+    uncross 09:00 10.00 100 40 bid 2 opening
+    trade 09:00 A S 90 10.00 opening
+    trade 09:00 B S 10 10.00 opening
+"""
+MEMBERS = {"A": "ADLER", "B": "BIRK", "S": "COHN"}
+
+
+@pytest.mark.parametrize("name", ["BIRK", "ZENZ", "4711", "A D", "adl"])
+@pytest.mark.parametrize("row, order", [(0, "A"), (1, "B"), (2, "S")])
+def test_the_member_of_one_entry(row: int, order: str, name: str) -> None:
+    if MEMBERS[order] == name:
+        return
+    verdict = opening(DAY, MEMBERS, **{f"row{row}": {"member": name}})
+    assert verdict.word == "incomplete", str(verdict)
+    if order == "A":  # its replace isn't read, as another's
+        return
+    said = f"row {row} says that order {order!r} is {name}'s, and row "
+    assert all(said in it.doubt and "is the first wrong?" in it.doubt for it in verdict.doubtful)
+    other = DAY.replace("100 40 bid", "100 41 bid")
+    verdict = opening(other, MEMBERS, **{f"row{row}": {"member": name}})
+    assert [it.item for it in verdict.findings] == ["surplus"], str(verdict)
+
+
+@pytest.mark.parametrize("cells", [
+    {"row5": {"bid_member": "BIRK"}},  # A's replace is ADLER's
+    {"row6": {"ask_member": "BIRK"}},  # S's other trade is COHN's
+    {"row5": {"ask_member": "BIRK"}, "row6": {"ask_member": "ADLER"}},  # S's have two
+    {"row6": {"bid_member": "BIRK7"}},  # no one's, and unlike all names
+    {"row2": {"member": "ADLER"}, "row6": {"bid_member": "ADLER"}},  # of two orders' entries
+])  # fmt: skip
+def test_members_that_no_entry_explains_are_certain(cells: dict[str, dict[str, str]]) -> None:
+    verdict = opening(DAY, MEMBERS, **cells)
+    assert verdict.word == "unlawful", str(verdict)
