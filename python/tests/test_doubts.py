@@ -135,6 +135,7 @@ def test_a_lawful_day_with_several_damages_is_never_unlawful() -> None:
     ("unread order", "at the uncross"),
     ("unread trade", "paired otherwise"),
     ("corrected result", "unchanged prices"),
+    ("paired otherwise", "copied trade", "copied at once"),
     ("wrong member", "spelled otherwise"),
     ("ties", "wrong member"),
 ])  # fmt: skip

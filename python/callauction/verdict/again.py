@@ -1,6 +1,7 @@
 """Rows that are there twice: sent again, which are read once; and of trades those that may be so,
 for each side, copied, or amended by a later one. And rows that numbers of a sequence lack.
 """
+from collections import Counter
 from collections.abc import Sequence
 from typing import NamedTuple
 
@@ -9,8 +10,9 @@ import pandas
 
 from callauction.verdict import clocks
 from callauction.verdict.cells import Codes, Ints, Mask, numbered, paired_codes
-from callauction.verdict.columns import is_id, is_trade_id
+from callauction.verdict.columns import is_id, is_trade_id, is_unknown, look_of
 from callauction.verdict.judged import Judgement
+from callauction.verdict.phases import recorded_sums
 from callauction.verdict.rows import (
     BAD, CANCEL, FILL, MISSING, NEW, OF_ORDERS, OUTSIDE, REPLACE, SAID, STOPPED, TAKEN, TRADE,
     UNCROSS, BadRow, Doubt, Hole, Rows,
@@ -24,6 +26,8 @@ BEGINS = "the sequence begins above 1 (are rows cut off?), with"
 RARE = 20
 """Of so many numbers one is missing at most, or one of less, where none but a row's may be."""
 _MADE = (TRADE, FILL)
+TRIES = 2_000
+"""How many ways there are at most to leave copies out of an auction."""
 
 
 def drop_sent_again(rows: Rows, columns: Columns, sequence: Ints | None, lead: Codes) -> None:
@@ -146,16 +150,20 @@ def second_trades(rows: Rows) -> Ints:
 
 def copies(rows: Rows, judgement: Judgement) -> Ints:
     """The rows of trades and fills that are the same as one above, and those of cancels of some
-    shares that are; first those whose orders differ. Trades with ids of their own are none.
+    shares that are; first those whose orders differ. Trades with sure ids of their own are none.
     """
     parts = (rows.kind == CANCEL) & (rows.quantity > 0)
     made = numpy.union1d(rows.of(TRADE, FILL), numpy.flatnonzero(parts))
     names = ("kind", "time", "key", "bid", "ask", "quantity", "price", "state", "member",
              "bid_member", "ask_member")  # fmt: skip
     frame = pandas.DataFrame({name: getattr(rows, name)[made] for name in names})
+    content, unsure = frame.copy(), numpy.zeros(len(made), bool)
     for name in filter(is_trade_id, rows.names.unread):
         frame[f"unread {name}"] = rows.names.codes(made, name)
-    again = frame.duplicated().to_numpy()
+        unsure |= unsure_ids(rows, made, name)
+    last = numpy.argsort(unsure, kind="stable")
+    unsure[last] &= content.iloc[last].duplicated().to_numpy()
+    again = frame.duplicated().to_numpy() | unsure
     found: Ints = made[again]
     those = (each for it in judgement.uncrosses for each in it.differences)
     differing = [key for each in those for key in each.keys]
@@ -163,6 +171,76 @@ def copies(rows: Rows, judgement: Judgement) -> Ints:
     are = [(it < 0) | numpy.isin(it, differing) for it in keys]
     found = found[numpy.argsort(~numpy.all(are, axis=0), kind="stable")]
     return found
+
+
+def unsure_ids(rows: Rows, made: Ints, name: str) -> Mask:
+    """Which of these rows have an id of a trade that may be another's: a word for none, one that
+    looks as none of the others does, which are alike, or where each other id has several rows, one
+    of two that have one row each.
+    """
+    gone = numpy.flatnonzero((rows.kind == BAD) & (rows.bid >= 0))
+    codes, texts = rows.names.texts(numpy.concatenate([made, gone]), name)
+    known = codes >= 0
+    if not texts:
+        return ~known[: len(made)]
+    looks = [look_of(text) for text in texts]
+    ((look, count),) = Counter(looks).most_common(1)
+    is_alike = len(texts) - count <= max(1, len(texts) // RARE)
+    odd = [is_unknown(text) or is_alike and own != look for text, own in zip(texts, looks)]
+    is_lone = numpy.bincount(codes[known], minlength=len(texts)) == 1
+    are_odd = numpy.array(odd) | is_lone & (is_lone.sum() == 2) & (len(texts) > 3)
+    found: Mask = ~known | numpy.append(are_odd, False)[codes]
+    return found[: len(made)]
+
+
+def too_many(rows: Rows, judgement: Judgement, those: Ints) -> Ints:
+    """Those copies without which each order of their auctions has its lawful shares; none where
+    there are no such ones.
+    """
+    found = []
+    for judged in judgement.uncrosses:
+        made = judged.traded if len(judged.traded) else judged.filled
+        own = those[numpy.isin(those, made)]
+        if judged.result is None or not len(own):
+            continue
+        done = recorded_sums(rows, judged.traded, judged.filled).by_key()
+        due = judged.result.fills.by_key()
+        excess = {key: done.get(key, 0) - due.get(key, 0) for key in {*done, *due}}
+        gone = _without(rows, own.tolist(), {key: it for key, it in excess.items() if it}, [TRIES])
+        found += gone or []
+    return numpy.array(sorted(found), "i8")
+
+
+def _without(
+    rows: Rows, those: list[int], excess: dict[int, int], tries: list[int]
+) -> list[int] | None:
+    """Rows which together have these shares of each order; None where none have, or there are too
+    many ways to try.
+    """
+    if not excess:
+        return []
+    tries[0] -= 1
+    if tries[0] < 0 or min(excess.values()) < 0:
+        return None
+    key = next(iter(excess))
+    for at, place in enumerate(those):
+        keys = _keys(rows, place)
+        shares = int(rows.quantity[place])
+        if key not in keys or any(excess.get(it, 0) < shares for it in keys):
+            continue
+        left = {it: more - shares * (it in keys) for it, more in excess.items()}
+        rest = [*those[:at], *those[at + 1 :]]
+        found = _without(rows, rest, {it: more for it, more in left.items() if more}, tries)
+        if found is not None:
+            return [place, *found]
+    return None
+
+
+def _keys(rows: Rows, place: int) -> set[int]:
+    """The orders of a trade or a fill."""
+    if rows.kind[place] == TRADE:
+        return {int(rows.bid[place]), int(rows.ask[place])}
+    return {int(rows.key[place])}
 
 
 def amended(rows: Rows) -> tuple[Ints, str]:

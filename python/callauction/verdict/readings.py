@@ -9,7 +9,7 @@ import pandas
 
 from callauction.course import Watch
 from callauction.verdict import clocks
-from callauction.verdict.again import amended, copies, second_trades
+from callauction.verdict.again import amended, copies, second_trades, too_many
 from callauction.verdict.cells import Codes, Ints
 from callauction.verdict.comparing import Difference, Fill, Trade, doubted
 from callauction.verdict.doubts import MOST_FALLS
@@ -150,14 +150,9 @@ def _changes(found: Judgement, judge: Judge) -> Iterator[list[Change]]:
     ways = [functools.partial(with_names, due=rules.due, way=it)
             for it in namings(found, rows, rules)]  # fmt: skip
     yield [_rows(way, UNNAMED) for way in ways]
-    those = copies(rows, found)
-    is_second = numpy.isin(those, again)
-    those = those[numpy.argsort(is_second, kind="stable")]
-    single = [those[at : at + 1] for at in range(len(those))] if len(those) > 1 else []
-    has_others = not is_second.all()
     yield [
         _without_rows(rows, each, f"row {rows.labels[each[0]]} is there twice: is it one?")
-        for each in ([those] * has_others + single)[:5]
+        for each in _copies(found, rows, again)
     ]
     earlier, why = amended(rows)
     if len(earlier):
@@ -165,14 +160,14 @@ def _changes(found: Judgement, judge: Judge) -> Iterator[list[Change]]:
     if rows.end is not None and rows.end.is_cut:
         why = f"the file ends within a line, and row {rows.end.label} may be cut"
         yield [_rows(functools.partial(_cut_off, rows.end), why)]
-    others = Owners(rows).told()
-    if others is not None:
-        yield [_rows(_with_owners, others[1])]
     spelled = respelled(rows) or renamed(rows, found) or misentered(rows, found)
     if spelled is not None:
         yield [_rows(functools.partial(_respelled, spelled[0]), spelled[1])]
     elif have_other_ids(rows, found):
         yield [_without_rows(rows, rows.of(TRADE, FILL), OTHER_IDS)]
+    others = Owners(rows).told()
+    if others is not None:
+        yield [_rows(_with_owners, others[1])]
     price = _filled_prices(rows)
     if price is not None:
         unchanged = functools.partial(_priced, price)
@@ -193,6 +188,20 @@ def _changes(found: Judgement, judge: Judge) -> Iterator[list[Change]]:
     why = why_two_units(rows, rules.reference)
     if why:  # the last, as prices have other numbers then
         yield [_rows(functools.partial(in_one_unit, reference=rules.reference), why)]
+
+
+def _copies(found: Judgement, rows: Rows, again: Ints) -> list[Ints]:
+    """Rows that may be copies, but for those that are second ones of each trade: first those that
+    are too many of their orders, then all, then one alone.
+    """
+    those = copies(rows, found)
+    extra = too_many(rows, found, those)
+    is_second = numpy.isin(those, again)
+    those = those[numpy.argsort(is_second, kind="stable")]
+    single = [those[at : at + 1] for at in range(len(those))] if len(those) > 1 else []
+    has_others = not is_second.all()
+    is_part = 1 < len(extra) < len(those)
+    return [extra] * is_part + ([those] * has_others + single)[:5]
 
 
 def _rows(change: Callable[[Rows], Rows], why: str) -> Change:
@@ -260,6 +269,12 @@ def _respelled(other: Rows, rows: Rows) -> Rows:
     return dataclasses.replace(rows, kind=kind, bad=bad, **changed)
 
 
+def _with_owners(rows: Rows) -> Rows:
+    """The rows with the members that orders' entries say."""
+    found = Owners(rows).told()
+    return rows if found is None else found[0]
+
+
 def _priced(price: Codes, rows: Rows) -> Rows:
     """The rows with these prices, without replaces that repeat one of their order and time then."""
     price = numpy.where((rows.kind == NEW) | (rows.kind == REPLACE), price, rows.price)
@@ -269,12 +284,6 @@ def _priced(price: Codes, rows: Rows) -> Rows:
         "quantity": rows.quantity[these], "kept": rows.kept[these], "id": rows.new_id[these],
     })  # fmt: skip
     kind = rows.kind.copy()
-def _with_owners(rows: Rows) -> Rows:
-    """The rows with the members that orders' entries say."""
-    found = Owners(rows).told()
-    return rows if found is None else found[0]
-
-
     kind[these[frame.duplicated().to_numpy()]] = BAD
     return dataclasses.replace(rows, price=price, kind=kind)
 

@@ -180,8 +180,12 @@ class Names:
 
     def codes(self, places: Ints, column: str) -> Codes:
         """A number for each distinct text of rows in a column of the table's, -1 for none."""
+        return self.texts(places, column)[0]
+
+    def texts(self, places: Ints, column: str) -> tuple[Codes, list[str]]:
+        """The same, and the texts."""
         at = places if self.places is None else self.places[places]
-        return self.source.take(at + self.begin).cells(column).texts()[0]
+        return self.source.take(at + self.begin).cells(column).texts()
 
     def _cell(self, row: int, column: str) -> str:
         return self.source.take(numpy.array([row])).cells(column).text(0)
