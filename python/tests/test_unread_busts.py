@@ -1,11 +1,12 @@
 """Trades that are wrong beside rows that may take them out or correct them and can't be read: each
 such row explains one trade, and no more.
 """
+import collections
 import random
 
 import pytest
 from callauction.verdict import Verdict
-from damage import UNREADABLE, places, timed_day
+from damage import DAMAGES, UNREADABLE, places, timed_day
 from extracts import Extract, Rows
 from test_doubts import DAYS, SEEDS
 from test_verdict import judged
@@ -136,4 +137,74 @@ def test_a_fault_before_such_a_row_is_certain() -> None:
             result = next(row for row in found[0].rows if row.get("trades", "0") not in ("0", ""))
             result["surplus"] = str(int(result["surplus"]) + 1)
             assert judged(found[0]).word == "unlawful", f"{seed}\n{judged(found[0])}"
+    assert count > 3
+
+
+# ---- an auction's trades at two prices
+
+
+def at_two_prices(seed: int) -> tuple[Extract, dict[str, str]] | None:
+    """A day with a trade at another price than two others of its auction, and that trade."""
+    extract, chance = timed_day(seed, 20), random.Random(seed)
+    made = [extract.rows[at] for at in places(extract.rows, "trade")]
+    counts = collections.Counter(row["auction"] for row in made)
+    those = [row for row in made if counts[row["auction"]] > 2]
+    if not those:
+        return None
+    row = chance.choice(those)
+    row["price"] = f"{float(row['price']) + chance.choice([-0.02, 0.01, 0.03]):.2f}"
+    return extract, row
+
+
+def are_two(extract: Extract, odd: dict[str, str]) -> bool:
+    """Whether a trade is still there beside another one of its auction that is read."""
+    own = [row for row in extract.rows if row["event"] == "trade" and row is not odd
+           and row.get("auction") == odd["auction"] and row["price"] != odd["price"]
+           and UNREADABLE not in row.values()]  # fmt: skip
+    return bool(own) and any(row is odd for row in extract.rows) and UNREADABLE not in odd.values()
+
+
+@pytest.mark.parametrize("name", [
+    "unread order", "unread trade", "unread result", "missing entry", "missing head",
+    "missing rows", "missing uncross", "stray cancel", "unread time", "wrong member",
+])  # fmt: skip
+def test_trades_at_two_prices_are_certain_whatever_is_not_read(name: str) -> None:
+    count = 0
+    for seed in SEEDS[:15]:
+        found = at_two_prices(seed)
+        if found is None or DAMAGES[name](random.Random(seed), found[0].rows) is None:
+            continue
+        if are_two(*found):
+            count += 1
+            verdict = judged(found[0])
+            assert verdict.word == "unlawful", f"{seed}\n{verdict}"
+            places_of = [at for at, row in enumerate(found[0].rows) if row is found[1]]
+            assert any({*places_of} & {*it.rows} for it in verdict.findings), f"{seed}\n{verdict}"
+    assert count > 3
+
+
+@pytest.mark.parametrize("named", [("bid", "ask"), ("bid",), ("ask",), ()])
+@pytest.mark.parametrize("is_own", [True, False])
+def test_an_unread_bust_excuses_a_trade_at_another_price_that_it_may_be_of(
+    named: tuple[str, ...], is_own: bool
+) -> None:
+    """One that names its orders, or one of them, or none; of other orders it excuses nothing."""
+    count = 0
+    for seed in SEEDS[:15]:
+        found = at_two_prices(seed)
+        if found is None:
+            continue
+        extract, odd = found
+        others = [extract.rows[at] for at in places(extract.rows, "trade")
+                  if {odd["bid"], odd["ask"]}.isdisjoint(
+                      {extract.rows[at]["bid"], extract.rows[at]["ask"]})]  # fmt: skip
+        if not others:
+            continue
+        count += 1
+        one = odd if is_own else others[0]
+        bust = {**one, "event": "bust", "quantity": UNREADABLE, "time": odd["time"]}
+        bust |= {side: "?" for side in ("bid", "ask") if side not in named}
+        extract.rows.insert(extract.rows.index(odd) + 1, bust)
+        word = "incomplete" if is_own or not named else "unlawful"
+        assert judged(extract).word == word, f"{seed}\n{judged(extract)}"
     assert count > 3

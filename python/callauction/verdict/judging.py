@@ -29,8 +29,8 @@ from callauction.verdict.phases import (
     uncross,
 )  # fmt: skip
 from callauction.verdict.rows import (
-    CANCEL, FILL, MISSING, NEW, NO_PRICE, OF_ORDERS, OWN, STATES, STOPPED, TRADE, UNCROSS, BadRow,
-    Rows,
+    BAD, CANCEL, FILL, MISSING, NEW, NO_PRICE, OF_ORDERS, OWN, STATES, STOPPED, TRADE, UNCROSS,
+    BadRow, Rows,
 )  # fmt: skip
 from callauction.words import AUCTIONS
 
@@ -48,6 +48,8 @@ MOST_MOMENTS = 25
 """How many moments are tried for an uncross that seems to be at a wrong one."""
 MOST_PATHS = 12
 """How many courses of a day are followed at a time."""
+UNNAMED = (BAD, MISSING, 0)
+"""What a row says of its auction where it names none."""
 Mark = tuple[object, ...]
 """By what a difference is known in another judgement."""
 CANCELLED = (
@@ -702,9 +704,12 @@ class Judge:
         return Judgement(judged, due, tuple(bad), +notes, self.has_trades, self.has_fills)
 
     def _at_two_prices(self, judged: Sequence[Judged]) -> Iterator[Judged]:
-        """Auctions without a row uncross whose trades, which name them, are at two prices."""
+        """Auctions without a row uncross whose trades, which name them, are at two prices; one of
+        another name is none of theirs.
+        """
         made, state = self.rows.of(TRADE, FILL), self.rows.state
-        for auction in sorted({*self.due} - {each.auction for each in judged}):
+        held = {it.auction for it in judged if state[it.place] in (*UNNAMED, 1 + it.auction)}
+        for auction in sorted({*self.due} - held):
             own = made[state[made] == 1 + auction]
             found = [*self.contradictions.prices(int(own[0]), own)] if len(own) else []
             found = [each for each in found if each.rule == ONE_PRICE]
