@@ -165,7 +165,7 @@ def _changes(found: Judgement, judge: Judge) -> Iterator[list[Change]]:
         yield [_rows(functools.partial(_respelled, spelled[0]), spelled[1])]
     elif have_other_ids(rows, found):
         yield [_without_rows(rows, rows.of(TRADE, FILL), OTHER_IDS)]
-    others = Owners(rows).told()
+    others = Owners(rows if spelled is None else spelled[0]).told()
     if others is not None:
         yield [_rows(_with_owners, others[1])]
     price = _filled_prices(rows)
