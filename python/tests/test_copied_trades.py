@@ -110,3 +110,43 @@ def test_two_copies_among_trades_of_one_pair() -> None:
     assert verdict.word == "incomplete" and "is there twice: is it one?" in str(verdict)
     other = day.replace("70 10.00\n", "60 10.00\n").replace("10.00 70", "10.00 60")
     assert judged_lines(other, auctions=["opening"]).word == "unlawful"
+
+
+def test_the_copies_are_those_without_which_the_published_count_is_right() -> None:
+    """Two trades of 10 are there twice; a trade of 20 has as many shares."""
+    day = """
+        new 08:50:01 A bid 60 10.00
+        new 08:50:03 S ask 60 10.00
+        uncross 09:00 10.00 60 0 none 4 opening
+        trade 09:00 A S 20 10.00 opening
+        trade 09:00 A S 20 10.00 opening
+        trade 09:00 A S 10 10.00 opening
+        trade 09:00 A S 10 10.00 opening
+        trade 09:00 A S 10 10.00 opening
+        trade 09:00 A S 10 10.00 opening
+    """
+    verdict = judged_lines(day, auctions=["opening"])
+    assert verdict.word == "incomplete", str(verdict)
+    other = day.replace("60 0 none 4", "60 0 none 2")
+    assert judged_lines(other, auctions=["opening"]).word == "unlawful"
+
+
+def test_a_copied_cancel_beside_a_copied_trade_and_two_equal_ones() -> None:
+    """A has 20 after one cancel of 10, and two trades of 10; B's trade is there twice."""
+    day = """
+        new 08:50:01 A bid 30 10.00
+        new 08:50:02 B bid 20 10.00
+        new 08:50:03 S ask 40 10.00
+        cancel 08:55 A 10
+        new 08:56 C bid 5 9.00
+        cancel 08:55 A 10
+        uncross 09:00 10.00 40 0 none 3 opening
+        trade 09:00 A S 10 10.00 opening
+        trade 09:00 A S 10 10.00 opening
+        trade 09:00 B S 20 10.00 opening
+        trade 09:00 B S 20 10.00 opening
+    """
+    verdict = judged_lines(day, auctions=["opening"])
+    assert verdict.word == "incomplete", str(verdict)
+    verdict = judged_lines(day.replace("09:00 10.00 40", "09:00 10.01 40"), auctions=["opening"])
+    assert [it.item for it in verdict.findings] == ["price"], str(verdict)

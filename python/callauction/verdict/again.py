@@ -194,33 +194,38 @@ def unsure_ids(rows: Rows, made: Ints, name: str) -> Mask:
 
 
 def too_many(rows: Rows, judgement: Judgement, those: Ints) -> Ints:
-    """Those copies without which each order of their auctions has its lawful shares; none where
-    there are no such ones.
+    """Those copies without which each order of their auctions has its lawful shares, but for trades
+    that may be none, and best as many trades as are published are left; none where there are no
+    such ones.
     """
     found = []
     for judged in judgement.uncrosses:
-        made = judged.traded if len(judged.traded) else judged.filled
-        own = those[numpy.isin(those, made)]
-        if judged.result is None or not len(own):
+        odd = (it for it in judged.differences if it.doubt and it.lawful is None)
+        strays = [place for it in odd for place in it.places]
+        traded, filled = (it[~numpy.isin(it, strays)] for it in (judged.traded, judged.filled))
+        own = those[numpy.isin(those, traded if len(traded) else filled)].tolist()
+        if judged.result is None or not own:
             continue
-        done = recorded_sums(rows, judged.traded, judged.filled).by_key()
+        done = recorded_sums(rows, traded, filled).by_key()
         due = judged.result.fills.by_key()
         excess = {key: done.get(key, 0) - due.get(key, 0) for key in {*done, *due}}
-        gone = _without(rows, own.tolist(), {key: it for key, it in excess.items() if it}, [TRIES])
-        found += gone or []
+        excess = {key: it for key, it in excess.items() if it}
+        many = len(traded) - int(rows.count[judged.place])
+        found += _without(rows, own, excess, [TRIES], many) or (
+            _without(rows, own, excess, [TRIES]) or [])  # fmt: skip
     return numpy.array(sorted(found), "i8")
 
 
 def _without(
-    rows: Rows, those: list[int], excess: dict[int, int], tries: list[int]
+    rows: Rows, those: list[int], excess: dict[int, int], tries: list[int], many: int | None = None
 ) -> list[int] | None:
-    """Rows which together have these shares of each order; None where none have, or there are too
-    many ways to try.
+    """Rows, so many or any number, which together have these shares of each order; None where none
+    have, or there are too many ways to try.
     """
     if not excess:
-        return []
+        return None if many else []
     tries[0] -= 1
-    if tries[0] < 0 or min(excess.values()) < 0:
+    if tries[0] < 0 or min(excess.values()) < 0 or many is not None and many <= 0:
         return None
     key = next(iter(excess))
     for at, place in enumerate(those):
@@ -229,8 +234,9 @@ def _without(
         if key not in keys or any(excess.get(it, 0) < shares for it in keys):
             continue
         left = {it: more - shares * (it in keys) for it, more in excess.items()}
+        left = {it: more for it, more in left.items() if more}
         rest = [*those[:at], *those[at + 1 :]]
-        found = _without(rows, rest, {it: more for it, more in left.items() if more}, tries)
+        found = _without(rows, rest, left, tries, None if many is None else many - 1)
         if found is not None:
             return [place, *found]
     return None

@@ -27,7 +27,7 @@ from callauction.verdict.owners import Owners
 from callauction.verdict.phases import recorded_sums
 from callauction.verdict.reading import End
 from callauction.verdict.rows import (
-    BAD, FILL, INTERRUPTED, MARKET, NEW, OF_ORDERS, REPLACE, TRADE, UNCROSS, Doubt, Rows,
+    BAD, CANCEL, FILL, INTERRUPTED, MARKET, NEW, OF_ORDERS, REPLACE, TRADE, UNCROSS, Doubt, Rows,
 )  # fmt: skip
 from callauction.verdict.totals import Totals
 from callauction.verdict.units import in_one_unit, in_shares, lot_of, why_two_units
@@ -152,7 +152,7 @@ def _changes(found: Judgement, judge: Judge) -> Iterator[list[Change]]:
     yield [_rows(way, UNNAMED) for way in ways]
     yield [
         _without_rows(rows, each, f"row {rows.labels[each[0]]} is there twice: is it one?")
-        for each in _copies(found, rows, again)
+        for each in _copies(found, judge, again)
     ]
     earlier, why = amended(rows)
     if len(earlier):
@@ -190,18 +190,29 @@ def _changes(found: Judgement, judge: Judge) -> Iterator[list[Change]]:
         yield [_rows(functools.partial(in_one_unit, reference=rules.reference), why)]
 
 
-def _copies(found: Judgement, rows: Rows, again: Ints) -> list[Ints]:
+def _copies(found: Judgement, judge: Judge, again: Ints) -> list[Ints]:
     """Rows that may be copies, but for those that are second ones of each trade: first those that
     are too many of their orders, then all, then one alone.
     """
-    those = copies(rows, found)
-    extra = too_many(rows, found, those)
+    those = copies(judge.rows, found)
+    extra = _too_many(found, judge, those)
     is_second = numpy.isin(those, again)
     those = those[numpy.argsort(is_second, kind="stable")]
     single = [those[at : at + 1] for at in range(len(those))] if len(those) > 1 else []
     has_others = not is_second.all()
-    is_part = 1 < len(extra) < len(those)
+    is_part = 0 < len(extra) < len(those)
     return [extra] * is_part + ([those] * has_others + single)[:5]
+
+
+def _too_many(found: Judgement, judge: Judge, those: Ints) -> Ints:
+    """The copies of cancels, and of trades those that are too many of their orders without them."""
+    rows, rules = judge.rows, judge.rules
+    cancels = those[rows.kind[those] == CANCEL]
+    if not 0 < len(cancels) < len(those):
+        return too_many(rows, found, those)
+    rows, rules = _without_rows(rows, cancels, "")[0]((rows, rules))
+    extra = too_many(rows, Judge(rows, rules).judge(), those)
+    return numpy.concatenate([cancels, extra])
 
 
 def _rows(change: Callable[[Rows], Rows], why: str) -> Change:
