@@ -279,7 +279,7 @@ def corrected_result(chance: random.Random, rows: Rows) -> int | None:
     of its auction, or no result has one.
     """
     ends = [at for at in places(rows, "uncross") if rows[at].get("trades", "0") != "0"]
-    ends = [at for at in ends if rows[at].get("price", "n/a") != "n/a"]
+    ends = [at for at in ends if rows[at].get("price", "n/a") not in ("n/a", UNREADABLE)]
     place = some(chance, ends)
     if place is None or any(row.get("auction") == "interrupted" for row in rows):
         return None
@@ -363,7 +363,7 @@ def in_cents(chance: random.Random, rows: Rows) -> int | None:
     """The prices of some rows are in cents, those of others in euros."""
     events = chance.choice([("new", "replace"), ("uncross",), ("trade",)])
     priced = [at for at in places(rows, *events) if rows[at].get("price", "n/a") != "n/a"]
-    priced = [at for at in priced if rows[at]["price"] not in ("?", "1e3")]
+    priced = [at for at in priced if rows[at]["price"] not in ("?", "1e3", UNREADABLE)]
     for place in priced:
         rows[place]["price"] = f"{float(rows[place]['price']) * 100:g}"
     return min(priced, default=None)
