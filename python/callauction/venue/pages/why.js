@@ -47,9 +47,20 @@ function mostText(names, volume) {
 
 function decidedBy({ rule, price: at, reference }, best) {
   if (rule === "highest" || rule === "lowest") return [text(`why_${rule}`, price(at))];
-  if (rule !== "reference") return [];
-  const isLimit = best.some((it) => it.price === at);
-  if (!isLimit) return [text("why_at", price(reference))];
-  if (Number(reference) === Number(at)) return [text("why_is", price(reference))];
-  return [text(Number(reference) > Number(at) ? "why_above" : "why_below", price(reference), price(at))];
+  return rule === "reference" ? byReference(best, reference) : [];
+}
+
+// Two limits are kept, by the side of what is left over, and the reference chooses. The best limits come
+// from the lowest up.
+function byReference(best, reference) {
+  const lower = best.findLast((it) => it.side === "bid"), upper = best.find((it) => it.side === "ask");
+  const hasSides = lower && upper, [low, high] = hasSides ? [lower, upper] : [best[0], best.at(-1)];
+  const sides = hasSides ? [text("why_sides", price(low.price), price(high.price))] : [];
+  return [...sides, chosenText(Number(reference), reference, low.price, high.price)];
+}
+
+function chosenText(number, reference, low, high) {
+  if (number >= Number(high)) return text("why_above", price(reference), price(high));
+  if (number <= Number(low)) return text("why_below", price(reference), price(low));
+  return text("why_at", price(reference));
 }
