@@ -81,11 +81,12 @@ const MOST_NAMES = 12;
 const listed = (names) => (names.length <= MOST_NAMES ? names.join(", ")
   : text("and_more", names.slice(0, MOST_NAMES).join(", "), names.length - MOST_NAMES));
 
-// Who gets a new value and who keeps its own, where a question is asked before that is done.
-export function losingText({ to }, { gets, keeps }) {
-  if (to === "all") return text("give_asks_help");
+// Who gets a new value and who keeps its own, where a question is asked before that is done; `whose` names
+// the instrument where there are several.
+export function losingText({ to }, { gets, keeps }, whose) {
+  if (to === "all") return text("give_asks_help", whose);
   const rest = keeps.length ? text("give_keeps", listed(keeps)) : text("give_keeps_none");
-  return `${text("give_gets", listed(gets))} ${rest}`;
+  return `${text("give_gets", listed(gets), whose)} ${rest}`;
 }
 
 // The form by which the teacher hands out values now. `act` does what is asked for.

@@ -61,9 +61,11 @@ export class People {
     return this.members.filter((it) => !it.is_removed && !it.robot && !it.is_here);
   }
 
-  // `hasBegun` says whether the values of the round are handed out.
-  draw(chosen, hasBegun = this.hasBegun) {
-    Object.assign(this, { chosen, hasBegun });
+  // `hasBegun` says whether the values of the round are handed out; `title` is the instrument's where there are
+  // several.
+  draw(chosen, hasBegun = this.hasBegun, title = this.title) {
+    Object.assign(this, { chosen, hasBegun, title });
+    for (const key of ["values", "gains"]) put(document.querySelector(`#members [data-text=${key}]`), this.headOf(key));
     const there = this.members.filter((it) => !it.is_removed), here = there.filter((it) => it.is_here);
     this.drawArrivals(there.length);
     put(find("door"), text(this.isOpen ? "close_door" : "open_door"));
@@ -95,11 +97,15 @@ export class People {
     return [
       { number: it.rank, label: text("rank") }, { text: it.name, classes: "name" },
       { text: status, classes: it.is_here && !it.is_removed ? "good" : "soft" }, value,
-      { number: it.gain == null ? "" : price(it.gain), label: text("gains") },
+      { number: it.gain == null ? "" : price(it.gain), label: this.headOf("gains") },
       { text: Object.hasOwn(this.codes, it.name) ? this.codes[it.name] : "", classes: "own-code" },
       { number: shares(it.group), label: text("group"), classes: "group" },
       { classes: "doing", buttons: it.robot ? [back] : buttons },
     ];
+  }
+
+  headOf(key) {
+    return this.title ? text("head_of", text(key), this.title) : text(key);
   }
 
   markSorted(head) {
@@ -148,7 +154,13 @@ export class People {
   }
 }
 
-// What a member has of a board; of another one where it is in another group.
-const valueOf = (it, chosen) => it.values[chosen] ?? Object.values(it.values)[0] ?? {};
+// The instrument of a board, whose name has the number of its group behind it.
+export const marketOf = (name) => name.replace(/\.\d+$/, "");
+
+// What a member has of an instrument, on the board of its own group.
+function valueOf(it, chosen) {
+  const own = Object.keys(it.values).find((name) => marketOf(name) === marketOf(chosen));
+  return it.values[own] ?? {};
+}
 
 const valueText = ({ side, quantity, price: worth }) => `${text(side)} ${shares(quantity)} · ${price(worth)}`;

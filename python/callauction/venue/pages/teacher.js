@@ -7,7 +7,7 @@ import {
 import { Connection } from "./connection.js";
 import { Handing, losingText } from "./handing.js";
 import { bookPicture } from "./pictures.js";
-import { People } from "./people.js";
+import { marketOf, People } from "./people.js";
 import { RoundForm } from "./roundform.js";
 import { roundText } from "./rounds.js";
 import { fill } from "./rows.js";
@@ -22,6 +22,13 @@ const said = { state: {}, ladder: {}, trades: {}, efficiency: {}, course: {} };
 let terms = [], chosen = "", token = "", lostAt = null, isOpen = false, round = null, stepped = null;
 
 const term = () => terms.find((it) => it.name === chosen);
+
+// The title of what is chosen, for all groups, where the day has several instruments; else empty.
+function marketTitle() {
+  if (new Set(terms.map((it) => marketOf(it.name))).size < 2) return "";
+  return round?.groups > 1 ? term().title.replace(/ · \d+$/, "") : term().title;
+}
+
 const handing = new Handing(term, act);
 const roundForm = new RoundForm(term, act);
 const people = new People(act);
@@ -44,7 +51,7 @@ function draw() {
   drawOutcome(state);
   drawBook(state);
   drawRound(state);
-  people.draw(chosen, round?.begun);
+  people.draw(chosen, round?.begun, marketTitle());
   handing.fields.draw();
 }
 
@@ -195,7 +202,8 @@ function close() {
 // ---- what is done
 
 async function asksToReplace(body, fault) {
-  return await asks(text("give_asks"), losingText(body, fault), text("give_now")) && { replace: true };
+  const title = marketTitle(), whose = title && text("of_instrument", title);
+  return await asks(text("give_asks", whose), losingText(body, fault, whose), text("give_now")) && { replace: true };
 }
 
 // Whether to begin a round though it isn't known what boards of this one have.
