@@ -7,6 +7,7 @@ from collections.abc import Iterator
 import pytest
 import served
 from browsing import SCREEN, Page, opened
+from callauction.venue import Client, VenueError
 from conftest import FAST
 
 DAY = FAST + """
@@ -92,3 +93,25 @@ def test_of_one_instrument_nothing_is_named(tmp_path: pathlib.Path) -> None:
             page.clicks("#tab-class")
             page.waits(lambda it: len(it.rows("members")) == 1)
             assert heads(page) == ["Value", "Gain"] and not page.shows("choosing")
+
+
+def test_shares_and_money_are_of_each_instrument(lesson: tuple[served.Served, Page]) -> None:
+    """Each may sell ten of the one and ten of the other, at any price where the value covers it."""
+    venue, page = lesson
+    treatment = {"values": "keep", "shares": 10, "money": "50.00", "covered": True}
+    venue.do("treat", treatment=treatment)
+    page.clicks("#tab-rounds")
+    page.waits(lambda it: it.text("this-treatment") == (
+        "The book is closed. Orders on the other side than one's value, or of more shares than it "
+        "has, are refused; its price is no limit. Each may sell 10 shares of each instrument at "
+        "most. Each may spend 50.00 EUR in each instrument at most."))
+    carl = venue.join("Carl")
+    values = [{"member": "Carl", "side": "ask", "price": "3.00", "quantity": 20}]
+    for name in ("TEA", "RICE"):
+        venue.do("give", instrument=name, values=values, replace=True)
+        venue.do("start", instrument=name)
+    with Client(venue.url, carl) as me:
+        for name in ("TEA", "RICE"):
+            assert me.enter("ask", 10, "1.00", instrument=name).reply == "entered 1"
+            with pytest.raises(VenueError, match="at most 0 shares more"):
+                me.enter("ask", 1, "1.00", instrument=name)

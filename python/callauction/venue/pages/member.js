@@ -83,7 +83,7 @@ function drawRound() {
   if (!round) return;
   const isPlain = round.round === 1 && !round.title && !round.practice;
   const group = round.groups > 1 ? text("your_group", term()?.title) : "";
-  const parts = [isPlain ? "" : `${roundText(round)}.`, ...treatmentTexts(round, term()), group];
+  const parts = [isPlain ? "" : `${roundText(round)}.`, ...treatmentTexts(round, term(), terms.length > 1), group];
   put(find("round"), parts.filter(Boolean).join(" "));
   put(find("message"), round.message);
   if (round.book === "open" && isKnown(shown("states"))) {

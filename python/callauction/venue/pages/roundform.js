@@ -41,10 +41,12 @@ export class RoundForm {
     this.fields.draw();
   }
 
-  draw(isBetween) {
+  // `hasSeveral` says whether there are several instruments.
+  draw(isBetween, hasSeveral) {
+    this.hasSeveral = hasSeveral;
     if (!this.round) return;
     put(find("this-round"), roundText(this.round));
-    put(find("this-treatment"), treatmentTexts(this.round, this.term()).join(" "));
+    put(find("this-treatment"), treatmentTexts(this.round, this.term(), this.hasSeveral).join(" "));
     put(find("next-head"), text("next_round", this.round.round + 1));
     put(find("begin-next"), text("begin_round", this.round.round + 1));
     for (const id of ["next-round", "begin-next"]) disable(find(id), !isBetween);

@@ -6,13 +6,15 @@ export function roundText({ round, title, practice }) {
   return [text("round", round), title, practice ? text("practice") : ""].filter(Boolean).join(" · ");
 }
 
-// What members may see and do in a round, a sentence each.
-export function treatmentTexts(found, terms) {
+// What members may see and do in a round, a sentence each; with several instruments what is limited is limited
+// in each.
+export function treatmentTexts(found, terms, hasSeveral) {
+  const limit = hasSeveral ? "of_each" : "says";
   return [
     text(found.book === "open" ? "book_open" : "book_closed"),
     found.covered && text("covered_says"),
     !found.own_trades && text("own_trades_says"),
-    found.shares !== null && text("shares_says", shares(found.shares)),
-    found.money && text("money_says", money(found.money, terms)),
+    found.shares !== null && text(`shares_${limit}`, shares(found.shares)),
+    found.money && text(`money_${limit}`, money(found.money, terms)),
   ].filter(Boolean);
 }

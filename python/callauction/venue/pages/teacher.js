@@ -83,7 +83,7 @@ function drawRound(state) {
   hide(find("message"), !round.message);
   put(find("message"), round.message);
   hide(find("shows-open"), round.book !== "open");
-  roundForm.draw(["waiting", "over"].includes(state.phase) && !isOfVenue(state.halted));
+  roundForm.draw(["waiting", "over"].includes(state.phase) && !isOfVenue(state.halted), marketTitle() !== "");
 }
 
 function drawSteps(state, hasHalted) {
