@@ -182,8 +182,49 @@ def test_a_value_of_a_list_that_cant_be(tmp_path: pathlib.Path, price: str, faul
     row = "[[round]]\nvalues = 'list'\nfile = '{}'\n"
     with pytest.raises(ConfigError) as found:
         read(tmp_path, row.format("first.csv") + row.format("second.csv"))
-    where = f"{tmp_path}/day.toml: round 2: file second.csv: Ann: "
+    where = f"{tmp_path}/day.toml: round 2: file second.csv: line 3: Ann: "
     assert str(found.value) == where + fault
+
+
+def fault_of_list(folder: pathlib.Path, text: str, day: str = "") -> str:
+    """Why a day is refused whose second round has this list, from behind the list's name on."""
+    (folder / "values.csv").write_text(text)
+    rows = "[[round]]\n[[round]]\nvalues = 'list'\nfile = 'values.csv'\n"
+    with pytest.raises(ConfigError) as found:
+        read(folder, rows + day)
+    return str(found.value).removeprefix(f"{folder}/day.toml: round 2: file values.csv: ")
+
+
+def test_a_price_of_a_list_that_one_of_several_instruments_cant_have(
+    tmp_path: pathlib.Path,
+) -> None:
+    """One list goes to all of them."""
+    day = "[[instrument]]\nname = 'TEA'\n[[instrument]]\nname = 'RICE'\ntick_size = '0.05'\n"
+    fault = fault_of_list(tmp_path, "name,side,price,quantity\n\nAnn,bid,1.05,5\nBob,ask,1.02,5\n",
+                          day)  # fmt: skip
+    assert fault == "line 4: Bob: RICE: the price 1.02 is no multiple of the tick size 0.05"
+
+
+@pytest.mark.parametrize("text, fault", [
+    ("name,side,price,quantity,instrument\nAnn,bid,1.00,5,TEA\n",
+     "there is no column 'instrument', but name, side, price, quantity, round"),
+    ("name,side,price,wert,quantity\nAnn,bid,1.00,1.00,5\n", "two columns are 'price'"),
+    ("name,side,price,quantity\n ,bid,1.00,5\n", "line 2: the name is empty"),
+    ("name,side,price,quantity,round\nAnn,bid,1.00,5,2\nBob,bid,1.00,5,1\n",
+     "line 3: Bob: round 1 has another list, or none"),
+])
+def test_a_list_that_would_be_read_otherwise_than_it_is_meant(
+    tmp_path: pathlib.Path, text: str, fault: str
+) -> None:
+    assert fault_of_list(tmp_path, text) == fault
+
+
+def test_a_list_of_the_last_round_may_be_for_those_that_follow(tmp_path: pathlib.Path) -> None:
+    """As that round comes again; and one file may be the list of several rounds."""
+    text = "name,side,price,quantity,round\nAnn,Bid,1.00,5,1\nAnn,ASK,1.00,5,7\n"
+    (tmp_path / "values.csv").write_text(text)
+    found = read(tmp_path, 2 * "[[round]]\nvalues = 'list'\nfile = 'values.csv'\n")
+    assert [it.side for it in found.rounds[1].rule.rows] == ["bid", "ask"]
 
 
 def test_cells_beyond_the_columns_may_be_empty(tmp_path: pathlib.Path) -> None:

@@ -18,7 +18,7 @@ from callauction.venue.bounds import Bounds, bounds_of
 from callauction.venue.fields import TITLE, ConfigError, Fields
 from callauction.venue.fix_terms import Terms, terms_of
 from callauction.venue.gains import Uncovered
-from callauction.venue.handing import HandError, ListError
+from callauction.venue.handing import HandError, ListedValue, ListError
 from callauction.venue.names import folded, is_role, is_seen
 from callauction.venue.tokens import LEAST_CODE
 from callauction.venue.treatments import MOST_SECONDS, Limits, Read, Treatment, treatment_of
@@ -241,14 +241,7 @@ class DayTerms:
         )
         fields.ended()
         check_members(found)
-        for number, treatment in enumerate(found.rounds, 1):
-            try:
-                found.check(treatment)
-            except ListError as fault:
-                file = rounds[number - 1]["file"]
-                raise ConfigError(f"round {number}: file {file}: {fault.member}: {fault}") from None
-            except HandError as fault:
-                raise ConfigError(f"round {number}: {fault}") from None
+        check_rounds(found, [table.get("file", "") for table in rounds])
         fields.left = {"instrument": [it.name for it in found.instruments]}
         fields.names("instrument")  # each once
         for it in found.instruments:
@@ -256,6 +249,32 @@ class DayTerms:
                 why = f"{it.calls} is no more than reserve {found.reserve}: members have none"
                 raise Fields(f"instrument {it.name}", {}).fault("calls", why)
         return found
+
+
+def check_rounds(day: DayTerms, files: list[str]) -> None:
+    """Raises ConfigError where a round can't be one of an instrument of the day, or a row of its
+    list, in one of these files, is of a round that has another one.
+    """
+    has_several = len(day.instruments) > 1
+    for number, treatment in enumerate(day.rounds, 1):
+        where, of_instrument = f"round {number}: ", ""
+        try:
+            check_rounds_of_rows(day, treatment.rule.rows)
+            for it in day.instruments:
+                of_instrument = f"{it.name}: " * has_several
+                it.check(treatment)
+        except ListError as fault:
+            where += f"file {files[number - 1]}: {fault.where}: "
+            raise ConfigError(f"{where}{of_instrument}{fault}") from None
+        except HandError as fault:
+            raise ConfigError(f"{where}{of_instrument}{fault}") from None
+
+
+def check_rounds_of_rows(day: DayTerms, rows: tuple[ListedValue, ...]) -> None:
+    """Raises ListError where a row is of a round that doesn't have this list."""
+    for row in rows:
+        if row.round is not None and day.treatment(row.round).rule.rows != rows:
+            raise ListError(f"round {row.round} has another list, or none", row)
 
 
 def fix_of(fields: Fields) -> Terms | None:

@@ -18,6 +18,8 @@ GERMAN = {
     "runde": "round", "kauf": "bid", "verkauf": "ask",
 }  # fmt: skip
 """What German words of a list of values mean."""
+COLUMNS = ("name", "side", "price", "quantity", "round")
+"""The columns of a list of values, of which the last may be left out."""
 CHANCE = random.SystemRandom()
 
 
@@ -26,11 +28,12 @@ class HandError(ValueError):
 
 
 class ListError(HandError):
-    """A list whose value of this member can't be handed out so."""
+    """A list whose row can't be handed out so; `where` it is: its line, if it has one, its member.
+    """
 
-    def __init__(self, text: str, member: str) -> None:
+    def __init__(self, text: str, row: "ListedValue") -> None:
         super().__init__(text)
-        self.member = member
+        self.where = f"{f'line {row.line}: ' if row.line else ''}{row.member}"
 
 
 class Prices(Protocol):
@@ -41,13 +44,16 @@ class Prices(Protocol):
 
 @dataclasses.dataclass(frozen=True)
 class ListedValue:
-    """A value of a list: its round, None for each; whose it is; its price as a decimal text."""
+    """A value of a list: its round, None for each; whose it is; its price as a decimal text; its
+    line of a file.
+    """
 
     round: int | None
     member: str
     side: str
     price: str
     quantity: int
+    line: int | None = dataclasses.field(default=None, compare=False, repr=False)
 
 
 @dataclasses.dataclass(frozen=True)
@@ -81,7 +87,7 @@ class Rule:
             try:
                 tick_of(row.price)
             except HandError as fault:
-                raise ListError(str(fault), row.member) from None
+                raise ListError(str(fault), row) from None
 
     def dealt(
         self,
@@ -171,8 +177,7 @@ def rows_of(text: str) -> tuple[ListedValue, ...]:
     reader = csv.DictReader(file, delimiter=mark, strict=True)
     heads = [it.strip().casefold() for it in reader.fieldnames or ()]
     reader.fieldnames = columns = [GERMAN.get(it, it) for it in heads]
-    if not {"name", "side", "price", "quantity"} <= {*columns}:
-        raise HandError("the first line isn't name,side,price,quantity, perhaps with round")
+    check_heads(heads, columns)
     found = []
     lines: dict[str, dict[int | None, int]] = {}
     try:
@@ -184,6 +189,19 @@ def rows_of(text: str) -> tuple[ListedValue, ...]:
     except csv.Error as fault:
         raise HandError(f"line {reader.line_num}: {fault}") from None
     return tuple(found)
+
+
+def check_heads(heads: Sequence[str], columns: Sequence[str]) -> None:
+    """Raises HandError where a column is missing, is there twice, or is none of a list, by its head
+    as it is written.
+    """
+    if not {*COLUMNS[:4]} <= {*columns}:
+        raise HandError("the first line isn't name,side,price,quantity, perhaps with round")
+    for head, column in zip(heads, columns):
+        if column and column not in COLUMNS:
+            raise HandError(f"there is no column {head!r}, but {', '.join(COLUMNS)}")
+        if column and columns.count(column) > 1:
+            raise HandError(f"two columns are {column!r}")
 
 
 def check_columns(row: Mapping[str | None, str | list[str] | None], line: int) -> None:
@@ -210,8 +228,10 @@ def check_once(it: ListedValue, line: int, lines: dict[int | None, int]) -> None
 def row_of(row: Mapping[str, str | None], line: int, has_comma: bool = False) -> ListedValue:
     """A row of a file, whose price may have a decimal comma. Raises HandError."""
     cells = {key: " ".join((value or "").split()) for key, value in row.items() if key}
-    cells["side"] = GERMAN.get(cells["side"].casefold(), cells["side"])
-    if cells["side"] not in SIDES:
+    side = GERMAN.get(cells["side"].casefold(), cells["side"].casefold())
+    if not cells["name"]:
+        raise HandError(f"line {line}: the name is empty")
+    if side not in SIDES:
         raise HandError(f"line {line}: side {cells['side']!r} is neither bid nor ask")
     if not cells["quantity"].isdecimal() or not 1 <= int(cells["quantity"][:12]) <= 10**9:
         raise HandError(f"line {line}: quantity {cells['quantity']!r} is no number of shares")
@@ -221,7 +241,8 @@ def row_of(row: Mapping[str, str | None], line: int, has_comma: bool = False) ->
     return ListedValue(
         int(number) if number else None,
         cells["name"],
-        cells["side"],
+        side,
         cells["price"].replace(",", ".") if has_comma else cells["price"],
         int(cells["quantity"]),
+        line,
     )

@@ -62,6 +62,9 @@ const GERMAN = {
   "line {}: side {} is neither bid nor ask": "Zeile {}: Seite {} ist weder Kauf noch Verkauf",
   "line {}: quantity {} is no number of shares": "Zeile {}: Menge {} ist keine Zahl von Stücken",
   "line {}: round {} is no number of a round": "Zeile {}: Runde {} ist keine Nummer einer Runde",
+  "there is no column {}, but {}": "die Spalte {} gibt es nicht, nur {}",
+  "two columns are {}": "zwei Spalten sind {}",
+  "line {}: the name is empty": "Zeile {}: Der Name ist leer",
   "line {}: {} is in line {} too": "Zeile {}: {} steht schon in Zeile {}",
   "line {}: {} is in no column: decimal commas need semicolons":
     "Zeile {}: {} steht in keiner Spalte: Zu Dezimalkommas gehören Strichpunkte",
