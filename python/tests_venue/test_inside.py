@@ -1,5 +1,6 @@
 """A venue in the process of the test, whose clocks and limits the test may set."""
 import asyncio
+import csv
 import dataclasses
 import errno
 import gc
@@ -19,7 +20,7 @@ from callauction.venue import (
     clock, connection, gates, http, listening, log, rates, serving, teaching, tokens, views,
 )
 from callauction.venue.audience import MOST_CONNECTIONS
-from callauction.venue.config import DayTerms, Plan
+from callauction.venue.config import DayTerms, InstrumentTerms, Plan
 from callauction.venue.gates import Gates
 from callauction.venue.halts import LATER
 from callauction.venue.http import Site
@@ -380,12 +381,12 @@ async def test_looks_at_trades_come_in_pages(client: Any, inside: Venue) -> None
     assert await look(others[0][1], 14_901) == [*range(14_901, 15_001)]
     assert await look(others[0][1], 15_001) == []
 
-    async def looks(token: str) -> None:
+    async def looking_on(token: str) -> None:
         while True:
             await look(token, 1)
             await asyncio.sleep(0.05)
 
-    looking = [asyncio.create_task(looks(token)) for _, token in others]
+    looking = [asyncio.create_task(looking_on(token)) for _, token in others]
     waits = []
     for number in range(1, 31):
         begin = time.monotonic()
@@ -396,6 +397,71 @@ async def test_looks_at_trades_come_in_pages(client: Any, inside: Venue) -> None
     for task in looking:
         task.cancel()
     assert sorted(waits)[len(waits) // 2] < 0.2, sorted(waits)
+
+
+async def got(client: Any, path: str, token: str) -> tuple[int, Any]:
+    """The status and the answer to who asks for a path with this token."""
+    async with client.get(path, headers={"Authorization": f"Bearer {token}"}) as answer:
+        is_json = answer.content_type == "application/json"
+        return answer.status, await (answer.json() if is_json else answer.text())
+
+
+async def test_what_a_state_has_other_looks_have_too(client: Any, inside: Venue) -> None:
+    """Anna gains 0.50 with each of ten shares, which is to be seen as soon as the result is, also
+    while the venue waits before it looks at its program again.
+    """
+    [instrument] = inside.rounds.now.boards.values()
+    instrument._tasks[1].cancel()  # its looks at the program
+    code = inside.members.codes.by_name[""]
+    (anna, token), (bert, _) = [await inside.join(code, it) for it in ("Anna", "Bert")]
+    values = [{"member": "Anna", "side": "bid", "price": "2.50", "quantity": 10}]
+    await teaching.done(inside, {"do": "give", "values": values})
+    await teaching.done(inside, {"do": "start"})
+    for member, side in ((anna, "bid"), (bert, "ask")):
+        answer, _ = inside.submit(member, Order(1, "XYZ", f"enter,{side},10,200"))
+        await answer
+    await teaching.done(inside, {"do": "uncross"})
+    operator = inside.secrets["operator"]
+    status, found = await got(client, "/api/look/state", operator)
+    assert (status, found["phase"], found["results"][0]["trades"]) == (200, "waiting", 1)
+    status, results = await got(client, "/api/download/results", operator)
+    rows = [*csv.DictReader(results.splitlines())]
+    assert [it["gain"] for it in rows if (it["round"], it["name"]) == ("1", "Anna")] == ["5.00"]
+    _, fills = await got(client, "/api/look/fills", token)
+    assert (len(fills["fills"]), fills["gain"]) == (1, "5.00")
+    _, trades = await got(client, "/api/look/trades", token)
+    assert [it["quantity"] for it in trades["trades"]] == [10]
+
+
+async def test_what_the_operator_may_look_at(client: Any, inside: Venue) -> None:
+    """The state of an auction, by which a program of the operator learns its phase."""
+    operator = inside.secrets["operator"]
+    assert (await got(client, "/api/look/state?instrument=XYZ", operator))[1]["phase"] == "waiting"
+    status, found = await got(client, "/api/look/state?instrument=ABC", operator)
+    assert (status, found["error"]) == (400, "unknown_instrument")
+    status, found = await got(client, "/api/look/fills", operator)
+    assert (status, found["error"]) == (403, "not_allowed")
+
+
+async def test_a_download_without_an_instrument(
+    tmp_path: pathlib.Path, aiohttp_client: Any
+) -> None:
+    """Those of all rounds need none; of several instruments the others name one."""
+    terms = tuple(InstrumentTerms(name=it) for it in ("TEA", "RICE"))
+    venue = Venue(DayTerms(is_synced=False, instruments=terms), tmp_path, served.program())
+    await venue.open()
+    site = Site(venue, served.program(), frozenset(["127.0.0.1"]))
+    client, operator = await aiohttp_client(site.application()), venue.secrets["operator"]
+    for kind in ("results", "trades"):
+        status, found = await got(client, f"/api/download/{kind}", operator)
+        assert (status, found.partition(",")[0]) == (200, "round")
+    status, found = await got(client, "/api/download/journal", operator)
+    assert (status, found["error"]) == (400, "unknown_instrument")
+    assert found["text"] == "name one of 2 instruments: /api/download/journal/TEA"
+    status, found = await got(client, "/api/download/prices", operator)
+    assert (status, found["text"]) == (
+        400, "there is no download 'prices', but journal, members, results, trades, report")
+    await venue.close()
 
 
 async def test_looks_cost_what_orders_cost(client: Any, inside: Venue) -> None:

@@ -5,6 +5,7 @@ import asyncio
 import contextlib
 import dataclasses
 import random
+import re
 from collections.abc import Callable
 from typing import Any, Self
 
@@ -26,6 +27,16 @@ GRACE_SECONDS = 30
 """How long a call goes on at least, after which it is uncrossed by itself, once nobody could change
 an order; a shorter one as long as it is.
 """
+
+
+TRADED = re.compile(r" trades (\d+)$")
+"""What a reply to an uncross has of its trades."""
+
+
+def trades_in(reply: str) -> int:
+    """How many trades an uncross had, by its reply."""
+    found = TRADED.search(reply)
+    return int(found[1]) if found else 0
 
 
 @dataclasses.dataclass(frozen=True, slots=True)
@@ -64,6 +75,11 @@ class Auctions:
         self._random = random.SystemRandom()
         self._uncrosses, self._is_uncrossing = 0, False
         self._has_stood = False  # its clock, since it was looked at last
+
+    @property
+    def trades(self) -> int:
+        """How many trades the uncrosses of the day had."""
+        return sum(map(trades_in, self.results))
 
     def check_open(self) -> None:
         """Raises MessageError where no member's order is taken now."""

@@ -127,7 +127,8 @@ class Site:
         found.router.add_get("/api/look/{what}", self._look)
         found.router.add_get(SOCKET, self._socket)
         found.router.add_post("/api/operator", self._operator)
-        found.router.add_get("/api/download/{kind}/{instrument}", self._download)
+        for path in ("/api/download/{kind}", "/api/download/{kind}/{instrument}"):
+            found.router.add_get(path, self._download)
         found.router.add_get("/api/replay/{instrument}", self._replay)
         return found
 
@@ -251,26 +252,30 @@ class Site:
 
     # ---- looks
 
-    def _member_of(self, request: web.Request) -> Member:
-        """The member who asks. Raises MessageError."""
+    def _member_of(self, request: web.Request) -> Member | None:
+        """The member who asks, None where the operator looks at a state. Raises MessageError."""
         role, member = self._venue.role_of(token_of(request))
         if member is None:
+            if role == "operator" and request.match_info["what"] == "state":
+                return None
             raise MessageError("not_allowed", f"this look is a member's, and not the {role}'s")
         if not member.bucket.takes():
             raise MessageError("too_fast")
         return member
 
     async def _look(self, request: web.Request) -> web.Response:
-        """What a member may see of an instrument."""
+        """What a member, or the operator, may see of an instrument."""
         member = self._member_of(request)
         instrument = self._venue.rounds.instrument_of(request.query.get("instrument"), member)
         what = request.match_info["what"]
-        if what == "state":
+        if what == "state" or member is None:
             return answered(self._venue.audience.state_of(instrument))
         instrument.looks.check_seen()
         if what == "orders":
             await instrument.looks.see_orders_of(member.name)
             return answered(shown.orders_of(instrument, member.name))
+        if what in ("fills", "trades"):
+            await instrument.looks.see_trades()
         if what == "fills":
             return answered(shown.fills_of(instrument, member.name))
         if what == "trades":
@@ -311,17 +316,26 @@ class Site:
             raise MessageError("bad_phase", str(fault)) from None
 
     def _board_of(self, request: web.Request) -> Instrument:
-        """The board that a download is asked of: of this round, or of an earlier one. Raises
-        MessageError.
+        """The board that a download is asked of: of this round, or of an earlier one; where it
+        names none, the only one, or any where it is of all. Raises MessageError.
         """
         number = request.query.get("round", str(self._venue.rounds.now.number))
         is_number = number.isdecimal() and len(number) < 10
         if not is_number or not 1 <= int(number) <= self._venue.rounds.now.number:
             raise MessageError("bad_message", "there is no such round")
         round_ = self._venue.rounds.all[int(number) - 1]
-        if found := round_.boards.get(request.match_info["instrument"]):
+        name = request.match_info.get("instrument", "")
+        if found := round_.boards.get(name):
             return found
-        raise MessageError("unknown_instrument")
+        first, kind = next(iter(round_.boards.values())), request.match_info.get("kind")
+        if not name and (len(round_.boards) == 1 or kind in downloads.OF_ALL):
+            return first
+        if name:
+            raise MessageError("unknown_instrument")
+        path = f"/api/download/{kind}/{first.identity.name}"
+        raise MessageError(
+            "unknown_instrument", f"name one of {len(round_.boards)} instruments: {path}"
+        )
 
     async def _replay(self, request: web.Request) -> web.Response:
         """An auction that ended, book by book, for the operator and the beamer."""
@@ -342,10 +356,13 @@ class Site:
         self._check_operator(request)
         kind = request.match_info["kind"]
         if kind not in downloads.KINDS:
-            raise web.HTTPNotFound
+            text = f"there is no download {fields.shown(kind)}, but {', '.join(downloads.KINDS)}"
+            raise MessageError("bad_message", text)
         board = self._board_of(request)
         if kind in downloads.OF_ALL:
             self._venue.rounds.check_seen()
+            for each in self._venue.rounds.now.boards.values():
+                await each.looks.see_trades()
         elif kind == "members":
             board.engine.check_known()
         language = request.query.get("language", sheets.PLAIN)

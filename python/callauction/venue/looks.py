@@ -101,6 +101,15 @@ class Looks:
         except ProcessError:
             raise MessageError("halted", DOES_NOT_ANSWER) from None
 
+    async def see_trades(self) -> None:
+        """Sees the trades of each uncross whose result is known. Raises MessageError."""
+        try:
+            async with self._looking:  # after who has looked meanwhile
+                if self.is_seen and len(self.trades) < self._auctions.trades:
+                    await self._look(self.wants_ladder())
+        except ProcessError:
+            raise MessageError("halted", DOES_NOT_ANSWER) from None
+
     async def see_orders_of(self, member: str) -> None:
         """Sees a member's open orders as the program has them now. Raises MessageError."""
         if number := self._book.numbers.get(member):

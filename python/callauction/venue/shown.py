@@ -1,10 +1,10 @@
 """What is shown of an instrument, as JSON: prices as decimal texts, quantities in shares."""
-import re
 from collections.abc import Callable, Container, Iterable
 from typing import Any
 
 from callauction.venue.accounts import Fill
 from callauction.venue.arrivals import last_of
+from callauction.venue.auctions import trades_in
 from callauction.venue.instrument import Instrument
 from callauction.venue.members import Member, Members
 from callauction.venue.results import Payoff
@@ -13,7 +13,6 @@ from callauction.venue.treatments import Treatment
 from callauction.venue.views import Indication, Trade
 
 Json = dict[str, Any]
-TRADES = re.compile(r" trades (\d+)$")
 UNKNOWN: Json = dict.fromkeys(("phase", "auction"), "unknown") | dict.fromkeys(
     ("ends", "latest", "reference", "indication", "results", "trades", "left")
     + ("calls_left_to_members",)
@@ -43,8 +42,7 @@ def results_of(instrument: Instrument) -> list[Json]:
     found = []
     for text in instrument.auctions.results:
         shown = indication_of(instrument, Indication.of(text))
-        trades = TRADES.search(text)
-        shown["trades"] = int(trades[1]) if trades else 0
+        shown["trades"] = trades_in(text)
         found.append({"auction": text.partition(" ")[0]} | shown)
     return found
 
