@@ -14,6 +14,7 @@ from callauction.venue.timekeeping import AHEAD, AWAY, DOES, STOOD
 
 PACKAGE = served.PACKAGE / "callauction/venue"
 SAID = {"bad_message", "bad_phase", "bad_name", "above_limit", "not_covered", "no_shares"}
+SAID |= {"no_money"}
 """The errors whose reason the pages add."""
 FAULTS = {"PhaseError", "HandError"}
 """What becomes such an error."""

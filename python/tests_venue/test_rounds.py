@@ -226,6 +226,16 @@ def test_orders_beyond_ones_value_are_refused(venue: Served) -> None:
         assert refusals(nobody, ("bid", 1, "2.00"), ("ask", 1, "2.00")) == ["not_covered"] * 2
 
 
+def test_how_much_money_is_left_is_said(venue: Served) -> None:
+    """Of 20.00 a bid of 16.00 leaves 4.00."""
+    anna = venue.join("Anna")
+    limited(venue, money="20.00")
+    with Client(venue.url, anna) as me:
+        me.enter("bid", 8, "2.00")
+        with pytest.raises(VenueError, match="at most 4.00 more can be spent"):
+            me.enter("bid", 2, "2.50")
+
+
 def test_who_has_no_shares_and_no_money(venue: Served) -> None:
     anna, bert = venue.join("Anna"), venue.join("Bert")
     limited(venue, shares=5, money="20.00")
@@ -234,6 +244,8 @@ def test_who_has_no_shares_and_no_money(venue: Served) -> None:
         assert refusals(me, *orders) == ["no_shares", "", "no_shares"]
         orders = [("bid", 3, "market"), ("bid", 8, "2.00"), ("bid", 2, "2.50"), ("bid", 2, "2.00")]
         assert refusals(other, *orders) == ["no_money", "", "no_money", ""]
+        with pytest.raises(VenueError, match="at most 0.00 more can be spent"):
+            other.enter("bid", 1, "0.01")
     venue.do("uncross")
     venue.do("start")
     with Client(venue.url, anna) as me, Client(venue.url, bert) as other:

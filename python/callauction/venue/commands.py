@@ -95,6 +95,7 @@ class Commands:
             self._book.of_member(member),
             [*self._waiting.get(member, {}).values()],
             self._terms.high,
+            self._terms.grid.tick_size,
         )
 
     # ---- what is sent

@@ -6,6 +6,7 @@ that aren't answered yet; an order whose change isn't answered counts as it is a
 """
 import dataclasses
 from collections.abc import Iterable, Mapping
+from decimal import Decimal
 from typing import Self
 
 from callauction.venue.accounts import Fill, position
@@ -103,7 +104,8 @@ class Step:
 @dataclasses.dataclass(frozen=True)
 class Holding:
     """What a member has: its value; its fills, and those since its value was handed out; its open
-    orders, and its records that aren't answered. `high` is the highest tick.
+    orders, and its records that aren't answered. `high` is the highest tick, `tick_size` what one
+    is in money.
     """
 
     value: Value | None
@@ -112,6 +114,7 @@ class Holding:
     orders: dict[int, Own]
     waiting: list[str]
     high: int
+    tick_size: Decimal = Decimal(1)
 
     def check(self, limits: Limits, record: str) -> None:
         """Raises MessageError where the limits refuse the record of a message."""
@@ -133,8 +136,10 @@ class Holding:
         if limits.money is not None and order.side == "bid":
             cost = order.value(self.high)
             least = min((it.value(self.high) for it in step.before), default=-1)
-            if cost > max(least, limits.money - spent(self.fills) - self._cost(others)):
-                raise MessageError("no_money")
+            left = limits.money - spent(self.fills) - self._cost(others)
+            if cost > max(least, left):
+                money = format(max(0, left) * self.tick_size, "f")
+                raise MessageError("no_money", f"at most {money} more can be spent")
 
     def _check_covered(self, order: Own, others: list[Ways]) -> None:
         """Raises MessageError where the value doesn't cover an order beside these."""

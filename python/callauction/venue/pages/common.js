@@ -6,7 +6,7 @@ import { TEXTS } from "./texts.js";
 
 export const find = (id) => document.getElementById(id);
 const KEPT = "venue.language";
-const SAYS_MORE = ["bad_message", "bad_phase", "above_limit", "not_covered", "no_shares"];
+const SAYS_MORE = ["bad_message", "bad_phase", "above_limit", "not_covered", "no_shares", "no_money"];
 const OF_A_NAME = "a name has ";
 let language = localStorage.getItem(KEPT) || "";
 

@@ -89,6 +89,7 @@ const GERMAN = {
   "round: {} {} is no whole number from {} to {}": "{}: {} ist keine ganze Zahl von {} bis {}",
   "{} is no whole number from {} to {}": "{}: eine ganze Zahl von {} bis {}",
   "at most {} shares more can be entered on this side": "auf dieser Seite höchstens noch {} Stück",
+  "at most {} more can be spent": "höchstens noch {} auszugeben",
   "an order has at most {} shares": "eine Order hat höchstens {} Stück",
   "a member has at most {} commands a day of an instrument": "ein Mitglied hat am Tag höchstens {} Eingaben",
   "a member has at most {} commands, while a quarter of the day's is left, of an instrument":
