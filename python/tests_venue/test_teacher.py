@@ -159,8 +159,8 @@ def test_the_next_round(lesson: dict[str, Any]) -> None:
     teacher.clicks("#next-round")
     answers(teacher)
     anna.waits(lambda it: it.text("round") == (
-        "Round 2 · Open book. Everybody sees the book. Orders on the other "
-        "side than one's value, or of more shares than it has, are refused; its price is no limit."))
+        "Round 2 · Open book. Everybody sees the book. Orders on the other side than one's value, "
+        "or of more shares than it has, are refused; its price is no limit."))
     anna.waits(lambda it: it.rows("orders") == [] and "50 shares" in it.text("value"))
     venue.do("give", values=[
         {"member": "Anna", "side": "bid", "price": "3.00", "quantity": 50},

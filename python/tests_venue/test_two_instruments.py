@@ -1,5 +1,5 @@
-"""The teacher's page where there are several instruments: which one it acts on is to be seen in each
-tab, and is named where something is lost.
+"""The teacher's page where there are several instruments: which one it acts on is to be seen in
+each tab, and is named where something is lost.
 """
 import pathlib
 from collections.abc import Iterator

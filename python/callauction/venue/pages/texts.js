@@ -106,8 +106,8 @@ export const TEXTS = {
       + "members to groups anew.",
     ranking: "Ranking", round: "Round {0}", practice: "practice, it doesn't count", rounds: "Rounds",
     book_open: "Everybody sees the book.", book_closed: "The book is closed.",
-    covered_says: "Orders on the other side than one's value, or of more shares than it has, are refused; its price is no "
-      + "limit.",
+    covered_says: "Orders on the other side than one's value, or of more shares than it has, are refused; its price is "
+      + "no limit.",
     own_trades_says: "Orders that could trade with an own one are refused.",
     shares_says: "Each may sell {0} shares at most.", money_says: "Each may spend {0} at most.",
     shares_of_each: "Each may sell {0} shares of each instrument at most.",
