@@ -74,16 +74,20 @@ class Ties:
         return f"{rows} {own}, and nothing says which was first"
 
     def _sets(self, these: Ints) -> list[list[int]]:
-        """The replaces of one order at one time, where their order may decide something."""
+        """The replaces of one order at one time, with cancels of some of its shares, where their
+        order may decide something.
+        """
         rows = self.rows
         if rows.is_ordered:
             return []
         order = these[numpy.argsort(rows.key[these], kind="stable")]
         one, two = order[:-1], order[1:]
         same = (rows.key[one] == rows.key[two]) & (rows.group[one] == rows.group[two])
-        parts = (rows.kind[two] == CANCEL) & (rows.quantity[two] > 0)
-        free = same & (rows.kind[one] == REPLACE) & ((rows.kind[two] == REPLACE) | parts)
-        differs = (rows.price[one] != rows.price[two]) | (rows.kept[one] != rows.kept[two])
+        parts = (rows.kind == CANCEL) & (rows.quantity > 0)
+        are = [(rows.kind[it] == REPLACE) | parts[it] for it in (one, two)]
+        free = same & are[0] & are[1] & ~(parts[one] & parts[two])
+        differs = (rows.kind[one] != rows.kind[two]) | (rows.price[one] != rows.price[two])
+        differs |= rows.kept[one] != rows.kept[two]
         free &= differs | (rows.quantity[one] != rows.quantity[two])
         sets: dict[tuple[int, int], list[int]] = {}
         for place in numpy.unique(numpy.concatenate([one[free], two[free]])).tolist():
