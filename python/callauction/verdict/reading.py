@@ -61,6 +61,8 @@ _TOTALS = re.compile(r"(?:(?:grand|sub) ?)?totals?\b|sum(?:me)?\b|gesamt", re.IG
 """How a line of totals begins."""
 _FIGURES = re.compile(r"[\d.,' %+-]*")
 _BLANKS = " \xa0\u2009\u202f"
+_FIRST_GROUP = re.compile(r"[-+]?\d{1,3}")
+"""The digits before the first sign of thousands."""
 """What a program may write where a person sees a blank between thousands."""
 _CONDITION = re.compile(r"\s*(?P<name>.+?)\s*(?P<sign>==|!=|<=|>=|<|>)\s*(?P<value>.*?)\s*")
 _INSTRUMENT = re.compile(
@@ -125,10 +127,21 @@ class Reading:
         return value if number_of(number) is None else number + "%" * value.endswith("%")
 
     def plain(self, text: str) -> str:
-        """A number's text with the signs of this reading made plain."""
-        for sign in _BLANKS if self.thousands in {*_BLANKS} else (self.thousands,):
-            text = text.replace(sign, "") if sign else text
+        """A number's text with the signs of this reading made plain, those of thousands that don't
+        part three digits as question marks.
+        """
+        if self.thousands:
+            text = self._without_thousands(text)
         return text if self.decimal == "." else text.replace(".", "?").replace(self.decimal, ".")
+
+    def _without_thousands(self, text: str) -> str:
+        signs = _BLANKS if self.thousands in {*_BLANKS} else self.thousands
+        whole, sign, rest = text.strip().partition(self.decimal)
+        groups = re.split(f"[{re.escape(signs)}]", whole)
+        if len(groups) > 1 and _FIRST_GROUP.fullmatch(groups[0]):
+            is_whole = all(len(it) == 3 and it.isdecimal() for it in groups[1:])
+            whole = "".join(groups) if is_whole else whole
+        return "".join("?" if it in signs else it for it in whole + sign + rest)
 
 
 class End(NamedTuple):
