@@ -68,12 +68,12 @@ _TRADE_ID = re.compile(r"(trade|trd|exec|match|deal).*(id|no|nr|nummer|number|re
 EMPTY = ("null", "n/a", "#n/a", "nan", "-", "--")
 """Words for an empty cell, in small letters."""
 UNKNOWN = (
-    *EMPTY, "n.a.", "none", "nil", "tbd", "#ref!", "#value!", "#name?", "#div/0!", "#num!",
-    "#null!",
+    *EMPTY, "n.a.", "none", "nil", "tbd", "unknown", "#ref!", "#value!", "#name?", "#div/0!",
+    "#num!", "#null!",
 )  # fmt: skip
 """Words for an id or a member that isn't known, as a spreadsheet's errors are."""
-_UNKNOWN_SIGNS = re.compile("[?\\-\u2010-\u2015\u2212]+")
-"""Question marks and dashes."""
+_UNKNOWN_SIGNS = re.compile("[?\\-\u2010-\u2015\u2212]+|##+|\\*+")
+"""Question marks and dashes; what a sheet shows of a number in a narrow column; stars."""
 
 
 class ColumnError(ValueError):

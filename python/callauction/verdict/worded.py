@@ -18,8 +18,9 @@ _WORDED = ("event", "price", "bid_member", "ask_member")
 """Columns whose words for an empty cell mean something else in some rows."""
 _NAMES = ("order", "new_order", "bid", "ask", "member")
 """Columns of names, where more words are of one that isn't known."""
-_NONE, _SIGNS = (*b"-#nNtT",), (*b"#-?\xe2",)
+_NONE, _SIGNS = (*b"-#nNtT",), (*b"#-?*\xe2",)
 """How such a word begins; how one that may be longer does."""
+_U, _LENGTH = (*b"uU",), len("unknown")
 _LONGEST = 24
 _MOST_KEPT = 4
 """Of how many columns the cells are kept, those that were asked for last: 16 bytes a cell."""
@@ -56,6 +57,7 @@ class Columns:
         may_be = (cells.length <= most) & numpy.isin(first, _NONE)
         if name in _NAMES:
             may_be |= (cells.length <= _LONGEST) & numpy.isin(first, _SIGNS)
+            may_be |= (cells.length == _LENGTH) & numpy.isin(first, _U)
         these = numpy.flatnonzero(may_be & (cells.length > 0))
         codes, texts = cells.take(these).texts()
         length, others = cells.length.copy(), self.reading.values.get(name, {})
@@ -65,12 +67,25 @@ class Columns:
         return Cells(cells.buffer, cells.start, length)
 
     def texts(self, name: str) -> tuple[Codes, list[str]]:
-        """A number for each text of a column in our words, MISSING for none, and the texts."""
+        """A number for each text of a column in our words, MISSING for none, and the texts: one of
+        several that mean the same.
+        """
         if name not in self.names:
             return numpy.full(len(self.source), MISSING, "i4"), []
         codes, texts = self.cells(name).texts()
-        words = self.reading.values.get(name, {})
-        return codes, [words.get(text, text) for text in texts] if words else texts
+        words = self._said(name)
+        if not words:
+            return codes, texts
+        found = [words.get(text, text) for text in texts]
+        known = {text: number for number, text in enumerate(dict.fromkeys(found))}
+        numbers = numpy.array([*(known[text] for text in found), MISSING], codes.dtype)
+        return numbers[codes], [*known]
+
+    def _said(self, name: str) -> Mapping[str, str]:
+        """What words of a column mean; those said for members hold in members of trades too."""
+        own = self.reading.values.get(name, {})
+        is_member = name in ("bid_member", "ask_member")
+        return {**self.reading.values.get("member", {}), **own} if is_member else own
 
     def words(self, name: str, known: Mapping[str, int]) -> Bytes:
         """What is known of each word of a column, MISSING for none, BAD for another word."""
