@@ -94,3 +94,50 @@ def test_a_file_that_is_cut_within_a_letter_is_read(tmp_path: Path) -> None:
     path.write_bytes(extract.encode("latin1"))
     with pytest.raises(ValueError, match="line 2 is no utf-8: say encoding latin-1"):
         audit_events(path, reference="10")
+
+
+# ---- messages that a session's numbers lack
+
+
+def lost_report(lines: list[str], chance: random.Random, *kinds: str) -> int:
+    """Takes a line of these kinds out, of orders above one of the same; its place."""
+    those = [at for at, it in enumerate(lines[:-1]) if any(f"|150={kind}|" in it for kind in kinds)]
+    place = chance.choice(those)
+    del lines[place]
+    return place
+
+
+@pytest.mark.parametrize("kinds", ["04", "5", "F"])
+def test_a_number_that_no_message_has_is_a_row_that_may_be_missing(
+    kinds: str, tmp_path: Path
+) -> None:
+    touched = 0
+    for seed in SEEDS:
+        day, chance = timed_day(seed, 8), random.Random(seed)
+        lines = FixLog(day, seed).tagged("|").splitlines(keepends=True)
+        if not any(f"|150={kind}|" in line for kind in kinds for line in lines[:-1]):
+            continue
+        touched += 1
+        lost_report(lines, chance, *kinds)
+        verdict = read_log("".join(lines).encode(), day, tmp_path)
+        assert verdict.word == "incomplete", f"{seed}\n{verdict}"
+    assert touched > 5
+
+
+@pytest.mark.parametrize("other", [
+    "8=FIX.4.4|9=9|35=0|34={}|10=000|\n", "8=FIX.4.4|9=9|35=4|34={}|123=Y|36={next}|10=000|\n",
+])  # fmt: skip
+def test_a_number_of_a_message_of_another_kind_is_not_missing(other: str, tmp_path: Path) -> None:
+    """A heartbeat, or a message that fills a gap, has the number; then a lost order is none that a
+    row can say, and the finding certain, as is a fault with each number's message there.
+    """
+    for seed in SEEDS[:5]:
+        log = FixLog(timed_day(seed, 8), seed)
+        lines = log.tagged("|").splitlines(keepends=True)
+        text = "".join(re.sub(r"\|34=(\d+)\|", lambda it: f"|34={int(it[1]) * 2}|", line)
+                       + other.format(2 * at + 1, next=2 * at + 2) for at, line in
+                       enumerate(lines, 1))  # fmt: skip
+        whole = read_log("".join(lines).encode(), timed_day(seed, 8), tmp_path)
+        found = read_log(text.encode(), timed_day(seed, 8), tmp_path)
+        assert (found.word, found.coverage) == (whole.word, whole.coverage), f"{seed}\n{found}"
+        assert "sequence" not in str(found)

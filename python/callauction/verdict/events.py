@@ -12,7 +12,7 @@ import numpy
 import pandas
 
 from callauction.verdict import clocks, times
-from callauction.verdict.again import drop_sent_again, find_holes, gaps_of, remark_of
+from callauction.verdict.again import Gap, drop_sent_again, find_holes, gaps_of, remark_of
 from callauction.verdict.cells import Cells, Codes, Ints, Mask, numbered, paired_codes
 from callauction.verdict.columns import EVENTS, KINDS, ExtractError
 from callauction.verdict.joining import join_sides, take_busted
@@ -74,7 +74,7 @@ def rows_of(
     drop_sent_again(rows, columns, sequence, lead)
     rows.number = columns.row_numbers()
     if instrument is None and table.is_whole:
-        gaps = gaps_of(rows.number, *dropped_numbers(table, reading))
+        gaps = gaps_in(table, reading, rows.number)
         find_holes(rows, gaps)
         rows.notes.update(remark_of(gaps))
     rows = below_their_entries(rows)
@@ -92,6 +92,14 @@ def dropped_numbers(table: Table, reading: Reading) -> list[Ints]:
     if table.dropped is None:
         return []
     return [Columns(table.dropped, table.names, reading).row_numbers()]
+
+
+def gaps_in(table: Table, reading: Reading, number: Ints) -> list[Gap]:
+    """The gaps in the numbers of a table's rows; a log's messages of other kinds have some too."""
+    dropped = dropped_numbers(table, reading)
+    if table.others is None:
+        return gaps_of(number, *dropped)
+    return [it for it in gaps_of(number, *dropped, table.others) if not it.is_begin]
 
 
 def _read(

@@ -19,7 +19,7 @@ from decimal import Decimal, InvalidOperation
 import numpy
 
 from callauction.verdict import clocks
-from callauction.verdict.cells import Cells, Short, Source, parted_source
+from callauction.verdict.cells import Cells, Ints, Short, Source, parted_source
 from callauction.verdict.columns import ExtractError
 
 NAMES = {
@@ -52,7 +52,7 @@ _ENDING = 24
 """In how many letters at the end of a message its last field is."""
 _TRAILER = re.compile(r"(?:^|\D)10=\d{3}\D{0,6}$")
 _CUT = "the file ends within the line, which is cut"
-_REPORT, _DATA = ("8", "ExecutionReport"), ("W", "X")
+_REPORT, _DATA, _RESET = ("8", "ExecutionReport"), ("W", "X"), ("4", "SequenceReset")
 _PRICES, _VOLUME, _SURPLUS = ("Q", "4", "5"), "B", "A"
 """The types of market data's entries: an auction's price, its volume and its imbalance."""
 _MORE = {"P": "1", "Q": "2"}
@@ -68,6 +68,8 @@ MARKET = "MARKET"
 _EXECUTING_FIRM = "1"
 _AUCTIONS, _CONTINUOUS = ("2", "4", "6"), "3"
 """The TradingSessionSubID of auctions, and that of continuous trading."""
+_FEW_DIGITS = re.compile(r"\d{1,9}", re.ASCII)
+_MOST_FILLED = 100_000
 _TYPE = re.compile(r"\w{1,2}|[A-Z]\w+")
 Pairs = list[tuple[str, str]]
 Message = dict[str, str]
@@ -83,6 +85,8 @@ class MessageLog:
     short: Short
     notes: Counter[str]
     is_ended: bool
+    numbers: Ints
+    """The numbers of the session's other messages, where rows have numbers of one."""
 
 
 def table_of(text: str, separator: str) -> MessageLog:
@@ -190,6 +194,8 @@ class _Log:
         self.notes: Counter[str] = Counter()
         self.seen: set[tuple[str, str, str, str]] = set()
         self.sessions: set[tuple[str, str]] = set()
+        self.numbers: dict[tuple[str, str], list[range]] = {}
+        """By session the numbers of its messages."""
         self.known: set[tuple[str, str]] = set()
         self.matches: dict[tuple[str, str], str] = {}
         self.lost_busts: list[str] = []
@@ -216,6 +222,7 @@ class _Log:
         self.last = line
         message: Message = dict(reversed(pairs))  # the first field of a name
         kind = message.get("MsgType", "")
+        self._count(message, kind)
         if kind in _DATA:
             self._data(line, message, pairs)
         elif kind in _REPORT:
@@ -224,6 +231,17 @@ class _Log:
             self.notes[OTHERS] += 1
         else:
             self.short.append((line, f"MsgType (35) {kind!r} is none"))
+
+    def _count(self, message: Message, kind: str) -> None:
+        """Notes a message's number; one that fills a gap has those up to its next one."""
+        number, end = message.get(NUMBER, ""), message.get("36", "")
+        if not _FEW_DIGITS.fullmatch(number):
+            return
+        first = last = int(number)
+        if kind in _RESET and _FEW_DIGITS.fullmatch(end):  # NewSeqNo
+            last = min(max(first, int(end) - 1), first + _MOST_FILLED)
+        session = message.get("SenderCompID", ""), message.get("TargetCompID", "")
+        self.numbers.setdefault(session, []).append(range(first, last + 1))
 
     def _phase(self, message: Message) -> _Phase:
         return self.phases.setdefault(_instrument(message), _Phase())
@@ -354,14 +372,22 @@ class _Log:
         rows = sorted(self.rows, key=lambda row: row[0])
         texts, lines = [text for _, _, text in rows], [line for _, line, _ in rows]
         source, short = parted_source(HEADER, texts, lines)
-        if len(self.sessions) > 1 or not _is_of_one_session(source):
+        numbers = numpy.zeros(0, "i8")
+        if len(self.sessions) == 1 and _is_of_one_session(source):
+            numbers = _numbers_of(self.numbers.get(next(iter(self.sessions)), []))
+        else:
             none = source.cells(NUMBER)
             none = Cells(none.buffer, none.start, 0 * none.length)
             source = Source(source.names, source.labels, {NUMBER: none}, source)
         if self.lost_busts:
             self.notes[f"{NO_TRADE}, such as {self.lost_busts[0]}"] = len(self.lost_busts)
         is_ended = self.last > max(lines)
-        return MessageLog(source, (*self.short, *short), +self.notes, is_ended)
+        return MessageLog(source, (*self.short, *short), +self.notes, is_ended, numbers)
+
+
+def _numbers_of(numbers: list[range]) -> Ints:
+    """The numbers of messages, each once."""
+    return numpy.unique(numpy.fromiter(itertools.chain(*numbers), "i8"))
 
 
 def _is_of_one_session(source: Source) -> bool:

@@ -19,7 +19,7 @@ from callauction.verdict.cells import Codes, Ints, Source
 from callauction.verdict.columns import (
     KINDS, ColumnError, ExtractError, hint_of, refuse_unknown,
 )  # fmt: skip
-from callauction.verdict.events import dropped_numbers, rows_of
+from callauction.verdict.events import dropped_numbers, gaps_in, rows_of
 from callauction.verdict.findings import INCOMPLETE, STATUSES, Finding, Verdict
 from callauction.verdict.judged import PLURALS, Coverage, Rules
 from callauction.verdict.reading import Reading, Table, columns_of, read_table
@@ -196,7 +196,7 @@ class Market:
         codes, numbers = (it[numpy.lexsort(keys)] for it in keys)
         if ((numbers[1:] == numbers[:-1]) & (codes[1:] != codes[:-1])).any():
             return None
-        return gaps_of(self._numbers, *dropped_numbers(self.table, self.reading))
+        return gaps_in(self.table, self.reading, self._numbers)
 
     @functools.cached_property
     def _dropped(self) -> Mapping[str, Ints]:

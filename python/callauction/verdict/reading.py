@@ -171,7 +171,9 @@ class Table:
     totals: object = None
     """The name of a file's last row, where that seems to have totals."""
     is_whole: bool = True
-    """Whether numbers of sequences that it hasn't are missing, as they aren't of a book or log."""
+    """Whether numbers of sequences that it hasn't are missing, as they aren't of a book."""
+    others: Ints | None = None
+    """The numbers of a log's messages, each in its session, which may begin above 1."""
 
     @property
     def left_out(self) -> int:
@@ -381,7 +383,9 @@ def file_of(source: str | os.PathLike[str] | BinaryIO, reading: Reading) -> Tabl
     if reading.format == "fix":
         log = fix.table_of(content.decode(), reading.separator)
         end = None if log.is_ended else _end(log.source, False)
-        return Table(log.source, log.short, notes=log.notes, end=end, is_whole=False)
+        has_numbers = len(log.numbers) > 0
+        return Table(log.source, log.short, notes=log.notes, end=end, is_whole=has_numbers,
+                     others=log.numbers)  # fmt: skip
     if content.count(b"\x00") > len(content) // 3:
         little = content[1:2] == b"\x00"
         raise ExtractError(f"the file is UTF-16: say encoding utf-16-{'le' if little else 'be'}")
