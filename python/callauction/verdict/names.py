@@ -3,7 +3,6 @@ that are another's, are bad ones. Some write ids and members otherwise than entr
 or as replaces gave them in a table without a column of new ids.
 """
 import dataclasses
-import functools
 import re
 from collections import Counter
 from collections.abc import Iterable, Iterator, Mapping
@@ -16,7 +15,7 @@ from callauction.verdict.columns import UNKNOWN, form_of, look_of
 from callauction.verdict.judged import Judged, Judgement
 from callauction.verdict.phases import recorded_sums, sums
 from callauction.verdict.rows import (
-    CANCEL, FILL, MISSING, NEW, REPLACE, SIDES, TRADE, BadRow, Doubt, Rows,
+    CANCEL, FILL, MISSING, NEW, REPLACE, SIDES, STOPPED, TAKEN, TRADE, BadRow, Doubt, Rows,
 )  # fmt: skip
 
 QUOTES = "ids of a bid and an ask, read as two orders"
@@ -153,27 +152,37 @@ def respelled(rows: Rows) -> tuple[Rows, str] | None:
     return found, f"ids or members are written in two ways: {' and '.join(both)}"
 
 
-def have_other_ids(rows: Rows, judgement: Judgement) -> bool:
+def have_other_ids(rows: Rows, judgement: Judgement, again: Ints) -> bool:
     """Whether no trade or fill has an order's id, while prices and shares are the lawful ones, so
-    that all may be right but the ids.
+    that all may be right but the ids; `again` are rows that may be there twice.
     """
     made = rows.of(TRADE, FILL)
     named = numpy.concatenate([it[made] for it in (rows.bid, rows.ask, rows.key)])
     named = named[named >= 0]
     if not len(named) or numpy.isin(named, rows.key[rows.of(NEW)]).any():
         return False
-    judged = [it for it in judgement.uncrosses if it.result is not None]
-    return all(map(functools.partial(_fits, rows), judged))
+    judged = [it for it in judgement.uncrosses
+              if it.result is not None and rows.state[it.place] != STOPPED]  # fmt: skip
+    return all(_fits(rows, it, again) for it in judged)
 
 
-def _fits(rows: Rows, judged: Judged) -> bool:
-    """Whether an auction's trades and fills have its price, and together its shares."""
+def _fits(rows: Rows, judged: Judged, again: Ints) -> bool:
+    """Whether an auction's trades and fills have its price, and together its shares, with some of
+    those that busts take out, and without some that may be there twice.
+    """
     result = judged.result
     assert result is not None
     own = numpy.concatenate([judged.traded, judged.filled])
-    shares = [int(rows.quantity[it].sum()) for it in (judged.traded, judged.filled)]
+    parts = (judged.traded, judged.filled)
+    most, least = ([int(rows.quantity[numpy.setdiff1d(it, those)].sum()) for it in parts]
+                   for those in (again[:0], again))  # fmt: skip
     due = (result.volume * bool(len(judged.traded)), 2 * result.volume * bool(len(judged.filled)))
-    if (*shares,) != due or result.volume and not len(own):
+    taken = rows.of(TAKEN)
+    busted = [int(rows.quantity[taken[it]].sum()) for it in (rows.bid[taken] >= 0,
+                                                             rows.bid[taken] < 0)]  # fmt: skip
+    if any(not low <= it <= high + out for low, it, high, out in zip(least, due, most, busted)):
+        return False
+    if result.volume and not len(own) and not len(taken):
         return False
     return bool(numpy.isin(rows.price[own], (result.number, MISSING)).all())
 
