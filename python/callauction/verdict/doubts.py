@@ -22,7 +22,7 @@ from callauction.verdict.mixed import is_one_session
 from callauction.verdict.names import is_placeholder, respelled
 from callauction.verdict.phases import Book, Result
 from callauction.verdict.rows import (
-    BAD, FILL, MISSING, NEW, STOPPED, TAKEN, TRADE, BadRow, Doubt, Rows,
+    BAD, FILL, MISSING, NEW, SIDES, STOPPED, TAKEN, TRADE, BadRow, Doubt, Rows,
 )  # fmt: skip
 from callauction.verdict.strays import Strays
 from callauction.verdict.ties import Ties
@@ -202,24 +202,46 @@ class Doubts:
         return next((row.unknown for row in odd), "")
 
     def _unknown(self) -> Reason | None:
-        """Why all books of the day are in doubt: a trade or a fill is of an order no row enters."""
+        """Why all books of the day are in doubt: a trade or a fill, busted ones too, is of an order
+        no row enters, or may be, as one is of which a side isn't said.
+        """
         rows, named = self.rows, []
         if (self.entered < 0).all():
             return Reason("no row enters an order")
         unread, own = numpy.zeros(len(rows.kind), bool), self.entered.copy()
-        bad = (row.place for row in rows.bad if row.doubt is Doubt.TRADES)
+        bad = (row.place for row in rows.bad if row.doubt in (Doubt.TRADES, Doubt.BUST))
         unread[[place for place in bad if place >= 0]] = True
         for row in sorted(rows.bad, key=lambda it: -it.place):
             if row.doubt is Doubt.ORDER and row.place >= 0:  # the first one enters it
                 own[rows.key[row.place]] = row.place
         for event, keys in ((TRADE, rows.bid), (TRADE, rows.ask), (FILL, rows.key)):
-            these = numpy.flatnonzero(((rows.kind == event) | unread) & (keys >= 0))
+            made = (rows.kind == event) | (rows.kind == TAKEN) | unread
+            these = numpy.flatnonzero(made & (keys >= 0))
             at = own[keys[these]]
             named += these[(at < 0) | (self.entered[keys[these]] < 0) & (at > these)][:1].tolist()
-        if not named:
-            return None
-        why = f"row {rows.labels[min(named)]} is a trade of an order that no row enters"
-        return Reason(why, True)
+        if named:
+            why = f"row {rows.labels[min(named)]} is a trade of an order that no row enters"
+            return Reason(why, True)
+        place, side = self._one_sided()
+        why = f"the {side} of the trade of row {rows.labels[place]} isn't said: does a row enter it?"
+        return Reason(why, True) if side else None
+
+    def _one_sided(self) -> tuple[int, str]:
+        """The first trade of which one side isn't said, beside others, and which side it is, empty
+        where there is none.
+        """
+        rows = self.rows
+        found = [
+            (row.place, side) for row in rows.bad if row.kind == TRADE and row.place >= 0
+            for side, one, other in (("bid", rows.bid, rows.ask), ("ask", rows.ask, rows.bid))
+            if one[row.place] < 0 <= other[row.place]
+        ]  # fmt: skip
+        fills = (row.place for row in rows.bad if row.kind == FILL and row.place >= 0)
+        found += [(place, "order") for place in fills if rows.key[place] < 0]
+        halves = numpy.flatnonzero(rows.is_half & (rows.kind == FILL))
+        for place in halves[rows.side[halves] > 0][:1].tolist():
+            found.append((place, SIDES[3 - rows.side[place]]))
+        return min(found, default=(-1, ""))
 
     # ---- items, trades and fills
 
@@ -401,15 +423,28 @@ class Doubts:
         return f"the trade of row {rows.labels[halves[0]]} has no row of its other side"
 
     def _of_busted(self, lawful: object) -> str:
-        """Why a trade or a fill may be missing: a bust takes such a one out."""
+        """Why a trade or a fill may be missing: a bust takes such a one out, which may have no row
+        itself.
+        """
         rows = self.rows
-        taken = rows.of(TAKEN)
+        lost = [it.place for it in rows.bad if it.doubt is Doubt.BUST and it.place >= 0]
+        taken = numpy.union1d(rows.of(TAKEN), numpy.array(lost, "i8"))
+        if isinstance(lawful, Trade | Fill):
+            shares = rows.quantity[taken]
+            taken = taken[(rows.kind[taken] != BAD) | (shares < 0) | (shares == lawful.quantity)]
         if isinstance(lawful, Trade):
             taken = taken[(rows.bid[taken] == lawful.bid) & (rows.ask[taken] == lawful.ask)]
         elif isinstance(lawful, Fill):
             keys = (rows.bid[taken], rows.ask[taken], rows.key[taken])
             taken = taken[numpy.any([it == lawful.order for it in keys], axis=0)]
-        return f"a bust takes the trade of row {rows.labels[taken[0]]} out" if len(taken) else ""
+        if not len(taken):
+            return ""
+        label = rows.labels[taken[0]]
+        is_lost = rows.kind[taken[0]] == BAD
+        return (
+            f"row {label} is a bust of it, and the trade may have no row" if is_lost
+            else f"a bust takes the trade of row {label} out"
+        )  # fmt: skip
 
 
 def _is_extra(each: Difference, strays: set[int]) -> bool:
