@@ -7,7 +7,9 @@ from typing import Any
 import pandas
 import pytest
 from callauction.verdict import Reading, Verdict, audit_events
-from test_meeting_damages import judged
+from test_meeting_damages import judged, rows_of
+
+UNRESTRICTED = Reading(unrestricted=True)
 
 # ---- rows of one order at one time
 
@@ -167,7 +169,8 @@ def test_a_sign_of_thousands_that_does_not_part_three_digits_is_not_read(
     assert verdict.word == "incomplete", str(verdict)
 
 
-MEMBERS = """event,time,order,member,side,price,quantity,surplus,auction,trades,bid,ask,bid_member,ask_member
+MEMBERS = """event,time,order,member,side,price,quantity,surplus,auction,trades,bid,ask,\
+bid_member,ask_member
 new,08:00:00,a,M1,bid,10.50,100,,,,,,,
 new,08:00:01,b,{},ask,10.40,300,,,,,,,
 new,08:00:02,c,{},bid,10.45,100,,,,,,,
@@ -184,7 +187,7 @@ def test_two_words_of_one_member(columns: tuple[str, ...]) -> None:
     for ours in (("M2", "M3", "M2", "M3", "M2"), ("M2", "M3", "X9", "X9", "X9"),
                  ("X9", "M3", "M2", "X9", "M3")):  # fmt: skip
         assert frame_judged(MEMBERS.format(*ours), values=values).word == "lawful"
-    wrong = MEMBERS.format("M2", "M3", "M2", "M1", "M2")
+    wrong = MEMBERS.format("M2", "M3", "M1", "M3", "M2")
     assert frame_judged(wrong, values=values).word == "unlawful"
 
 
@@ -200,3 +203,22 @@ def test_ids_of_trades_that_no_order_has_beside_a_trade_that_is_there_twice() ->
     assert verdict.word == "incomplete", str(verdict)
     wrong = day.replace("100 10.00 opening", "90 10.00 opening")
     assert judged(wrong, auctions=["opening"]).word == "unlawful"
+
+
+def test_a_result_that_is_sent_again_with_another_sequence() -> None:
+    """It is one auction's, below an order of the next call phase."""
+    rows = rows_of("""
+        new 08:30 A bid 100 10.00
+        new 08:31 B ask 100 10.00
+        uncross 09:00 10.00 100 0 none 1 opening
+        trade 09:00 A B 100 10.00 opening
+        new 09:30 C bid 100 10.00
+        uncross 10:00 - 0 0 none 0 closing
+    """)
+    rows.insert(5, dict(rows[2]))
+    for number, row in enumerate(rows, 1):
+        row["sequence"] = str(number)
+    frame = pandas.DataFrame(rows).fillna("")
+    verdict = audit_events(frame, reference="10", tick_size="0.01",
+                           auctions=["opening", "closing"], reading=UNRESTRICTED)  # fmt: skip
+    assert verdict.word == "lawful", str(verdict)

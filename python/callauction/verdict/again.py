@@ -42,6 +42,7 @@ def drop_sent_again(rows: Rows, columns: Columns, sequence: Ints | None, lead: C
             again = content.duplicated() & ~_has_others(rows, these, content)
             _drop(rows, these[again.to_numpy()])
         return
+    _drop_results(rows, columns, lead)
     marks = paired_codes(paired_codes(lead, numbered(rows.time)), sequence + 1)
     twice = pandas.Series(marks).duplicated(keep=False).to_numpy()
     these = numpy.flatnonzero(twice & (sequence >= 0) & (rows.kind != BAD))
@@ -55,6 +56,19 @@ def drop_sent_again(rows: Rows, columns: Columns, sequence: Ints | None, lead: C
     left = these[(rows.kind[these] != BAD) & (rows.kind[these] != UNCROSS)]
     for place in left[pandas.Series(marks[left]).duplicated().to_numpy()]:
         _refuse_both(rows, columns, int(left[marks[left] == marks[place]][0]), int(place))
+
+
+def _drop_results(rows: Rows, columns: Columns, lead: Codes) -> None:
+    """Leaves out later results that say what the one before of their auction says, with its name
+    and its time: all but the sequence is the same.
+    """
+    is_named = (rows.kind == UNCROSS) & (rows.state > 0) & (rows.time != clocks.NONE)
+    these = numpy.flatnonzero(is_named)
+    if len(these) > 1:
+        own = paired_codes(lead[these], columns.content(these, "sequence"))
+        content = pandas.Series(own)
+        again = content.duplicated() & ~_has_others(rows, these, content)
+        _drop(rows, these[again.to_numpy()])
 
 
 def _unsay(rows: Rows, place: int, these: Ints) -> None:

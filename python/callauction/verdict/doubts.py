@@ -223,7 +223,8 @@ class Doubts:
             why = f"row {rows.labels[min(named)]} is a trade of an order that no row enters"
             return Reason(why, True)
         place, side = self._one_sided()
-        why = f"the {side} of the trade of row {rows.labels[place]} isn't said: does a row enter it?"
+        trade = f"the trade of row {rows.labels[place]}"
+        why = f"the {side} of {trade} isn't said: does a row enter it?"
         return Reason(why, True) if side else None
 
     def _one_sided(self) -> tuple[int, str]:

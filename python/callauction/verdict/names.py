@@ -25,6 +25,7 @@ _ONE_SIGN = re.compile(r"(.)\1\1+|\W+")
 _QUOTES = "'\"`"
 """What a sheet may write before a number that is to stay a text."""
 OTHER_IDS = "no trade has an order's id: are theirs of another column, or another spelling?"
+_MOST_PARTS = 12
 MOST_TEXTS = 100_000
 """How many ids, and how many rows, are looked at."""
 
@@ -170,21 +171,29 @@ def _fits(rows: Rows, judged: Judged, again: Ints) -> bool:
     """Whether an auction's trades and fills have its price, and together its shares, with some of
     those that busts take out, and without some that may be there twice.
     """
-    result = judged.result
+    result, taken = judged.result, rows.of(TAKEN)
     assert result is not None
     own = numpy.concatenate([judged.traded, judged.filled])
-    parts = (judged.traded, judged.filled)
-    most, least = ([int(rows.quantity[numpy.setdiff1d(it, those)].sum()) for it in parts]
-                   for those in (again[:0], again))  # fmt: skip
-    due = (result.volume * bool(len(judged.traded)), 2 * result.volume * bool(len(judged.filled)))
-    taken = rows.of(TAKEN)
-    busted = [int(rows.quantity[taken[it]].sum()) for it in (rows.bid[taken] >= 0,
-                                                             rows.bid[taken] < 0)]  # fmt: skip
-    if any(not low <= it <= high + out for low, it, high, out in zip(least, due, most, busted)):
-        return False
+    for those, is_trade in ((judged.traded, True), (judged.filled, False)):
+        maybe = numpy.union1d(those[numpy.isin(those, again)],
+                              taken[(rows.bid[taken] >= 0) == is_trade])  # fmt: skip
+        due = (2 - is_trade) * result.volume * bool(len(those))
+        sure = numpy.setdiff1d(those, again)
+        if not _may_be(due, int(rows.quantity[sure].sum()), rows.quantity[maybe].tolist()):
+            return False
     if result.volume and not len(own) and not len(taken):
         return False
     return bool(numpy.isin(rows.price[own], (result.number, MISSING)).all())
+
+
+def _may_be(due: int, sure: int, parts: list[int]) -> bool:
+    """Whether shares that are sure, with some of those that aren't, are those that are due."""
+    if len(parts) > _MOST_PARTS:
+        return sure <= due <= sure + sum(parts)
+    sums = {sure}
+    for part in parts:
+        sums |= {it + part for it in sums}
+    return due in sums
 
 
 def is_placeholder(name: str) -> bool:

@@ -163,7 +163,7 @@ def _changes(found: Judgement, judge: Judge) -> Iterator[list[Change]]:
     spelled = respelled(rows) or renamed(rows, found) or misentered(rows, found)
     if spelled is not None:
         yield [_rows(functools.partial(_respelled, spelled[0]), spelled[1])]
-    elif have_other_ids(rows, found, numpy.union1d(those, earlier)):
+    elif have_other_ids(rows, found, numpy.union1d(copies(rows, found), earlier)):
         yield [_without_rows(rows, rows.of(TRADE, FILL), OTHER_IDS)]
     others = Owners(rows if spelled is None else spelled[0]).told()
     if others is not None:

@@ -205,9 +205,13 @@ class Columns:
         found = _COUNTED.fullmatch(plain)
         return (found[1], Decimal(found[2])) if found else None
 
-    def content(self, rows: Ints) -> Ints:
-        """A number for each of some rows, which is equal where all cells are."""
+    def content(self, rows: Ints, without: str = "") -> Ints:
+        """A number for each of some rows, which is equal where all cells are, but for those of one
+        of our columns.
+        """
         found, source = numpy.zeros(len(rows), "i8"), self.source.take(rows)
         for name in source.names:
+            if name == self.names.get(without):
+                continue
             found = paired_codes(found, source.cells(name).codes()[0] + 1)
         return found
