@@ -387,7 +387,8 @@ class _Log:
 
 def _numbers_of(numbers: list[range]) -> Ints:
     """The numbers of messages, each once."""
-    return numpy.unique(numpy.fromiter(itertools.chain(*numbers), "i8"))
+    found: Ints = numpy.unique(numpy.fromiter(itertools.chain(*numbers), "i8"))
+    return found
 
 
 def _is_of_one_session(source: Source) -> bool:
