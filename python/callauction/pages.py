@@ -22,7 +22,7 @@ h1 { font-size: 1.6rem; line-height: 1.2; } h2 { font-size: 1.3rem; margin-top: 
 nav ul { padding: 0; list-style: none; display: flex; flex-wrap: wrap; gap: .25rem 1rem; }
 a { color: #00548a; } .desk { max-width: 78rem; } .market { max-width: 112rem; }
 .desk p, .desk ol { max-width: 54rem; }
-h1, h2, h3 { overflow-wrap: anywhere; } .desk td.text { overflow-wrap: break-word; }
+h1, h2, h3, dd { overflow-wrap: anywhere; } .desk td.text { overflow-wrap: break-word; }
 .desk tbody > tr > * { vertical-align: top; }
 .wide { overflow-x: auto; } .wide:focus-visible { outline: 3px solid #00548a; }
 .hint { display: none; font-weight: 400; }

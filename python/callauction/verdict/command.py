@@ -87,7 +87,8 @@ def add_reading(parser: argparse.ArgumentParser) -> None:
     add("--encoding", help="the file's encoding (utf-8)")
     add("--where", action="append", default=[], help="a condition, such as 'status != REJECTED'")
     add("--market", action="append", default=[], help="a price that means a market order")
-    add("--quantity", choices=("open", "total"), help="what replaces have (open)")
+    total = "what replaces have (open, in doubt where total makes a day lawful)"
+    add("--quantity", choices=("open", "total"), help=total)
     add("--pair", help="the column that joins both rows of a trade, each with order and side")
     add("--sort", action="store_true", default=None, help="sort the rows by time and sequence")
     none = "no order is for one auction alone, where no column restriction says it"
@@ -190,8 +191,16 @@ def market(content: bytes, asked: argparse.Namespace) -> Market:
     """The instruments of an extract. Raises as read_table."""
     table, reading = table_of(content, asked)
     terms = {name: vars(asked)[name] for name in TERMS}
-    found = market_of(table, reading, asked.by, days_of(asked.days, asked.by), terms)
+    found = market_of(table, reading, asked.by, _days_of(asked), terms)
     return dataclasses.replace(found, is_explained=vars(asked).get("explain", False))
+
+
+def _days_of(asked: argparse.Namespace) -> Days:
+    """The days of a file. Raises ExtractError, which names the file, and OSError."""
+    try:
+        return days_of(asked.days, asked.by)
+    except ValueError as fault:
+        raise ExtractError(f"{asked.days}: {fault}") from fault
 
 
 def verdict_of(content: bytes, asked: argparse.Namespace, watch: Watch = iter) -> Verdict:
