@@ -295,9 +295,13 @@ def test_a_bad_row_is_listed_and_the_rest_goes_on() -> None:
 def test_more_than_63_members_appear_by_their_names() -> None:
     rows = small_day()
     rows[-1]["ask_member"] = "member of S4"
-    [finding] = verdict_of(rows).findings
+    verdict = verdict_of(rows)
+    [finding] = verdict.doubtful
     assert finding.lawful == "bid B2 (member of B2) ask S88 (member of S88): 10 at 10.00"
-    assert finding.rule == "S88 is an order of member of S88, not of member of S4."
+    assert not verdict.findings and finding.rule == (
+        "row 93 says that order 'S88' is member of S88's, and row 180 that it is member of S4's: "
+        "is the first wrong?"
+    )
 
 
 # ---- extracts as they come
