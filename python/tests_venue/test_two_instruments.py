@@ -49,7 +49,7 @@ def test_the_instrument_is_named_in_each_tab(lesson: tuple[served.Served, Page])
     _, page = lesson
     for tab in TABS:
         page.clicks(f"#tab-{tab}")
-        page.waits(lambda it, tab=tab: it.shows(tab))
+        page.waits(lambda it: it.shows(tab))
         assert page.shows("choosing") and page.shows("instrument"), tab
         page.resizes((390, 1000))
         assert page.shows("instrument") and page.excess(390) <= 0, tab
@@ -64,7 +64,7 @@ def test_values_and_gains_are_those_of_the_instrument(lesson: tuple[served.Serve
     page.clicks("#tab-class")
     for name, title, value in (("TEA", "Tea", "3.00"), ("RICE", "Rice", "4.00")):
         chooses(page, name)
-        page.waits(lambda it, value=value: value in it.rows("members")[0][3])
+        page.waits(lambda it: value in it.rows("members")[0][3])
         assert heads(page) == [f"Value: {title}", f"Gain: {title}"]
 
 

@@ -170,7 +170,7 @@ def test_a_reference_beyond_the_kept_limits(
 @pytest.mark.parametrize("language", ["en", "de"])
 def test_each_sentence_holds(page: Page, language: str) -> None:
     chance = random.Random(7)
-    books = []
+    books: list[Book] = []
     while len(books) < BOOKS:
         orders = [
             (chance.choice(("bid", "ask")), chance.randrange(190, 211), 50)
