@@ -61,9 +61,9 @@ _TOTALS = re.compile(r"(?:(?:grand|sub) ?)?totals?\b|sum(?:me)?\b|gesamt", re.IG
 """How a line of totals begins."""
 _FIGURES = re.compile(r"[\d.,' %+-]*")
 _BLANKS = " \xa0\u2009\u202f"
+"""What a program may write where a person sees a blank between thousands."""
 _FIRST_GROUP = re.compile(r"[-+]?\d{1,3}")
 """The digits before the first sign of thousands."""
-"""What a program may write where a person sees a blank between thousands."""
 _CONDITION = re.compile(r"\s*(?P<name>.+?)\s*(?P<sign>==|!=|<=|>=|<|>)\s*(?P<value>.*?)\s*")
 _INSTRUMENT = re.compile(
     r"(?:financial)?(?:isin|instrument|security|symbol|wkn|wertpapier|ticker|sedol|cusip|ric)+"
@@ -136,12 +136,20 @@ class Reading:
 
     def _without_thousands(self, text: str) -> str:
         signs = _BLANKS if self.thousands in {*_BLANKS} else self.thousands
+        if self.decimal in signs:  # 1.000 shares beside a price of 10.02
+            return _without_signs(text.strip(), signs)
         whole, sign, rest = text.strip().partition(self.decimal)
-        groups = re.split(f"[{re.escape(signs)}]", whole)
-        if len(groups) > 1 and _FIRST_GROUP.fullmatch(groups[0]):
-            is_whole = all(len(it) == 3 and it.isdecimal() for it in groups[1:])
-            whole = "".join(groups) if is_whole else whole
-        return "".join("?" if it in signs else it for it in whole + sign + rest)
+        number = _without_signs(whole, signs) + sign + rest
+        return "".join("?" if it in signs else it for it in number)
+
+
+def _without_signs(number: str, signs: str) -> str:
+    """A whole number without these signs, where they part groups of three digits; else as it is."""
+    first, *others = re.split(f"[{re.escape(signs)}]", number)
+    if not _FIRST_GROUP.fullmatch(first):
+        return number
+    is_parted = all(len(it) == 3 and it.isdecimal() for it in others)
+    return "".join([first, *others]) if is_parted else number
 
 
 class End(NamedTuple):
