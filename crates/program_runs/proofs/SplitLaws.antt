@@ -46,6 +46,15 @@ from_next n (x ∷ xs) =
     from_by x n (calls_of_from n xs) (calls_of_one n xs) (calls_of_from (n + 1) xs) (nat_le n x.member) (x.member == n)
     (nat_le (n + 1) x.member) refl refl refl (from_next n xs)
 
+all_by : (x : Call) (a xs : List Call) (b : Bool) → nat_le 0 x.member ≡ b → length a ≡ length xs
+    → length (if b then x ∷ a else a) ≡ length (x ∷ xs)
+all_by x a xs true is e = omega arith
+all_by x a xs false is e = absurd (grind (arith, nat_tests))
+
+from_none : (xs : List Call) → length (calls_of_from 0 xs) ≡ length xs
+from_none [] = refl
+from_none (x ∷ xs) = all_by x (calls_of_from 0 xs) xs (nat_le 0 x.member) refl (from_none xs)
+
 -- all calls are of a number below `n`, or of one from there on
 pub sum_counts : (n : ℕ) (xs : List Call) → sum (calls_of_members n xs) + length (calls_of_from n xs) ≡ length xs
 sum_counts zero xs = omega (arith, from_none xs)
