@@ -163,6 +163,8 @@ static const callauction_entry none[] = {
     {{.tag = 5}, {.tag = 8}},
     {{.tag = 5}, {.tag = 8, .auction = 4}},
     {{.tag = 5}, {.tag = 8, .auction = 1, .volume = 1}},
+    {{.tag = 7}, {.tag = 8, .auction = 1, .trades = 1}}, /* the text of no price says of no trades */
+    {{.tag = 7}, {.tag = 8, .auction = 3, .trades = UINT32_MAX}},
     {{.tag = 5}, {.tag = 9, .has_tick = 1, .trades = 1}},
     {{.tag = 5}, {.tag = 10}},
     {{.tag = 5}, {.tag = 10, .refusal = 10}},

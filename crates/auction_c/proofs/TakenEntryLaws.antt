@@ -1,13 +1,15 @@
--- What the library writes of a history a journal takes: each entry's struct is read back as this entry.
+-- What the library writes of a lawful history a journal takes: each entry's struct is read back as this entry.
 use Rattle.std.proofs.Common.{◌≡◌, refl, ℕ, ◌==◌, ◌∷◌, [], List, All, map, true, false}
 use Rattle.std.proofs.lemmas.Bool.{eq-eqb}
 use Rattle.std.proofs.lemmas.List.Elements.{All-head, All-tail}
+use Rattle.std.specs.List.{AllByRecursion}
 use Rattle.std.specs.Prelude.{Option, Some, None, is_some, nat_lt, unwrap_or}
 use Rattle.auction_terms.specs.declared.AuctionKind.{AuctionKind}
 use Rattle.auction_terms.specs.declared.AuctionKind.TheVariants.{Opening, Intraday, Closing}
 use Rattle.auction_terms.specs.declared.Command.{Command}
 use Rattle.auction_terms.specs.declared.Command.TheVariants.{Enter, Change, Delete, OrderStatus, Indicate, ReadTrade}
 use Rattle.auction_terms.specs.declared.Command.TheVariants.{Uncross}
+use Rattle.auction_terms.specs.declared.Config.{Config}
 use Rattle.auction_terms.specs.declared.Display.TheVariants.{Priced, Unpriced}
 use Rattle.auction_terms.specs.declared.Entry.{Entry}
 use Rattle.auction_terms.specs.declared.Limit.{Limit}
@@ -23,10 +25,14 @@ use Rattle.auction_terms.specs.declared.Side.{Side}
 use Rattle.auction_terms.specs.declared.Side.TheVariants.{Bid, Ask}
 use Rattle.auction_terms.specs.declared.limits.TheConstants.{MAX_MEMBERS}
 use Rattle.auction_terms.specs.Book.{tick_of}
+use Rattle.auction_terms.specs.Day.{IsLegal, calls_of, opening_state}
+use Rattle.journal.proofs.ReplayTextLaws.{replies-are-fully-printed}
+use Rattle.journal.specs.WideReplies.{IsFullyPrinted}
 use Rattle.auction_c.specs.Decoding.{command_in, decoded_restriction, flagged_in, limit_in, side_in}
 use Rattle.auction_c.specs.Encoding.{auction_kind_out, command_out, entry_out, flag_out, reply_out, restriction_out}
 use Rattle.auction_c.specs.Encoding.{side_out, surplus_side_out}
-use Rattle.auction_c.specs.Journals.{decoded_entry, decoded_reply, fits_record, is_same_reply, recordable_command}
+use Rattle.auction_c.specs.Journals.{decoded_entry, decoded_reply, fits_record, is_fully_printed, is_same_reply}
+use Rattle.auction_c.specs.Journals.{recordable_command}
 use Rattle.auction_c.specs.ReadBack.{auction_back, reply_back, surplus_side_back, tick_back}
 use Rattle.auction_c.specs.declared.structs.AuctionReply.{AuctionReply}
 
@@ -146,9 +152,22 @@ is_same_as_itself r =
       same r.has_best_ask,
     ) refl
 
-reply_is_taken : (reply : Reply) → decoded_reply (reply_out reply) ≡ Some reply
+is_printed : (reply : Reply) → IsFullyPrinted reply → is_fully_printed reply ≡ true
+is_printed (Entered id) holds = refl
+is_printed (Changed kept) holds = refl
+is_printed Deleted holds = refl
+is_printed (OpenOrder side limit quantity visible) holds = refl
+is_printed (Indicated display) holds = refl
+is_printed (Traded trade) holds = refl
+is_printed (Uncrossed kind trades None) holds = rw holds refl
+is_printed (Uncrossed kind trades (Some price)) holds = refl
+is_printed (Interrupted price) holds = refl
+is_printed (IsRefused reason) holds = refl
+
+reply_is_taken : (reply : Reply) → IsFullyPrinted reply → decoded_reply (reply_out reply) ≡ Some reply
 unfolding decoded_reply
-reply_is_taken reply = rw (reply_reads_back reply, is_same_as_itself (reply_out reply)) refl
+reply_is_taken reply holds =
+    rw (reply_reads_back reply, is_same_as_itself (reply_out reply), is_printed reply holds) refl
 
 -- ---- entries
 
@@ -161,12 +180,24 @@ command_is_taken : (e : Entry) → IsRecordable e
 command_is_taken e holds =
     rw (command_reads_back e.member e.command, has_member e.member e.command, holds.0, holds.1) refl
 
-pub entry_is_taken : (e : Entry) → IsRecordable e → decoded_entry (entry_out e) ≡ Some e
+pub entry_is_taken : (e : Entry) → IsRecordable e → IsFullyPrinted e.reply → decoded_entry (entry_out e) ≡ Some e
 unfolding decoded_entry
-entry_is_taken e holds = rw (command_is_taken e holds, reply_is_taken e.reply, has_member e.member e.command) refl
+entry_is_taken e holds is_whole =
+    rw (command_is_taken e holds, reply_is_taken e.reply is_whole, has_member e.member e.command) refl
 
-pub history_is_taken : (history : List Entry) → All IsRecordable history
+entries_are_taken : (entries : List Entry) → All IsRecordable entries
+    → AllByRecursion IsFullyPrinted (map (λ (e : Entry). e.reply) entries)
+    → map decoded_entry (map entry_out entries) ≡ map Some entries
+entries_are_taken [] all whole = refl
+entries_are_taken (e ∷ es) all whole =
+    rw (
+      entry_is_taken e (All-head IsRecordable e es all) whole.0,
+      entries_are_taken es (All-tail IsRecordable e es all) whole.1,
+    ) refl
+
+-- a lawful history: the text of each reply of a replay says all of it
+pub history_is_taken : (config : Config) (history : List Entry) → IsLegal config history → All IsRecordable history
     → map decoded_entry (map entry_out history) ≡ map Some history
-history_is_taken [] all = refl
-history_is_taken (e ∷ es) all =
-    rw (entry_is_taken e (All-head IsRecordable e es all), history_is_taken es (All-tail IsRecordable e es all)) refl
+history_is_taken config history legal all =
+    entries_are_taken history all
+    (rw legal.replies (replies-are-fully-printed config (opening_state config) (calls_of history)))

@@ -13,7 +13,10 @@ use Rattle.auction_terms.specs.declared.Command.TheVariants.{Enter, Change, Dele
 use Rattle.auction_terms.specs.declared.Command.TheVariants.{Uncross}
 use Rattle.auction_terms.specs.declared.Config.{Config}
 use Rattle.auction_terms.specs.declared.Entry.{Entry}
+use Rattle.auction_terms.specs.declared.Price.{Price}
 use Rattle.auction_terms.specs.declared.Reply.{Reply}
+use Rattle.auction_terms.specs.declared.Reply.TheVariants.{Entered, Changed, Deleted, OpenOrder, Indicated, Traded}
+use Rattle.auction_terms.specs.declared.Reply.TheVariants.{Uncrossed, Interrupted, Refused}
 use Rattle.auction_terms.specs.declared.limits.TheConstants.{MAX_MEMBERS, MAX_TICK}
 use Rattle.auction_terms.specs.Auxiliary.RunningAuction.{RunningAuction, auction_after}
 use Rattle.auction_terms.specs.Day.{replay}
@@ -113,9 +116,27 @@ has_same_tags r s =
 abbrev pub is_same_reply : AuctionReply → AuctionReply → Bool
 is_same_reply r s = has_same_shares r s && has_same_numbers r s && has_same_tags r s
 
--- the reply that is written as this struct, if there is one
+-- the text of an uncross says of all its trades: without a price it says of none
+abbrev pub is_printed_uncross : ℕ → Option Price → Bool
+is_printed_uncross trades None = trades == 0
+is_printed_uncross trades (Some price) = true
+
+-- the text of the reply says all of it
+abbrev pub is_fully_printed : Reply → Bool
+is_fully_printed (Entered id) = true
+is_fully_printed (Changed kept) = true
+is_fully_printed Deleted = true
+is_fully_printed (OpenOrder side limit quantity visible) = true
+is_fully_printed (Indicated display) = true
+is_fully_printed (Traded trade) = true
+is_fully_printed (Uncrossed kind trades price) = is_printed_uncross trades price
+is_fully_printed (Interrupted price) = true
+is_fully_printed (Refused reason) = true
+
+-- the reply that is written as this struct, if there is one, and if its text says all of it
 unfoldable pub decoded_reply : AuctionReply → Option Reply
-decoded_reply r = if is_same_reply (reply_out (reply_back r)) r then Some (reply_back r) else None
+decoded_reply r =
+    if is_same_reply (reply_out (reply_back r)) r && is_fully_printed (reply_back r) then Some (reply_back r) else None
 
 -- the entry in a struct that a journal can hold, if there is one
 unfoldable pub decoded_entry : AuctionEntry → Option Entry

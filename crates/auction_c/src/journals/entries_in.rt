@@ -206,13 +206,33 @@ fn is_same_reply(one: &AuctionReply, other: &AuctionReply) -> bool
     has_same_shares(one, other) && has_same_numbers(one, other) && has_same_tags(one, other)
 }
 
-// The reply that is written as this struct, if there is one.
+// Whether the text of an uncross says of all its trades: without a price it says of none.
+fn is_printed_uncross(trades: u32, price: Option<Price>) -> bool
+    ensures { result ≡ recorded_as.is_printed_uncross trades price }
+{
+    match price {
+        None => trades == 0,
+        Some(_) => true,
+    }
+}
+
+// Whether the text of the reply says all of it.
+fn is_fully_printed(reply: Reply) -> bool
+    ensures { result ≡ recorded_as.is_fully_printed reply }
+{
+    match reply {
+        Reply::Uncrossed { trades, price, .. } => is_printed_uncross(trades, price),
+        _ => true,
+    }
+}
+
+// The reply that is written as this struct, if there is one, and if its text says all of it.
 #[tactic(auto, unfolding(crate::specs::Journals::decoded_reply))]
 fn decoded_reply(reply: &AuctionReply) -> Option<Reply>
     ensures { result ≡ recorded_as.decoded_reply reply.now }
 {
     let back = reply_back(reply);
-    if is_same_reply(&reply_out(back), reply) {
+    if is_same_reply(&reply_out(back), reply) && is_fully_printed(back) {
         return Some(back);
     }
     None
