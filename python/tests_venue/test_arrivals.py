@@ -1,6 +1,7 @@
 """Who has the code takes no more places than a class needs: new members of one address are slowed,
 and the operator reads of it.
 """
+import contextlib
 import http.client
 import json
 import pathlib
@@ -147,15 +148,19 @@ def test_all_places_are_taken(tmp_path: pathlib.Path) -> None:
 
 def test_the_page_joins_by_itself(tmp_path: pathlib.Path) -> None:
     day = "sync = false\n[members]\njoins = 1\n"
-    with served.served(tmp_path, day) as venue, opened(tmp_path / "page", venue.url) as page:
+    with contextlib.ExitStack() as opening:
+        venue = opening.enter_context(served.served(tmp_path, day))
+        page = opening.enter_context(opened(tmp_path / "page", venue.url))
+        teacher = opening.enter_context(
+            opened(tmp_path / "t", f"{venue.url}teacher#{venue.operator}", SCREEN)
+        )
         page.waits(lambda it: it.shows("join"))
         page.types(code=venue.code, name="Bert")
         venue.join("Anna")
         page.clicks("#join button")
         page.waits(lambda it: it.text("join-said").startswith("Many have just joined from this"))
-        with opened(tmp_path / "t", f"{venue.url}teacher#{venue.operator}", SCREEN) as teacher:
-            teacher.waits(lambda it: it.text("arrivals").startswith(
-                "Joining from 127.0.0.1 is slowed: "))
+        teacher.waits(lambda it: it.text("arrivals").startswith(
+            "Joining from 127.0.0.1 is slowed: "))
         page.waits(lambda it: it.text("who") == "Bert")
         assert page.errors() == []
 
