@@ -35,7 +35,7 @@ def test_a_day_with_another_member_in_an_entry_is_never_unlawful() -> None:
         verdict = judged(extract)
         assert verdict.word != "unlawful", f"{seed}\n{verdict}"
         doubtful += any("is the first wrong?" in it.doubt for it in verdict.doubtful)
-    assert doubtful > 5
+    assert doubtful >= max(1, len(SEEDS) // 8)
 
 
 DAY = """

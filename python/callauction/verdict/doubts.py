@@ -22,7 +22,7 @@ from callauction.verdict.mixed import is_one_session
 from callauction.verdict.names import is_placeholder, respelled
 from callauction.verdict.phases import Book, Result
 from callauction.verdict.rows import (
-    BAD, FILL, MISSING, NEW, SIDES, STOPPED, TAKEN, TRADE, BadRow, Doubt, Rows,
+    BAD, FILL, MISSING, NEW, STOPPED, TAKEN, TRADE, BadRow, Doubt, Rows,
 )  # fmt: skip
 from callauction.verdict.strays import Strays
 from callauction.verdict.ties import Ties
@@ -239,9 +239,6 @@ class Doubts:
         ]  # fmt: skip
         fills = (row.place for row in rows.bad if row.kind == FILL and row.place >= 0)
         found += [(place, "order") for place in fills if rows.key[place] < 0]
-        halves = numpy.flatnonzero(rows.is_half & (rows.kind == FILL))
-        for place in halves[rows.side[halves] > 0][:1].tolist():
-            found.append((place, SIDES[3 - rows.side[place]]))
         return min(found, default=(-1, ""))
 
     # ---- items, trades and fills
