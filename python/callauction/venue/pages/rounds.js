@@ -9,12 +9,12 @@ export function roundText({ round, title, practice }) {
 // What members may see and do in a round, a sentence each; with several instruments what is limited is limited
 // in each.
 export function treatmentTexts(found, terms, hasSeveral) {
-  const limit = hasSeveral ? "of_each" : "says";
+  const [sharesKey, moneyKey] = hasSeveral ? ["shares_of_each", "money_of_each"] : ["shares_says", "money_says"];
   return [
     text(found.book === "open" ? "book_open" : "book_closed"),
     found.covered && text("covered_says"),
     !found.own_trades && text("own_trades_says"),
-    found.shares !== null && text(`shares_${limit}`, shares(found.shares)),
-    found.money && text(`money_${limit}`, money(found.money, terms)),
+    found.shares !== null && text(sharesKey, shares(found.shares)),
+    found.money && text(moneyKey, money(found.money, terms)),
   ].filter(Boolean);
 }
