@@ -24,7 +24,7 @@ from callauction.venue.members import Members
 from conftest import FAST
 from served import Served
 from test_robots import until
-from test_rounds import trade
+from test_rounds import sees, trade
 
 DAY = FAST + """
 [payoff]
@@ -134,13 +134,41 @@ def test_the_results(tmp_path: pathlib.Path) -> None:
         "round": "2", "title": "", "practice": "no", "instrument": "XYZ", "name": "'=Anna",
         "robot": "", "side": "bid", "value": "3.00", "quantity": "20", "bought": "10",
         "paid": "25.00", "sold": "0", "received": "0.00", "gain": "5.00", "possible": "15.00",
-        "efficiency": "1.0000", "payoff": "2.500",
+        "efficiency": "1.0000", "payoff": "2.500", "removed": "no",
     }
     assert (found[0]["practice"], found[0]["title"], found[0]["payoff"]) == ("yes", "Try it", "")
     assert (found[5]["side"], found[5]["gain"]) == ("", "0.00")
     assert [(it["gain"], it["payoff"]) for it in found[-3:]] == [
         ("10.00", "10.00"), ("5.00", "7.50"), ("0.00", "5.00")
     ]
+
+
+def test_who_was_removed_keeps_what_it_came_to(tmp_path: pathlib.Path) -> None:
+    """Anna gains 10 in practice and 5 in the round that counts, Bert 5 and 10 of the 15 that are
+    possible: that Bert is removed then changes none of it. Dora did nothing, and has no row.
+    """
+    with served.served(tmp_path, DAY) as venue:
+        lesson(venue)
+        venue.join("Dora")
+        venue.do("remove", members=["Bert", "Dora"])
+        venue.do("payoffs", shows="ranking")
+        found, trades = rows(download(venue, "results")), rows(download(venue, "trades"))
+        german = spreadsheet(venue, "results", "de").splitlines()
+        report = download(venue, "report")
+        shown = sees(venue, "ranking")
+    assert [(it["round"], it["name"], it["gain"], it["payoff"], it["removed"]) for it in found] == [
+        ("1", "'=Anna", "10.00", "", "no"), ("1", "Bert", "5.00", "", "yes"),
+        ("1", "Carl", "0.00", "", "no"),
+        ("2", "'=Anna", "5.00", "2.500", "no"), ("2", "Bert", "10.00", "5.000", "yes"),
+        ("2", "Carl", "0.00", "0.000", "no"),
+        ("all", "Bert", "10.00", "10.00", "yes"), ("all", "'=Anna", "5.00", "7.50", "no"),
+        ("all", "Carl", "0.00", "5.00", "no"),
+    ]
+    assert {it["efficiency"] for it in found if it["round"] != "all"} == {"1.0000"}
+    assert [(it["buyer"], it["seller"]) for it in trades] == [("'=Anna", "Bert")] * 2
+    assert "alle;;;;Bert;;;;;;;;;10,00;;;10,00;ja" in german
+    assert report.count(">Bert (removed)</") == 3 and ">Carl</" in report
+    assert [(it["rank"], it["name"]) for it in shown["rows"]] == [(1, "=Anna"), (2, "Carl")]
 
 
 def test_the_trades(tmp_path: pathlib.Path) -> None:
@@ -200,10 +228,10 @@ def test_tables_for_a_german_spreadsheet(tmp_path: pathlib.Path) -> None:
     head, first, *others = results.splitlines()
     assert head == (
         "\ufeffRunde;Titel;Übung;Wertpapier;Name;Roboter;Seite;Wert;Menge;gekauft;bezahlt;verkauft;"
-        "erhalten;Gewinn;möglicher Gewinn;Effizienz;Auszahlung"
+        "erhalten;Gewinn;möglicher Gewinn;Effizienz;Auszahlung;entfernt"
     )
-    assert first == "1;Try it;ja;XYZ;'=Anna;;Kauf;3,00;20;10;20,00;0;0,00;10,00;15,00;1,0000;"
-    assert others[-1] == "alle;;;;Carl;;;;;;;;;0,00;;;5,00"
+    assert first == "1;Try it;ja;XYZ;'=Anna;;Kauf;3,00;20;10;20,00;0;0,00;10,00;15,00;1,0000;;nein"
+    assert others[-1] == "alle;;;;Carl;;;;;;;;;0,00;;;5,00;nein"
     assert refused[0] == 400
 
 

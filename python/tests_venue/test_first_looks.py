@@ -6,7 +6,7 @@ import contextlib
 import json
 import pathlib
 import shutil
-from collections.abc import AsyncIterator, Callable, Sequence
+from collections.abc import AsyncIterator, Callable, Iterable, Sequence
 
 import pytest
 import served
@@ -16,7 +16,7 @@ from callauction.venue import results
 from callauction.venue.config import DayTerms, InstrumentTerms, Plan
 from callauction.venue.gates import Gates
 from callauction.venue.instrument import Instrument
-from callauction.venue.members import Member, Members
+from callauction.venue.members import Member
 from callauction.venue.messages import TOPICS, MessageError
 from callauction.venue.metrics import Measures, halts_of
 from callauction.venue.phases import Phase
@@ -248,7 +248,9 @@ async def test_payoffs_wait_for_a_round_to_begin(
     counts: list[int] = []
     payoffs = results.payoffs
 
-    def counted(day: DayTerms, rounds: Sequence[Round], members: Members) -> list[results.Payoff]:
+    def counted(
+        day: DayTerms, rounds: Sequence[Round], members: Iterable[Member]
+    ) -> list[results.Payoff]:
         counts.append(len(rounds))
         return payoffs(day, rounds, members)
 

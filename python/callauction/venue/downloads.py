@@ -18,7 +18,7 @@ from urllib.parse import quote
 
 from callauction.venue import config, results
 from callauction.venue.instrument import Instrument
-from callauction.venue.members import Members
+from callauction.venue.members import Member, Members
 from callauction.venue.names import plain
 from callauction.venue.rounds import Round
 from callauction.venue.sheets import PLAIN, SheetRow, table
@@ -40,14 +40,17 @@ OF_BOARD = ("journal", "members")
 OF_ALL = ("results", "trades", "report")
 RESULTS = (
     *("round", "title", "practice", "instrument", "name", "robot", "side", "value", "quantity"),
-    *("bought", "paid", "sold", "received", "gain", "possible", "efficiency", "payoff"),
+    *("bought", "paid", "sold", "received", "gain", "possible", "efficiency", "payoff", "removed"),
 )
 """The columns of the results: a row for each member on each board of each round, and at the end one
-for each member, whose round is `all`. Money and prices are decimal numbers of the currency.
+for each member, whose round is `all`. Who was removed has those of the rounds in which it traded or
+had a value, and then one of all. Money and prices are decimal numbers of the currency.
 """
 TRADES = (
     *("round", "instrument", "auction", "trade", "buyer", "seller", "quantity", "price", "amount"),
 )
+YES = ("no", "yes")
+"""What a table says of what isn't so, and of what is."""
 NAMES_FILE, RESULTS_FILE = ".members.csv", "results.csv"
 """What a day leaves at its end: for each board, behind its key, its members' names; its results."""
 SAFELY = ("-P",) if sys.flags.safe_path else ()
@@ -167,18 +170,30 @@ def results_table(lesson: Lesson, language: str = PLAIN) -> bytes:
 
 
 def results_of(lesson: Lesson) -> Iterator[SheetRow]:
-    """The results of all members, round by round, and then what they are paid."""
+    """The results of all members, round by round, and then what they are paid, with who was removed
+    and had a part.
+    """
+    those = {it.name: it for it in lesson.members.all}
+    for member, row in parts_of(lesson):
+        those[member.name] = member
+        yield row
+    for it in results.payoffs(lesson.day, lesson.rounds, those.values()):
+        paid: SheetRow = {"round": "all", "name": plain(it.title), "gain": it.gain}
+        yield paid | {"payoff": it.paid, "removed": YES[it.is_removed]}
+
+
+def parts_of(lesson: Lesson) -> Iterator[tuple[Member, SheetRow]]:
+    """The members of each board, with what each came to there: who was removed where it had a part
+    alone.
+    """
     for round_, board in lesson.boards():
         for member in lesson.members.everybody:
             has_part = member.name in board.book.numbers or member.name in board.accounts.values
             is_there = round_.group_of(member.name) == board.identity.group
             if has_part or (is_there and not member.is_removed):
-                head = {"name": plain(member.title), "robot": member.robot}
-                yield head | result_of(lesson.day, round_, board, member.name)
-    for it in results.payoffs(lesson.day, lesson.rounds, lesson.members):
-        name = plain(it.title)
-        row: SheetRow = {"round": "all", "name": name, "gain": it.gain, "payoff": it.paid}
-        yield row
+                head: SheetRow = {"name": plain(member.title), "robot": member.robot}
+                head["removed"] = YES[member.is_removed]
+                yield member, head | result_of(lesson.day, round_, board, member.name)
 
 
 def result_of(day: config.DayTerms, round_: Round, board: Instrument, member: str) -> SheetRow:
@@ -187,7 +202,7 @@ def result_of(day: config.DayTerms, round_: Round, board: Instrument, member: st
     found: SheetRow = {
         "round": round_.number,
         "title": plain(round_.treatment.title),
-        "practice": "yes" if round_.treatment.is_practice else "no",
+        "practice": YES[round_.treatment.is_practice],
         "instrument": board.terms.name,
     }
     for side, shares, money in (("bid", "bought", "paid"), ("ask", "sold", "received")):

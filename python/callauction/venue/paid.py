@@ -35,11 +35,11 @@ class Paid:
 
     def show_to(self, watchers: Collection[Watcher]) -> None:
         """Shows members what they are paid, as far as the operator lets them, and the operator all
-        of it, once that is known.
+        of it, once that is known. Who was removed has no place among them.
         """
         is_shown = self.shows != "none" or any(it.role == "operator" for it in watchers)
         if is_shown and self._rounds.are_seen:
-            paid = results.payoffs(self._day, self._rounds.all, self._members)
+            paid = results.payoffs(self._day, self._rounds.all, self._members.all)
             for watcher in watchers:
                 self._offer(watcher, paid)
 

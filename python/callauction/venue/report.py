@@ -44,6 +44,7 @@ TEXTS = {
         "efficiency": "Efficiency: {} of the greatest possible gain, {}",
         "members": "Members: quantities in shares, money in {}",
         "trades": "Trades: quantities in shares, money in {}",
+        "removed": "{} (removed)",
         "nothing": "Nothing was executed.",
         "price": "price {} {}, {} shares",
         "picture": "Demand and supply.",
@@ -62,6 +63,7 @@ TEXTS = {
         "efficiency": "Effizienz: {} des größten möglichen Gewinns, {}",
         "members": "Mitglieder: Mengen in Stück, Geld in {}",
         "trades": "Abschlüsse: Mengen in Stück, Geld in {}",
+        "removed": "{} (entfernt)",
         "nothing": "Nichts wurde ausgeführt.",
         "price": "Preis {} {}, {} Stück",
         "picture": "Nachfrage und Angebot.",
@@ -119,7 +121,7 @@ def in_german(page: str) -> str:
 
 def paid_of(asked: Json) -> list[Part]:
     """What members are paid, who gained most first."""
-    rows = [row for row in asked["results"] if row["round"] == "all"]
+    rows = [marked(asked, row) for row in asked["results"] if row["round"] == "all"]
     if not rows:
         return []
     caption = said(asked, "paid", asked["currency"])
@@ -158,7 +160,7 @@ def efficiency(asked: Json, board: Json) -> str:
 def members_of(asked: Json, board: Json) -> str:
     """What the members of a board traded and gained."""
     rows = [
-        row
+        marked(asked, row)
         for row in asked["results"]
         if (row["round"], row.get("instrument")) == (str(board["round"]), board["instrument"])
     ]
@@ -166,6 +168,13 @@ def members_of(asked: Json, board: Json) -> str:
         return ""
     caption = said(asked, "members", board["currency"])
     return table_of(asked, rows, MEMBERS, caption, f"members-{board['key']}")
+
+
+def marked(asked: Json, row: Json) -> Json:
+    """A row of the results, with the mark of a member who was removed behind its name."""
+    if row.get("removed") != "yes":
+        return row
+    return row | {"name": TEXTS[asked["language"]]["removed"].format(row["name"])}
 
 
 def table_of(

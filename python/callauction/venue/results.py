@@ -5,7 +5,7 @@ from decimal import ROUND_HALF_UP, Decimal
 
 from callauction.venue import config
 from callauction.venue.instrument import Instrument
-from callauction.venue.members import Member, Members
+from callauction.venue.members import Member
 from callauction.venue.rounds import Round
 
 CENT = Decimal("0.01")
@@ -23,8 +23,8 @@ class Gain:
 
 @dataclasses.dataclass(frozen=True)
 class Payoff:
-    """What a member is paid: its gains, their sum without practice, the money in its currency; and
-    its rank among all, from 1.
+    """What a member is paid: its gains, their sum without practice, the money in its currency; its
+    rank among all, from 1; and whether it was removed.
     """
 
     member: str
@@ -34,6 +34,7 @@ class Payoff:
     paid: Decimal
     currency: str
     rank: int = 1
+    is_removed: bool = False
 
 
 def money_of(board: Instrument, ticks: int) -> Decimal:
@@ -60,12 +61,15 @@ def payoff_of(day: config.DayTerms, rounds: Iterable[Round], member: Member) -> 
     total = sum(counted, Decimal(0))
     terms = day.payoff
     paid = max(Decimal(0), terms.base + terms.rate * total).quantize(CENT, ROUND_HALF_UP)
-    return Payoff(member.name, member.title, gains, total, paid, day.paid_in)
+    removed = member.is_removed
+    return Payoff(member.name, member.title, gains, total, paid, day.paid_in, is_removed=removed)
 
 
-def payoffs(day: config.DayTerms, rounds: Sequence[Round], members: Members) -> list[Payoff]:
-    """What the members are paid, who has most first, robots and who was removed aside."""
-    paid = [payoff_of(day, rounds, it) for it in members.all if not it.robot]
+def payoffs(
+    day: config.DayTerms, rounds: Sequence[Round], members: Iterable[Member]
+) -> list[Payoff]:
+    """What members are paid, who has most first, robots aside."""
+    paid = [payoff_of(day, rounds, it) for it in members if not it.robot]
     paid.sort(key=lambda it: -it.gain)
     ranks: dict[Decimal, int] = {}
     for place, it in enumerate(paid, 1):

@@ -21,11 +21,13 @@ HEADS = {
     "gain": "Gewinn", "possible": "möglicher Gewinn", "efficiency": "Effizienz",
     "payoff": "Auszahlung", "auction": "Auktion", "trade": "Abschluss", "buyer": "Käufer",
     "seller": "Verkäufer", "price": "Preis", "amount": "Betrag", "number": "Nummer", "may": "darf",
+    "removed": "entfernt",
 }  # fmt: skip
 """What the columns are in German."""
 CELLS = {
     "round": {"all": "alle"},
     "practice": {"yes": "ja", "no": "nein"},
+    "removed": {"yes": "ja", "no": "nein"},
     "side": {"bid": "Kauf", "ask": "Verkauf"},
     "robot": {"zero": "zufällig", "truthful": "Wert", "shading": "unter Wert"},
     "auction": {"opening": "Eröffnung", "intraday": "untertägig", "closing": "Schluss"},
