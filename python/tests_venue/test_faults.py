@@ -522,8 +522,8 @@ def test_a_journal_with_an_entry_more(tmp_path: pathlib.Path) -> None:
     words = day_before(tmp_path)
     journal = tmp_path / "venue/XYZ.journal.csv"
     journal.write_text(journal.read_text() + "1,enter,bid,1,200,entered 2\n")
-    text = f"venue: XYZ: entry 2 of the journal is no message of the log{BACK}\n"
-    assert ended(*words) == (1, text)
+    text = "venue: XYZ: the journal is a longer one: it has 2 entries, and the log knows of 1"
+    assert ended(*words) == (1, f"{text}{BACK}\n")
     log = tmp_path / "venue/venue.log"
     lines = log.read_text().splitlines(keepends=True)
     log.write_text("".join(line for line in lines if '"XYZ"' not in line))

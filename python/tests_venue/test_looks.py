@@ -10,7 +10,7 @@ from callauction.venue import recovery
 from callauction.venue.engine import Engine
 from callauction.venue.log import Log
 from callauction.venue.process import Process
-from callauction.venue.recovery import Entry, Mark
+from callauction.venue.recovery import OTHER_ENTRIES, Entry, Mark
 
 pytestmark = pytest.mark.asyncio
 COUNT = 20_000
@@ -111,6 +111,5 @@ async def test_what_others_changed_is_told_beside_the_loop(
     halts: list[Any] = []
     engine.on_change = lambda: halts.append(engine.halted)
     await engine.look()
-    told = f"the journal is another one: its first {COUNT} entries aren't those of which the log "
-    assert halts == [told + "knows"]
+    assert halts == [OTHER_ENTRIES]
     assert read.threads and threading.get_ident() not in read.threads

@@ -103,8 +103,12 @@ def test_each_fault_of_a_day(tmp_path: pathlib.Path) -> None:
     older = "XYZ: the journal is an older one: it has 5 entries, and the log knows of 10"
     assert printed.splitlines()[-1] == f"warning: {older}: put the right file back, then `resume`"
     journal.write_text(right + "1,delete,7,deleted 7\n")
-    told = "venue: XYZ: entry 11 of the journal is no message of the log: put the right file, or"
-    assert checked(*words)[::2] == (1, f"{told} the last copy, back\n")
+    told = "venue: XYZ: the journal is a longer one: it has 11 entries, and the log knows of 10: "
+    assert checked(*words)[::2] == (1, f"{told}put the right file, or the last copy, back\n")
+    journal.write_text(right + "\0" * 8192 + "1,delete,7,deleted\n1,delete,8,deleted\n")
+    told = told.replace("11 entries", "12 entries")
+    for status, error in (checked(*words)[::2], ended(*words, "--port", 0)):
+        assert (status, error) == (1, f"{told}put the right file, or the last copy, back\n")
     journal.write_text(right)
     token.write_text("")
     assert checked(*words)[::2] == (

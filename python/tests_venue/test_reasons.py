@@ -9,7 +9,7 @@ import pytest
 import served
 from browsing import Page, opened, joins
 from callauction.venue import messages
-from callauction.venue.recovery import OTHER_FIRST
+from callauction.venue.recovery import LONGER, OTHER_ENTRIES, OTHER_FIRST
 from callauction.venue.timekeeping import AHEAD, AWAY, DOES, STOOD
 
 PACKAGE = served.PACKAGE / "callauction/venue"
@@ -145,6 +145,8 @@ HALTS = (
     "entry 3 of the journal is no message of the log",
     "/day/XYZ.journal.csv may be written by other users: chmod go-w",
     "/day/XYZ.journal.csv belongs to another user: find out who, then chown",
+    OTHER_ENTRIES,
+    LONGER.format(4, 3),
     "/day/XYZ.journal.csv is a link: put the file itself there",
     "/day/XYZ.journal.csv is no regular file: move it away",
     "the program was ended by signal 9",

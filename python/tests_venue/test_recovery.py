@@ -54,8 +54,11 @@ def test_each_message_is_found_as_it_was(day: Played) -> None:
 
 def test_an_entry_that_nobody_asked_for() -> None:
     entry = Entry(1, "1,delete,1", "deleted")
+    message = Message("Anna", 1, "1,delete,2")
+    with pytest.raises(RecoveryError, match="longer one: it has 1 entries, and the log knows of 0"):
+        matched([message], [entry])
     with pytest.raises(RecoveryError, match="entry 1 of the journal is no message of the log"):
-        matched([Message("Anna", 1, "1,delete,2")], [entry])
+        settled([Run(0, [message]), Run(1)], [entry])
     with pytest.raises(RecoveryError):
         settled([], [entry])
     assert settled([], []) == []

@@ -14,7 +14,9 @@ import psutil
 import pytest
 import served
 from callauction.venue import AsyncClient, Client
-from callauction.venue.recovery import Entry, Mark, RolledBackError, Sum
+from callauction.venue.recovery import (
+    LONGER, Entry, Mark, RecoveryError, RolledBackError, Sum, known_entries, mark_of,
+)
 from callauction.venue.venue import LOOK_SECONDS
 from conftest import FAST
 from served import Served
@@ -54,8 +56,42 @@ def test_a_journal_with_other_entries() -> None:
     with pytest.raises(RolledBackError) as found:
         Sum(ENTRIES).mark.check(other)
     assert str(found.value) == (
+        "the journal is another one: its first 2 entries aren't those of which the log knows"
+    )
+    with pytest.raises(RolledBackError) as found:
+        Mark(3, Sum(ENTRIES).mark.sha256).check(other)  # of a log that has no earlier mark
+    assert str(found.value) == (
         "the journal is another one: its first 3 entries aren't those of which the log knows"
     )
+
+
+@pytest.mark.parametrize("count", [1, 3])
+def test_a_journal_whose_entries_differ_from_the_first_on(count: int) -> None:
+    """It is no older one, also where it has fewer entries, by a mark of the first one."""
+    other = [Entry(place, f"2,delete,{place}", "deleted") for place in range(1, count + 1)]
+    lines = [{"kind": "mark", "entries": it.entries, "sha256": it.sha256}
+             for it in (Sum(ENTRIES[:1]).mark, Sum(ENTRIES).mark)]
+    for mark in (Sum(ENTRIES).mark, mark_of(lines)):
+        with pytest.raises(RolledBackError) as found:
+            mark.check(other)
+        assert str(found.value) == ROLLED_BACK["another day's"]
+
+
+@pytest.mark.parametrize("behind, said", [
+    ("1,delete,4,deleted\n1,delete,5,deleted", LONGER.format(5, 3)),
+    ("1,delete,4,deleted\nmy notes\n", ""),  # which the program calls damaged
+    ("", ""),
+])
+def test_entries_behind_the_room_of_a_journal(
+    tmp_path: pathlib.Path, behind: str, said: str
+) -> None:
+    path = tmp_path / "XYZ.journal.csv"
+    lines = "".join(f"{it.record},{it.reply}\n" for it in ENTRIES)
+    path.write_text("the day\n" + lines + "\0" * 4096 + behind + "\0" * 20)
+    try:
+        assert (known_entries(path, Sum(ENTRIES).mark), said) == (ENTRIES, "")
+    except RecoveryError as fault:
+        assert str(fault) == said
 
 
 # ---- venues
@@ -98,20 +134,21 @@ def again(venue: Served, token: str, number: int, name: str) -> Any:
 ROLLED_BACK = {
     "older": "the journal is an older one: it has 6 entries, and the log knows of 15",
     "missing": "the journal is missing, and the log knows of 15 entries",
-    "changed": (
-        "the journal is another one: its first 15 entries aren't those of which the log knows"
+    "another day's": (
+        "the journal is another one: its entries differ from the day's from the first on"
     ),
+    "longer": "the journal is a longer one: it has 18 entries, and the log knows of 15",
 }
 
 
-@pytest.mark.parametrize("what", ROLLED_BACK)
+@pytest.mark.parametrize("what", ["older", "missing", "another day's"])
 def test_a_journal_that_was_put_back(tmp_path: pathlib.Path, what: str) -> None:
     token, _ = answered_day(tmp_path)
     journal = tmp_path / "venue/OLD.journal.csv"
     right = journal.read_text()
     if what == "older":
         journal.write_text(first_entries(right, KEPT))
-    elif what == "changed":
+    elif what == "another day's":
         journal.write_text(renumbered(right))
     else:
         journal.unlink()
@@ -148,7 +185,27 @@ def renumbered(text: str) -> str:
     return "\n".join([head, first.replace("bid,1,200", "bid,2,200"), *rest, ""])
 
 
-def test_a_journal_that_is_put_back_while_its_program_runs(tmp_path: pathlib.Path) -> None:
+ADDED = "".join(f"1,enter,bid,1,200,entered {it}\n" for it in (16, 17, 18))
+PUT: dict[str, tuple[Callable[[str], str], str]] = {
+    "an older one": (lambda it: first_entries(it, KEPT), ROLLED_BACK["older"]),
+    "another day's": (lambda it: renumbered(it), ROLLED_BACK["another day's"]),
+    "another day's, with fewer entries": (
+        lambda it: first_entries(renumbered(it), KEPT), ROLLED_BACK["another day's"],
+    ),
+    "one with entries more": (lambda it: it + ADDED, ROLLED_BACK["longer"]),
+    "one with entries behind its room": (
+        lambda it: it + "\0" * 8192 + ADDED, ROLLED_BACK["longer"],
+    ),
+}
+"""What is put into the place of a journal, and what is said of it."""
+
+
+@pytest.mark.parametrize("what", PUT)
+def test_a_journal_that_is_put_back_while_its_program_runs(
+    tmp_path: pathlib.Path, what: str
+) -> None:
+    """It is called what it is, also where somebody resumes once more."""
+    put, why = PUT[what]
     with served.served(tmp_path, FAST) as venue:
         token = venue.join("Anna")
         venue.do("start")
@@ -157,17 +214,17 @@ def test_a_journal_that_is_put_back_while_its_program_runs(tmp_path: pathlib.Pat
             for _ in range(ANSWERED):
                 me.enter("bid", 1, "2.00")
             right = journal.read_bytes()
-            older = first_entries(right.decode().rstrip("\0"), KEPT)
             journal.rename(tmp_path / "right")
-            journal.write_text(older)
+            journal.write_text(put(right.decode().rstrip("\0")))
             journal.chmod(0o600)
             for child in psutil.Process(venue.child.pid).children():
                 child.kill()
             until(lambda: bool(me.look("state")["halted"]))
-            assert me.look("state")["halted"] == ROLLED_BACK["older"]
+            assert me.look("state")["halted"] == why
             asked = {"do": "resume"}
-            again_halted = {"error": "halted", "text": f"XYZ: {ROLLED_BACK['older']}"}
-            assert venue.call("api/operator", asked, venue.operator) == (503, again_halted)
+            again_halted = {"error": "halted", "text": f"XYZ: {why}"}
+            for _ in range(2):
+                assert venue.call("api/operator", asked, venue.operator) == (503, again_halted)
             (tmp_path / "right").rename(journal)
             venue.do("resume")
             assert me.look("state")["halted"] is None
@@ -185,7 +242,11 @@ def changed_byte(journal: pathlib.Path, place: int) -> None:
 
 
 CHANGED: dict[str, tuple[Callable[[pathlib.Path], object], str]] = {
-    "an entry": (lambda it: changed_byte(it, 3), ROLLED_BACK["changed"]),
+    "an entry": (
+        lambda it: changed_byte(it, 3),
+        "the journal is another one: its first 3 entries aren't those of which the log knows",
+    ),
+    "the first entry": (lambda it: changed_byte(it, 1), ROLLED_BACK["another day's"]),
     "the first line": (
         lambda it: changed_byte(it, 0),
         "the journal is another one: its first line isn't the day's",

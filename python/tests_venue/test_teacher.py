@@ -375,6 +375,7 @@ def test_members_with_names_that_javascript_has(lesson: dict[str, Any]) -> None:
 HALTS = {
     "the journal is an older one: it has 2 entries, and the log knows of 3": "halt_file",
     "the journal is missing, and the log knows of 3 entries": "halt_file",
+    "the journal is a longer one: it has 4 entries, and the log knows of 3": "halt_file",
     "journal changed by others": "halt_file",
     "entry 3 of the journal is no message of the log": "halt_file",
     "/venue/XYZ.journal.csv may be written by other users: chmod go-w": "halt_rights",

@@ -22,8 +22,7 @@ from callauction.venue.log import Line, check_version, read_lines, taking
 from callauction.venue.phases import Phase, State
 from callauction.venue.process import OPENED, START_SECONDS, ProcessError
 from callauction.venue.recovery import (
-    Entry, RecoveryError, RolledBackError, entries_in, entries_of, first_of, mark_of, runs_of,
-    settled,
+    Entry, RecoveryError, RolledBackError, entries_in, known_entries, mark_of, runs_of, settled,
 )
 from callauction.venue.rounds import Round
 from callauction.venue.serving import DAY, OVER, Address, AddressError, ends_of
@@ -329,9 +328,12 @@ def checked_running(day: config.DayTerms, folder: pathlib.Path) -> Iterator[str]
 def entries_known(journal: pathlib.Path, name: str, lines: list[Line]) -> list[Entry]:
     """The entries of a journal, which the log knows. Raises RecoveryError, OwnerError, OSError."""
     is_there, mark = owned.check_file(journal), mark_of(lines)
-    entries = entries_of(journal) if is_there else []
+    entries: list[Entry] = []
     try:
-        mark.check(entries, is_there, first_of(journal))
+        if is_there:
+            entries = known_entries(journal, mark)
+        else:
+            mark.check(entries, is_there)
         settled(runs_of(lines).get(name, []), entries)
     except RecoveryError as fault:
         raise type(fault)(f"{name}: {fault}") from None

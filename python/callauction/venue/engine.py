@@ -21,7 +21,7 @@ from callauction.venue.outbox import Outbox, Sent
 from callauction.venue.owned import OwnerError
 from callauction.venue.process import Process, ProcessError
 from callauction.venue.recovery import (
-    Entry, Mark, Message, RecoveryError, RolledBackError, Run, Settled, matched, settled,
+    Entry, Mark, Message, RecoveryError, Run, Settled, matched, settled,
 )
 from callauction.venue.runs import MOST_ENDS, PAUSE, InUseError, Runs
 
@@ -153,7 +153,7 @@ class Engine:
             return
         try:
             await self.journal.check()
-        except (RolledBackError, OwnerError) as fault:
+        except (RecoveryError, OwnerError) as fault:
             if process is self.outbox.process:
                 self._give_up(str(fault))
         except OSError as fault:  # no file, or no thread, for now

@@ -43,20 +43,21 @@ class Journal:
 
     @property
     def mark(self) -> Mark:
-        """The mark of these entries."""
-        return self._sum.mark
+        """The mark of these entries, and of its first line, as far as that is known."""
+        return dataclasses.replace(self._sum.mark, first=self.first)
 
     def begin(self, entries: Iterable[Entry]) -> None:
         """It has these entries, from earlier runs."""
         self._sum = Sum(entries)
 
     def add(self, entry: Entry, is_marked: bool) -> None:
-        """It has one entry more, of which the log has a mark at once, or soon."""
+        """It has one entry more, of which the log has a mark at once, as of the first one, or soon.
+        """
         self._sum.add(entry)
         if self._is_marked:
             self._is_marked = False
             asyncio.get_running_loop().call_later(MARK_SECONDS, self.note_mark)
-        if is_marked:
+        if is_marked or self.count == 1:
             self.note_mark()
 
     def note_mark(self) -> None:
@@ -75,7 +76,8 @@ class Journal:
 
     async def known_entries(self, mark: Mark) -> list[Entry]:
         """The entries that it has, which begin with those of the mark. Raises RolledBackError where
-        they don't, OwnerError where it is another user's, OSError.
+        they don't, RecoveryError where others have added some, OwnerError where it is another
+        user's, OSError.
         """
         if owned.check_file(self.path):
             return await self.in_thread(known_entries, self.path, mark)
@@ -83,9 +85,8 @@ class Journal:
         return []
 
     async def check(self) -> None:
-        """Raises RolledBackError, or OwnerError, where it isn't as its program has written it, as
-        far as it was answered, and OSError. It is read where something has changed since the last
-        look.
+        """Raises RecoveryError, or OwnerError, where it isn't as its program has written it, as far
+        as it was answered, and OSError. It is read where something has changed since the last look.
         """
         mark, size = self.mark, self._sum.size
         state = state_of(self.path), mark

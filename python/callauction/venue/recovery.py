@@ -7,18 +7,26 @@ exact, as the program refuses a record without an entry only where calls are kep
 or none are left, and from then on it refuses the same record always.
 
 That a journal wasn't put back is seen by a mark in the log: how many entries it had, and their
-SHA-256. A journal with fewer entries, or with others, is another one.
+SHA-256. A journal with fewer entries, or with others, is another one, and earlier marks say which:
+an older one of the day, or one of another day. One to which others have added entries is longer.
 """
 import dataclasses
 import hashlib
 import pathlib
+import re
 from collections.abc import Iterable, Mapping, Sequence
 
 from callauction.venue.leftovers import Program
 from callauction.venue.log import Line, taking
 
 BLOCK = 1 << 18
+COMMIT = 4096
+"""The bytes that the program writes at a time: it gives up no more than that behind whole lines."""
 OTHER_FIRST = "the journal is another one: its first line isn't the day's"
+OTHER_ENTRIES = "the journal is another one: its entries differ from the day's from the first on"
+LONGER = "the journal is a longer one: it has {} entries, and the log knows of {}"
+ENTRY = re.compile(r"\d+,[ -~]+,[ -~]+")
+"""A line that may be an entry."""
 
 
 class RecoveryError(Exception):
@@ -66,12 +74,14 @@ class Message:
 @dataclasses.dataclass(frozen=True, slots=True)
 class Mark:
     """How many entries a journal had, and their SHA-256, and that of its first line; no digest
-    where none was written down.
+    where none was written down. `earlier` are such counts with their digests of some beginnings of
+    it, the shortest first.
     """
 
     entries: int = 0
     sha256: str = ""
     first: str = dataclasses.field(default="", compare=False)
+    earlier: Sequence[tuple[int, str]] = dataclasses.field(default=(), compare=False, repr=False)
 
     def check(self, entries: Sequence[Entry], is_there: bool = True, first: str = "") -> None:
         """Raises RolledBackError where the entries of a journal don't begin with those, or where
@@ -83,23 +93,43 @@ class Mark:
         if self.entries and not is_there:
             text = f"the journal is missing, and the log knows of {self.entries} entries"
             raise RolledBackError(text)
-        if len(entries) < self.entries:
-            raise RolledBackError(
-                f"the journal is an older one: it has {len(entries)} entries, and the log knows of "
-                f"{self.entries}"
-            )
-        if self.sha256 and Sum(entries[: self.entries]).mark != self:
-            raise RolledBackError(
-                f"the journal is another one: its first {self.entries} entries aren't those of "
-                "which the log knows"
-            )
+        is_whole = len(entries) >= self.entries
+        if not is_whole or (self.sha256 and Sum(entries[: self.entries]).mark != self):
+            raise RolledBackError(self._why(entries))
+
+    def _why(self, entries: Sequence[Entry]) -> str:
+        """What the journal is whose entries these are, where they don't begin with those."""
+        count = self._differing(entries)
+        if count == 1:
+            return OTHER_ENTRIES
+        if count:
+            text = f"the journal is another one: its first {count} entries aren't those of which"
+            return f"{text} the log knows"
+        text = f"the journal is an older one: it has {len(entries)} entries, and the log knows of"
+        return f"{text} {self.entries}"
+
+    def _differing(self, entries: Sequence[Entry]) -> int:
+        """How many first entries of a journal aren't those, the fewest of which that is known; 0
+        where it's known of none.
+        """
+        known = dict([*self.earlier, (self.entries, self.sha256)])
+        found = Sum()
+        for entry in entries[: self.entries]:
+            found.add(entry)
+            if (digest := known.get(found.count)) and digest != found.mark.sha256:
+                return found.count
+        return 0
 
 
 class Sum:
-    """A running SHA-256 of the entries of a journal, which have `size` bytes."""
+    """A running SHA-256 of the entries of a journal, which have `size` bytes. Its mark has earlier
+    ones, of the first 50 entries each, and then as far apart as a 50th of what was before.
+    """
 
     def __init__(self, entries: Iterable[Entry] = ()) -> None:
         self.count, self.size, self._sum = 0, 0, hashlib.sha256()
+        self._earlier: list[tuple[int, str]] = []
+        self._next = 1
         for entry in entries:
             self.add(entry)
 
@@ -109,11 +139,14 @@ class Sum:
         line = f"{entry.record},{entry.reply}\n".encode("latin-1")
         self.size += len(line)
         self._sum.update(line)
+        if self.count == self._next:
+            self._earlier.append((self.count, self._sum.hexdigest()))
+            self._next += 1 + self.count // 50
 
     @property
     def mark(self) -> Mark:
         """What is written down of these entries."""
-        return Mark(self.count, self._sum.hexdigest())
+        return Mark(self.count, self._sum.hexdigest(), earlier=self._earlier)
 
 
 def sums_of(path: pathlib.Path, size: int) -> tuple[str, str]:
@@ -133,11 +166,27 @@ def entries_of(path: pathlib.Path) -> list[Entry]:
 
 def known_entries(path: pathlib.Path, mark: Mark) -> list[Entry]:
     """The entries of a journal, which begin with those of a mark. Raises RolledBackError where they
-    don't, and OSError.
+    don't, RecoveryError where others have added some, and OSError.
     """
-    found = entries_of(path)
+    text = path.read_text(encoding="latin-1")
+    found = entries_in(text)
     mark.check(found, first=first_of(path))
+    if added := added_in(text):
+        raise RecoveryError(LONGER.format(len(found) + added, len(found)))
     return found
+
+
+def added_in(text: str) -> int:
+    """How many entries others have added behind the room of a journal's text, where the program
+    doesn't take them for what a crash has left; 0 where not all of it are entries.
+    """
+    lines, _, rest = text.partition("\0")
+    rest = rest.rstrip("\0")
+    cut = len(lines) - (lines.rfind("\n") + 1)
+    if not rest or cut + 1 + len(rest) <= COMMIT:
+        return 0
+    added = rest.lstrip("\0").removesuffix("\n").split("\n")
+    return len(added) if all(map(ENTRY.fullmatch, added)) else 0
 
 
 def first_of(path: pathlib.Path) -> str:
@@ -164,8 +213,12 @@ Settled = list[tuple[Message, Entry | None]]
 """Messages with their entries, None for one that was not executed."""
 
 
-def matched(messages: Iterable[Message], entries: Sequence[Entry]) -> Settled:
-    """Each message with its entry. Raises RecoveryError where an entry is left."""
+def matched(
+    messages: Iterable[Message], entries: Sequence[Entry], is_last: bool = True
+) -> Settled:
+    """Each message with its entry, where `is_last` of all up to the journal's end. Raises
+    RecoveryError where an entry is left.
+    """
     found: Settled = []
     place = 0
     for message in messages:
@@ -173,7 +226,9 @@ def matched(messages: Iterable[Message], entries: Sequence[Entry]) -> Settled:
         found.append((message, entries[place] if is_next else None))
         place += is_next
     if place < len(entries):
-        raise RecoveryError(f"entry {entries[place].place} of the journal is no message of the log")
+        first, last = entries[place].place, entries[-1].place
+        no_message = f"entry {first} of the journal is no message of the log"
+        raise RecoveryError(LONGER.format(last, first - 1) if is_last else no_message)
     return found
 
 
@@ -194,7 +249,7 @@ def settled(runs: Sequence[Run], entries: Sequence[Entry]) -> Settled:
     if not runs and entries:
         raise RecoveryError("the journal has entries, and the log none of its messages")
     for run, end in zip(runs, ends):
-        found += matched(run.messages, entries[run.begin : end])
+        found += matched(run.messages, entries[run.begin : end], run is runs[-1])
     return found
 
 
@@ -213,12 +268,13 @@ def runs_of(lines: Iterable[Line]) -> dict[str, list[Run]]:
 
 
 def mark_of(lines: Iterable[Line]) -> Mark:
-    """The last mark of a journal that its lines of the log have."""
-    found = Mark()
+    """The last mark of a journal that its lines of the log have, with those before it."""
+    found, earlier = Mark(), list[tuple[int, str]]()
     for line in lines:
         if line["kind"] in ("start", "mark"):
             first = line.get("first", found.first)
-            found = Mark(line["entries"], line.get("sha256", ""), first)
+            found = Mark(line["entries"], line.get("sha256", ""), first, earlier)
+            earlier.append((found.entries, found.sha256))
     return found
 
 

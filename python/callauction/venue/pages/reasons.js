@@ -35,6 +35,10 @@ const GERMAN = {
     "das Journal ist ein anderes: Seine ersten {} Einträge sind nicht die, die das Protokoll kennt",
   "the journal is another one: its first line isn't the day's":
     "das Journal ist ein anderes: Seine erste Zeile ist nicht die dieses Tages",
+  "the journal is another one: its entries differ from the day's from the first on":
+    "das Journal ist ein anderes: Seine Einträge sind vom ersten an nicht die dieses Tages",
+  "the journal is a longer one: it has {} entries, and the log knows of {}":
+    "das Journal ist ein längeres: Es hat {} Einträge, und das Protokoll kennt {}",
   "the journal was changed while its program began": "das Journal wurde verändert, während sein Programm begann",
   "the journal has entries, and the log none of its messages":
     "das Journal hat Einträge, und das Protokoll keine Nachricht dazu",
