@@ -1,19 +1,24 @@
 """What the operator takes home, round by round, with names and money."""
 import asyncio
+import contextlib
 import csv
 import errno
 import io
+import json
 import pathlib
 import re
 import subprocess
 import sys
 import tempfile
 import time
+import urllib.error
 import urllib.parse
 import urllib.request
+from concurrent.futures import ThreadPoolExecutor
 from typing import Any
 
 import pandas
+import psutil
 import pytest
 import served
 from callauction.pages import html_table
@@ -328,6 +333,60 @@ def test_a_report_runs_nothing_of_the_folder_in_which_the_venue_began(
             assert [*trap.iterdir()] == [trap / "pandas.py"]
         finally:
             child.kill()
+
+
+def is_report(child: psutil.Process) -> bool:
+    """Whether a process makes a report."""
+    with contextlib.suppress(psutil.Error):
+        return "callauction.venue.report" in child.cmdline()
+    return False
+
+
+def test_a_report_whose_process_is_killed(tmp_path: pathlib.Path) -> None:
+    """As where memory is short: it may be asked for again, and operations read why."""
+    with served.served(tmp_path, FAST) as venue, ThreadPoolExecutor() as pool:
+        why = "it can't be made now, as its process was ended by signal 9: try again"
+        asked = urllib.request.Request(
+            f"{venue.url}api/download/report", headers={"Authorization": f"Bearer {venue.operator}"}
+        )
+        answer = pool.submit(urllib.request.urlopen, asked, timeout=served.SECONDS)
+        children = psutil.Process(venue.child.pid).children
+        until(lambda: any(map(is_report, children())))
+        for child in filter(is_report, children()):
+            child.kill()
+        with pytest.raises(urllib.error.HTTPError) as found:
+            answer.result()
+        with found.value as fault:
+            assert (fault.code, fault.headers["Retry-After"]) == (503, "3")
+            assert json.loads(fault.read()) == {"error": "not_made", "text": why}
+        assert "<html" in download(venue, "report")
+        venue.child.terminate()
+        _, error = venue.child.communicate(timeout=served.SECONDS)
+        assert (venue.child.returncode, error) == (0, f"venue: the download of report: {why}\n")
+
+
+NOT_NOW = {
+    "no thread": RuntimeError("can't start new thread"),
+    "no process": OSError(errno.EAGAIN, "Resource temporarily unavailable"),
+    "no memory": OSError(errno.ENOMEM, "Cannot allocate memory"),
+}
+
+
+@pytest.mark.parametrize("what", NOT_NOW)
+def test_a_process_that_cant_be_begun_now(what: str, monkeypatch: pytest.MonkeyPatch) -> None:
+    async def fail(*words: object, **more: object) -> None:
+        raise NOT_NOW[what]
+
+    monkeypatch.setattr(asyncio, "create_subprocess_exec", fail)
+    with pytest.raises(downloads.NotNowError, match="now, as memory is short: try again"):
+        asyncio.run(downloads.output(["true"], b""))
+
+
+@pytest.mark.parametrize("last", ["MemoryError", "out of memory"])
+def test_a_process_whose_memory_is_too_short(last: str) -> None:
+    words = [sys.executable, "-c", f"raise SystemExit('Traceback ..\\n{last}')"]
+    with pytest.raises(downloads.NotNowError, match="now, as memory is short: try again"):
+        asyncio.run(downloads.output(words, b""))
 
 
 def test_a_download_on_a_full_disk(tmp_path: pathlib.Path, monkeypatch: pytest.MonkeyPatch) -> None:

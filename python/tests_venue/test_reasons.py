@@ -9,6 +9,7 @@ import pytest
 import served
 from browsing import Page, opened, joins
 from callauction.venue import messages
+from callauction.venue.downloads import NotNowError
 from callauction.venue.recovery import LONGER, OTHER_ENTRIES, OTHER_FIRST
 from callauction.venue.timekeeping import AHEAD, AWAY, DOES, STOOD
 
@@ -125,6 +126,10 @@ def test_each_reason_is_said_in_german(page: Page) -> None:
     (STOOD.format("XYZ"), "der Aufruf von XYZ ging zu Ende, während es ausgesetzt war"),
     (DOES[False], "„Verlängern“ hilft"),
     (DOES[True].format(30), "er geht noch 30 s weiter, dann wird der Preis ermittelt"),
+    (str(NotNowError("its process was ended by signal 9")),
+     "das geht gerade nicht, der Prozess wurde durch Signal 9 beendet: noch einmal versuchen"),
+    (str(NotNowError("memory is short")),
+     "das geht gerade nicht, der Speicher ist knapp: noch einmal"),
     ("as nobody ever said", "as nobody ever said"),
 ])
 def test_a_reason(page: Page, said: str, german: str) -> None:
@@ -140,13 +145,13 @@ HALTS = (
     "the journal is an older one: it has 2 entries, and the log knows of 3",
     "the journal is another one: its first 3 entries aren't those of which the log knows",
     OTHER_FIRST,
+    OTHER_ENTRIES,
+    LONGER.format(4, 3),
     "the journal was changed while its program began",
     "the journal has entries, and the log none of its messages",
     "entry 3 of the journal is no message of the log",
     "/day/XYZ.journal.csv may be written by other users: chmod go-w",
     "/day/XYZ.journal.csv belongs to another user: find out who, then chown",
-    OTHER_ENTRIES,
-    LONGER.format(4, 3),
     "/day/XYZ.journal.csv is a link: put the file itself there",
     "/day/XYZ.journal.csv is no regular file: move it away",
     "the program was ended by signal 9",

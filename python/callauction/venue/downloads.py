@@ -5,6 +5,7 @@ import asyncio
 import contextlib
 import csv
 import dataclasses
+import errno
 import io
 import json
 import pathlib
@@ -53,6 +54,8 @@ YES = ("no", "yes")
 """What a table says of what isn't so, and of what is."""
 NAMES_FILE, RESULTS_FILE = ".members.csv", "results.csv"
 """What a day leaves at its end: for each board, behind its key, its members' names; its results."""
+NO_MEMORY = ("MemoryError", "out of memory")
+"""How the last line begins of a process for which memory was too short."""
 SAFELY = ("-P",) if sys.flags.safe_path else ()
 """As this process, one that it starts takes no modules from the folder in which it was begun."""
 Titles = Callable[[str], str]
@@ -61,6 +64,15 @@ Titles = Callable[[str], str]
 
 class DownloadError(Exception):
     """It can't be made; the text says why."""
+
+
+class NotNowError(DownloadError):
+    """It can't be made now, as memory is short, or as what makes it was ended: who asks may ask
+    again.
+    """
+
+    def __init__(self, why: str) -> None:
+        super().__init__(f"it can't be made now, as {why}: try again")
 
 
 @dataclasses.dataclass(frozen=True)
@@ -140,18 +152,34 @@ async def output(words: Sequence[str], given: bytes) -> bytes:
     """What a command prints of an input; where nobody waits for that any more it is ended. Raises
     DownloadError.
     """
-    pipe = asyncio.subprocess.PIPE
-    child = await asyncio.create_subprocess_exec(*words, stdin=pipe, stdout=pipe, stderr=pipe)
+    child = await started(words)
     try:
         out, error = await child.communicate(given)
     except asyncio.CancelledError:
         with contextlib.suppress(ProcessLookupError):
             child.kill()
         raise
-    if child.returncode != 0:
-        last = error.decode("utf-8", "replace").strip().rpartition("\n")[2]
-        raise DownloadError(last or f"{words[0]} ended with status {child.returncode}")
-    return out
+    if child.returncode == 0:
+        return out
+    last = error.decode("utf-8", "replace").strip().rpartition("\n")[2]
+    if (child.returncode or 0) < 0:
+        raise NotNowError(f"its process was ended by signal {-(child.returncode or 0)}")
+    if last.startswith(NO_MEMORY):
+        raise NotNowError("memory is short")
+    raise DownloadError(last or f"{words[0]} ended with status {child.returncode}")
+
+
+async def started(words: Sequence[str]) -> asyncio.subprocess.Process:
+    """A process of a command. Raises DownloadError."""
+    pipe = asyncio.subprocess.PIPE
+    try:
+        return await asyncio.create_subprocess_exec(*words, stdin=pipe, stdout=pipe, stderr=pipe)
+    except RuntimeError:  # no thread that waits for its end
+        raise NotNowError("memory is short") from None
+    except OSError as fault:
+        if fault.errno in (errno.EAGAIN, errno.ENOMEM):
+            raise NotNowError("memory is short") from None
+        raise DownloadError(f"it can't be made: {fault.strerror}") from None
 
 
 # ---- tables

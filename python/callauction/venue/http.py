@@ -45,6 +45,7 @@ STATUSES = {
     "not_allowed": 403,
     "too_fast": 429,
     "halted": 503,
+    "not_made": 503,
     "name_taken": 409,
     "bad_phase": 409,
     "venue_full": 409,
@@ -53,6 +54,8 @@ STATUSES = {
     "joining_closed": 403,
     "join_later": 429,
 }
+AGAIN = ("join_later", "not_made")
+"""What may be asked for once more, after PAUSE."""
 SOCKET = "/api/socket"
 MOST_NAME = 40
 GUESSED = (
@@ -140,7 +143,7 @@ class Site:
             return await self._served(request, handler)
         except MessageError as fault:
             body = {"error": fault.code, "text": fault.text} | fault.more
-            later = {"Retry-After": f"{PAUSE:.0f}"} if fault.code == "join_later" else {}
+            later = {"Retry-After": f"{PAUSE:.0f}"} if fault.code in AGAIN else {}
             return web.json_response(body, status=STATUSES.get(fault.code, 400), headers=later)
         except web.HTTPException:
             raise
@@ -349,7 +352,7 @@ class Site:
         try:
             return answered(await replay.replay_of(self._board_of(request), self._program, asked))
         except downloads.DownloadError as fault:
-            raise MessageError("bad_message", str(fault)) from None
+            raise not_made("the replay", fault) from None
 
     async def _download(self, request: web.Request) -> web.Response:
         """A file for the operator."""
@@ -372,13 +375,22 @@ class Site:
         try:
             body = await downloads.made(kind, lesson, board, language)
         except downloads.DownloadError as fault:
-            raise MessageError("bad_message", str(fault)) from None
+            raise not_made(f"the download of {kind}", fault) from None
         name = downloads.file_of(kind, lesson, board, language)
         headers = {"Content-Disposition": downloads.disposition(name)}
         content_type = downloads.KINDS[kind][1]
         return web.Response(
             body=body, content_type=content_type, charset="utf-8", headers=headers
         )
+
+
+def not_made(what: str, fault: downloads.DownloadError) -> MessageError:
+    """How is said that something can't be made: what may be asked for again, operations read too.
+    """
+    if not isinstance(fault, downloads.NotNowError):
+        return MessageError("bad_message", str(fault))
+    NOTICES.warning("%s: %s", what, fault)
+    return MessageError("not_made", str(fault))
 
 
 def answered(message: shown.Json) -> web.Response:

@@ -40,6 +40,7 @@ ERRORS = {
     "not_now": "orders are taken in a call phase alone",
     "frozen": "the operator has frozen the call phase",
     "halted": "the venue has halted; nothing was done",
+    "not_made": "it can't be made now: try again",
     "no_calls": "the instrument takes no more commands of members",
     "number_used": "this number was another message's",
     "too_fast": "too many messages; nothing was done",

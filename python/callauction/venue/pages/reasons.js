@@ -57,6 +57,9 @@ const GERMAN = {
   "the venue's log can't be written: it waits for the disk for more than {} s":
     "das Protokoll wartet seit mehr als {} s auf den Datenträger",
   "the venue's log can't be written: {}": "das Protokoll kann nicht geschrieben werden: {}",
+  "it can't be made now, as its process was ended by signal {}: try again":
+    "das geht gerade nicht, der Prozess wurde durch Signal {} beendet: noch einmal versuchen",
+  "it can't be made now, as memory is short: try again": "das geht gerade nicht, der Speicher ist knapp: noch einmal",
   "values by chance have a low and a high price": "Werte durch Zufall haben ein Tief und ein Hoch",
   "low {} is above high {}": "Tief {} liegt über Hoch {}",
   "a schedule has prices of demand and of supply": "eine Liste hat Preise der Nachfrage und des Angebots",
