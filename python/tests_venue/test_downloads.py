@@ -382,11 +382,26 @@ def test_a_process_that_cant_be_begun_now(what: str, monkeypatch: pytest.MonkeyP
         asyncio.run(downloads.output(["true"], b""))
 
 
-@pytest.mark.parametrize("last", ["MemoryError", "out of memory"])
-def test_a_process_whose_memory_is_too_short(last: str) -> None:
-    words = [sys.executable, "-c", f"raise SystemExit('Traceback ..\\n{last}')"]
-    with pytest.raises(downloads.NotNowError, match="now, as memory is short: try again"):
+MEMORY, SIGNAL = "memory is short", "its process was ended by signal 9"
+
+
+@pytest.mark.parametrize("last, why", [
+    ("MemoryError", MEMORY),
+    ("numpy._ArrayMemoryError: Unable to allocate 8 GiB", MEMORY),
+    ("out of memory", MEMORY),
+    ("callauction.program.FailedError: out of memory", MEMORY),
+    ("callauction.program.FailedError: callboard can't be run: Cannot allocate memory", MEMORY),
+    ("callauction.program.FailedError: callboard ended with status -9", SIGNAL),
+    ("callauction.program.FailedError: callboard ended with status 3", ""),
+    ("KeyError: 'round'", ""),
+])
+def test_a_process_that_fails(last: str, why: str) -> None:
+    """As memory was short or its program was killed, or by itself."""
+    words = [sys.executable, "-c", f"raise SystemExit({'Traceback ..' + chr(10) + last!r})"]
+    said = f"it can't be made now, as {why}: try again" if why else last
+    with pytest.raises(downloads.DownloadError) as found:
         asyncio.run(downloads.output(words, b""))
+    assert (str(found.value), isinstance(found.value, downloads.NotNowError)) == (said, bool(why))
 
 
 def test_a_download_on_a_full_disk(tmp_path: pathlib.Path, monkeypatch: pytest.MonkeyPatch) -> None:

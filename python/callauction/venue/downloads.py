@@ -54,8 +54,12 @@ YES = ("no", "yes")
 """What a table says of what isn't so, and of what is."""
 NAMES_FILE, RESULTS_FILE = ".members.csv", "results.csv"
 """What a day leaves at its end: for each board, behind its key, its members' names; its results."""
-NO_MEMORY = ("MemoryError", "out of memory")
-"""How the last line begins of a process for which memory was too short."""
+ENDED = re.compile(r".*: callboard ended with status -(\d+)")
+NO_MEMORY = re.compile(
+    r".*MemoryError\b.*|(.*: )?out of memory"
+    "|.*: callboard can't be run: (Cannot allocate memory|Resource temporarily unavailable)"
+)
+"""The last line of a process whose program was ended by a signal, or for which memory was short."""
 SAFELY = ("-P",) if sys.flags.safe_path else ()
 """As this process, one that it starts takes no modules from the folder in which it was begun."""
 Titles = Callable[[str], str]
@@ -161,12 +165,20 @@ async def output(words: Sequence[str], given: bytes) -> bytes:
         raise
     if child.returncode == 0:
         return out
-    last = error.decode("utf-8", "replace").strip().rpartition("\n")[2]
-    if (child.returncode or 0) < 0:
-        raise NotNowError(f"its process was ended by signal {-(child.returncode or 0)}")
-    if last.startswith(NO_MEMORY):
-        raise NotNowError("memory is short")
-    raise DownloadError(last or f"{words[0]} ended with status {child.returncode}")
+    last, status = error.decode("utf-8", "replace").strip().rpartition("\n")[2], child.returncode
+    if why := passing_fault(status or 0, last):
+        raise NotNowError(why)
+    raise DownloadError(last or f"{words[0]} ended with status {status}")
+
+
+def passing_fault(status: int, last: str) -> str:
+    """Why a process with this status and last line may end well another time; empty where it won't.
+    """
+    found = ENDED.fullmatch(last)
+    number = int(found[1]) if found else max(0, -status)
+    if number:
+        return f"its process was ended by signal {number}"
+    return "memory is short" if NO_MEMORY.fullmatch(last) else ""
 
 
 async def started(words: Sequence[str]) -> asyncio.subprocess.Process:
