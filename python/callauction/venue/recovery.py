@@ -159,11 +159,6 @@ def sums_of(path: pathlib.Path, size: int) -> tuple[str, str]:
     return first.hexdigest(), rest.hexdigest()
 
 
-def entries_of(path: pathlib.Path) -> list[Entry]:
-    """The entries of a journal, as far as their lines are whole. Raises OSError."""
-    return entries_in(path.read_text(encoding="latin-1"))
-
-
 def known_entries(path: pathlib.Path, mark: Mark) -> list[Entry]:
     """The entries of a journal, which begin with those of a mark. Raises RolledBackError where they
     don't, RecoveryError where others have added some, and OSError.
