@@ -31,6 +31,8 @@ from callauction.venue import (
     AsyncClient, Client, addresses, checking, copies, listening, metrics, notices, process, serving,
 )
 from callauction.venue.__main__ import arguments
+from callauction.venue.begun import OtherDayError
+from callauction.venue.config import DayTerms
 from callauction.venue.latency import Times
 from callauction.venue.metrics import Measures
 from callauction.venue.serving import Address, AddressError
@@ -190,6 +192,26 @@ def test_a_day_that_is_over(tmp_path: pathlib.Path) -> None:
     venue = served.started(*words, "--port", 0)
     venue.child.terminate()
     assert venue.child.communicate(timeout=served.SECONDS)[1] == f"venue: {serving.OVER}\n"
+
+
+def test_a_day_that_is_over_while_its_venue_runs(
+    tmp_path: pathlib.Path, monkeypatch: pytest.MonkeyPatch
+) -> None:
+    """A check says what a start says once that is ended; on a later day it fails as that does."""
+    folder = tmp_path / "venue"
+    with served.served(tmp_path, FAST + "[[round]]\n") as venue:
+        for _ in range(3):
+            venue.do("start")
+            venue.do("uncross")
+        status, printed, error = checked("--day", tmp_path / "day.toml", "--folder", folder)
+        assert (status, error) == (0, "")
+        ends = ["XYZ: 3 entries, and the venue runs", f"warning: {serving.OVER}"]
+        assert printed.splitlines()[-2:] == ends
+        today, later = date(time.time()), time.time() + 2 * serving.DAY
+        monkeypatch.setattr(time, "time", lambda: later)
+        day = DayTerms.read(tmp_path / "day.toml")
+        with pytest.raises(OtherDayError, match=f"its day is over, lastly used on {today}: "):
+            [*checking.checked_running(day, folder, served.program())]
 
 
 def test_a_round_that_is_over(tmp_path: pathlib.Path) -> None:
@@ -678,6 +700,7 @@ HARDENED = {
     "User": "callboard",
     "UMask": "0077",
     "Type": "notify",
+    "OOMPolicy": "continue",  # a report that is ended for its memory doesn't end the venue
 }
 
 
@@ -700,7 +723,6 @@ def test_the_unit_runs_a_venue(tmp_path: pathlib.Path) -> None:
     assert ends > serving.END_SECONDS and int(keys["TimeoutStartSec"]) > process.START_SECONDS
 
 
-    "OOMPolicy": "continue",  # a report that is ended for its memory doesn't end the venue
 def analyzed(*words: object) -> str:
     """What systemd-analyze prints."""
     command = ["systemd-analyze", *map(str, words)]

@@ -9,7 +9,7 @@ import pathlib
 import subprocess
 import tempfile
 import time
-from collections.abc import Collection, Iterable, Iterator, Sequence
+from collections.abc import Collection, Iterable, Iterator, Mapping, Sequence
 
 from callauction.statuses import FAILED
 from callauction.venue import begun, config, copies, listening, owned, room, tokens
@@ -70,7 +70,7 @@ def checked(
         if owned.check_file(folder / name):
             os.close(owned.opened(folder / name, os.O_RDONLY))
     runs = (folder / LOG).exists() and is_in_use(folder / LOG)
-    yield from checked_running(day, folder) if runs else checked_log(day, folder, program)
+    yield from (checked_running if runs else checked_log)(day, folder, program)
     check_ports(day, address, runs)
 
 
@@ -231,9 +231,27 @@ def checked_journals(
         except RolledBackError as fault:  # it halts, and the others are served
             yield f"warning: {fault}: {PUT_BACK}"
     last = asyncio.run(rehearse(day, folder, lines, found, program))
-    if all(is_over(found.get(it.identity.key, [])) for it in last.boards.values()):
+    yield from checked_end(day, folder, lines, last, found)
+
+
+def checked_end(
+    day: config.DayTerms,
+    folder: pathlib.Path,
+    lines: list[Line],
+    last: Round,
+    found: Mapping[str, list[Entry]],
+) -> Iterator[str]:
+    """What is said of a day by its last round and the entries of its journals, where it is over.
+    Raises OtherDayError.
+    """
+    if are_over(last, found):
         yield f"warning: {OVER}"
         check_later(day, folder, lines, last.number)
+
+
+def are_over(last: Round, found: Mapping[str, list[Entry]]) -> bool:
+    """Whether the auctions of all boards of the last round are over, by these entries."""
+    return all(is_over(found.get(it.identity.key, [])) for it in last.boards.values())
 
 
 def is_over(entries: Iterable[Entry]) -> bool:
@@ -310,19 +328,28 @@ def is_in_use(log: pathlib.Path) -> bool:
     return False
 
 
-def checked_running(day: config.DayTerms, folder: pathlib.Path) -> Iterator[str]:
-    """What is found of a day that runs, as it is at one moment. Raises LogError, OtherDayError,
-    OwnerError, RecoveryError, OSError.
+def checked_running(
+    day: config.DayTerms, folder: pathlib.Path, program: str
+) -> Iterator[str]:
+    """What is found of a day that runs, as it is at one moment; of one that is over as of one that
+    doesn't run. Raises LogError, OtherDayError, OwnerError, RecoveryError, OSError.
     """
     try:
         files = copies.consistent(*copies.read_day(folder))
     except copies.CopyError as fault:
         raise RecoveryError(str(fault)) from None
-    yield from checked_day(day, folder, read_lines(files[LOG], str(folder / LOG)))
-    for name, file in copies.journals_of(files).items():
-        owned.check_file(folder / file)
-        count = len(entries_in(files[file].decode("latin-1")))
-        yield f"{name}: {count} entries, and the day runs"
+    lines = read_lines(files[LOG], str(folder / LOG))
+    yield from checked_day(day, folder, lines)
+    found = {
+        name: entries_in(files[file].decode("latin-1"))
+        for name, file in copies.journals_of(files).items()
+    }
+    last = asyncio.run(rehearse(day, folder, lines, [], program))
+    what = "venue" if are_over(last, found) else "day"
+    for name, entries in found.items():
+        owned.check_file(folder / f"{name}{JOURNAL}")
+        yield f"{name}: {len(entries)} entries, and the {what} runs"
+    yield from checked_end(day, folder, lines, last, found)
 
 
 def entries_known(journal: pathlib.Path, name: str, lines: list[Line]) -> list[Entry]:
