@@ -8,6 +8,7 @@ from browsing import SCREEN, Page, opened
 from callauction.venue import Client
 from conftest import FAST
 from selenium.webdriver.common.keys import Keys
+from test_rounds import VALUES, trade
 
 
 def writes(page: Page, field: str, words: str) -> None:
@@ -56,6 +57,44 @@ def test_a_lesson_by_the_keyboard(tmp_path: pathlib.Path) -> None:
         for page in (anna, teacher, beamer):
             assert contrast.faults(page.driver, "dark") == []
             assert page.errors() == []
+
+
+def names_on(beamer: Page) -> set[str]:
+    """The names of members that the screen shows."""
+    return {name for name in ("Anna", "Bert") if name in beamer.find("body").text}
+
+
+def test_the_screen_hides_names_by_a_key(tmp_path: pathlib.Path) -> None:
+    """Also where its page comes again; a letter that a choice takes hides none. What was gained is
+    shown still.
+    """
+    with contextlib.ExitStack() as stack:
+        venue = stack.enter_context(served.served(tmp_path, FAST))
+        anna, bert = venue.join("Anna"), venue.join("Bert")
+        venue.do("give", values=[it | {"quantity": 20} for it in VALUES])
+        trade(venue, anna, bert, "2.00")
+        trade(venue, anna, bert, "2.10")
+        beamer = stack.enter_context(
+            opened(tmp_path / "beamer", f"{venue.url}beamer#{venue.beamer}", SCREEN))
+        gains = [["1", "Bert", "11.00"], ["2", "Anna", "9.00"]]
+        beamer.waits(lambda it: it.rows("ranking") == gains)
+        beamer.waits(lambda it: it.rows("trades") == [["Anna", "Bert", "10"]])
+        beamer.runs("document.querySelector('#which').focus()")
+        beamer.hits("n")
+        assert names_on(beamer) == {"Anna", "Bert"}
+        beamer.runs("document.activeElement.blur()")
+        for keys in ("n", "nn"):
+            beamer.hits(*keys)
+            beamer.waits(lambda it: not names_on(it))
+            assert beamer.rows("ranking") == [[rank, "", gain] for rank, _, gain in gains]
+            beamer.picture("names-hidden")
+            beamer.driver.refresh()
+            beamer.waits(lambda it: len(it.rows("ranking")) == 2 and it.shows("placing"))
+            assert not names_on(beamer)
+        beamer.hits("N")
+        beamer.waits(lambda it: names_on(it) == {"Anna", "Bert"} and it.rows("ranking") == gains)
+        beamer.picture("names-shown")
+        assert beamer.errors() == []
 
 
 def orders(anna: Page) -> None:

@@ -13,11 +13,12 @@ import {
 } from "./states.js";
 import { reasonsOf } from "./why.js";
 
-const MOST_GAINS = 3, MOST_ROWS = 12;
+const MOST_GAINS = 3, MOST_ROWS = 12, NAMES = "venue.names";
 const clock = new Clock(find("clock"));
 const said = { state: {}, ladder: {}, trades: {}, efficiency: {}, course: {} };
 const replays = {};
 let round = null, ranking = [], shownReplay = null;
+let hidesNames = sessionStorage.getItem(NAMES) === "hidden";
 let terms = [], chosen = "", screen = { shows: "indication", code: "" }, lostAt = null, isOpen = false, token = "";
 
 const term = () => terms.find((it) => it.name === chosen);
@@ -33,6 +34,7 @@ function draw() {
   hide(find("lost"), lostAt === null || !isOpen);
   if (lostAt !== null) put(find("lost"), text("away", lostAt.toLocaleTimeString(spoken())));
   document.body.classList.toggle("stale", lostAt !== null);
+  document.body.classList.toggle("nameless", hidesNames);
   const state = said.state[chosen];
   hide(find("choosing"), terms.length < 2);
   if (!state) return;
@@ -131,7 +133,8 @@ function fit(draw) {
 
 const showsRanking = () => screen.payoffs === "ranking" && ranking.length > 0;
 
-// Who gained most of all rounds, where the teacher shows that, else of this one: how many rows.
+// Who gained most of all rounds, where the teacher shows that, else of this one: how many rows. Where
+// names are hidden only what was gained.
 function drawGains(most) {
   const isRanking = showsRanking();
   const rows = (isRanking ? ranking : said.efficiency[chosen]?.gains ?? []).slice(0, most);
@@ -161,7 +164,7 @@ function efficiencyText() {
 function drawTrades(before, count, most) {
   const rows = (said.trades[chosen]?.trades ?? [])
     .filter((it) => it.trade > before && it.trade <= before + count).slice(0, most);
-  hide(find("trading"), !rows.length);
+  hide(find("trading"), !rows.length || hidesNames);
   put(find("more-trades"), count > rows.length ? text("more_trades", shares(count - rows.length)) : "");
   fill(find("trades"), rows, (it) => it.trade, (it) => [{ text: it.buyer ?? "", classes: "name" },
     { text: it.seller ?? "", classes: "name" }, { number: shares(it.quantity) }]);
@@ -250,6 +253,13 @@ find("replay").addEventListener("click", () => {
 });
 find("which").addEventListener("change", () => {
   replay.stop();
+  draw();
+});
+// The key n hides names, and shows them again; a list of choices takes letters for itself.
+document.addEventListener("keydown", ({ key, target, ctrlKey, altKey, metaKey }) => {
+  if (key.toLowerCase() !== "n" || ctrlKey || altKey || metaKey || target.matches("select")) return;
+  hidesNames = !hidesNames;
+  sessionStorage.setItem(NAMES, hidesNames ? "hidden" : "shown");
   draw();
 });
 offerLanguages(draw);
