@@ -3,10 +3,14 @@ import pathlib
 import re
 import subprocess
 import sys
+import time
 
 import served
 from callauction.venue import Client, downloads, teaching
 from callauction.venue.config import DayTerms
+from callauction.venue.instrument import BoardIdentity, Common, Instrument
+from callauction.venue.log import Log
+from callauction.venue.members import Members
 from served import Served
 
 DOCUMENT = served.PACKAGE.parent / "docs/VENUE.md"
@@ -77,6 +81,39 @@ def test_all_downloads_are_there(venue: Served) -> None:
     assert "\n1,enter,bid,1,200," in found["journal"]
     assert found["results"].startswith("\ufeffRunde;")
     assert found["trades"].startswith("\ufeffRunde;") and "<html lang=\"de\"" in found["report"]
+
+
+def downloads_named() -> dict[str, str]:
+    """What the document says of how each download is saved, by its name."""
+    table = DOCUMENT.read_text("utf-8").partition("| FILE |")[2].partition("\n\n")[0]
+    rows = [row.split("|") for row in table.splitlines()[2:]]
+    return {file: row[3] for row in rows for file in re.findall(r"\w+", row[1])}
+
+
+def test_the_files_of_downloads_are_named(tmp_path: pathlib.Path) -> None:
+    """As they are saved, in English."""
+    day, kept = DayTerms(), Log(tmp_path / "venue.log")
+    common = Common(day, tmp_path, "none", kept)
+    board = Instrument(BoardIdentity("XYZ"), day.instruments[0], day.rounds[0], common)
+    began = time.mktime((2026, 11, 30, 9, 0, 0, 0, 0, -1))
+    lesson = downloads.Lesson(day, [], Members(day.members, kept), "none", began)
+    for file, form in downloads_named().items():
+        name = re.findall("`(.+?)`", form)[0].replace("TITLE-DATE", "Call-auction-2026-11-30")
+        ends = "html" if f"{file} `.html`" in form else "csv"
+        name = name.replace("FILE.csv", f"{file}.{ends}")
+        assert downloads.file_of(file, lesson, board, "en") == name
+
+
+def test_the_buttons_of_downloads_are_named() -> None:
+    """Each has the word of its file, or the document has its name beside that."""
+    pages = served.PACKAGE / "callauction/venue/pages"
+    page, texts = (pages / "teacher.html").read_text(), (pages / "texts.js").read_text()
+    buttons = re.findall(r'data-get="(\w+)" data-text="(\w+)"', page)
+    assert {file for file, _ in buttons} == {*downloads_named()}
+    for file, key in buttons:
+        label = re.findall(rf'\b{key}: "([^"]+)"', texts)[0]
+        is_named = f"({label}: `{file}`)" in DOCUMENT.read_text("utf-8")
+        assert file in label.lower() or is_named, label
 
 
 def test_the_pictures() -> None:
