@@ -15,13 +15,19 @@ import sys
 from collections.abc import Collection, Iterable
 from typing import TYPE_CHECKING, Any, NoReturn
 
-from callauction.cells import FrameError
-from callauction.overwriting import STANDARD_INPUT, STANDARD_OUTPUT, refuse_overwriting
-from callauction.program import OPTIONS, Day, ProgramError
-from callauction.statuses import BAD_DAY, BAD_FILE, DONE, FAILED
-from callauction.tables import book_at, books_of, journal_of
-from callauction.verdict import command, shapes
-from callauction.verdict.columns import ColumnError, ExtractError
+from callauction import needed
+
+needed.check_start()  # before what needs pandas
+
+from callauction.cells import FrameError  # noqa: E402
+from callauction.overwriting import (  # noqa: E402
+    STANDARD_INPUT, STANDARD_OUTPUT, refuse_overwriting,
+)
+from callauction.program import OPTIONS, Day, ProgramError  # noqa: E402
+from callauction.statuses import BAD_DAY, BAD_FILE, DONE, FAILED  # noqa: E402
+from callauction.tables import book_at, books_of, journal_of  # noqa: E402
+from callauction.verdict import command, shapes  # noqa: E402
+from callauction.verdict.columns import ColumnError, ExtractError  # noqa: E402
 
 if TYPE_CHECKING:
     from callauction.course import Watch
@@ -75,7 +81,7 @@ def main(words: list[str] | None = None) -> int:
     except ProgramError as fault:
         return _fail("\n".join([fault.text, *getattr(fault, "__notes__", [])]), fault.status)
     except (OSError, MemoryError, ModuleNotFoundError) as fault:
-        return _fail(str(fault) or "out of memory", FAILED)
+        return _fail(needed.said(fault) or "out of memory", FAILED)
     except _BAD_FILES as fault:
         return _fail(str(fault), BAD_FILE)
     except ValueError as fault:

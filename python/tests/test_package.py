@@ -48,18 +48,26 @@ def test_an_audit_needs_no_library() -> None:
     assert printed(code) == "callauction.verdict.audits"
 
 
-def test_a_module_that_is_missing_is_named_in_one_line(tmp_path: Path) -> None:
-    missing = "No module named 'tqdm'"
-    (tmp_path / "tqdm.py").write_text(f'raise ModuleNotFoundError("{missing}", name="tqdm")\n')
+@pytest.mark.parametrize("name, words", [
+    ("tqdm", ["report", "-o", "day.html"]), ("pandas", ["audit"]), ("pandas", ["--help"]),
+    ("numpy", ["audit", "--help"]),
+])  # fmt: skip
+def test_a_module_that_is_missing_is_named_in_one_line(
+    name: str, words: list[str], tmp_path: Path
+) -> None:
+    missing = f"No module named '{name}'"
+    (tmp_path / f"{name}.py").write_text(f'raise ModuleNotFoundError("{missing}", name="{name}")\n')
     orders = Path(__file__).resolve().parents[2] / "examples/opening.csv"
-    words = [sys.executable, "-P", "-m", "callauction", "report", str(orders), "-o"]
+    words = [*words, str(orders)] if "--help" not in words else words
     folders = [str(tmp_path), *filter(None, [os.environ.get("PYTHONPATH")])]
     environment = os.environ | {"PYTHONPATH": os.pathsep.join(folders)}
     ran = subprocess.run(
-        [*words, str(tmp_path / "day.html")], capture_output=True, text=True, env=environment
-    )
+        [sys.executable, "-P", "-m", "callauction", *words],
+        cwd=tmp_path, capture_output=True, text=True, env=environment,
+    )  # fmt: skip
     assert (ran.returncode, ran.stdout) == (3, "")
-    assert ran.stderr == f"callauction: {missing}\n"
+    said = f"{missing}: Debian has it in python3-{name}, or pip install {name}"
+    assert ran.stderr == f"callauction: {said}\n"
 
 
 NEEDING = [
