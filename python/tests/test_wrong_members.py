@@ -76,3 +76,88 @@ def test_the_member_of_one_entry(row: int, order: str, name: str) -> None:
 def test_members_that_no_entry_explains_are_certain(cells: dict[str, dict[str, str]]) -> None:
     verdict = opening(DAY, MEMBERS, **cells)
     assert verdict.word == "unlawful", str(verdict)
+
+
+# ---- members whose trades have another code
+
+
+MERGED = """
+    new 08:50:01 A bid 100 10.00
+    new 08:50:02 B bid 50 10.00
+    new 08:50:03 C bid 30 10.00
+    new 08:50:04 S ask 60 10.00
+    new 08:50:05 T ask 120 10.00
+    uncross 09:00 10.00 180 0 none 4 opening
+    trade 09:00 A S 60 10.00 opening
+    trade 09:00 A T 40 10.00 opening
+    trade 09:00 B T 50 10.00 opening
+    trade 09:00 C T 30 10.00 opening
+"""
+RENAMED = "members of trades may be renamed: "
+
+
+def renamed(codes: dict[str, str], cells: dict[str, dict[str, str]] = {}) -> Verdict:
+    """The verdict on MERGED, in whose trades members have these codes."""
+    members = MEMBERS | {"C": "ADLER", "T": "DORN"}
+    names = {order: codes.get(member, member) for order, member in members.items()}
+    own = {
+        f"row{place}": {"bid_member": names[row["bid"]], "ask_member": names[row["ask"]]}
+        for place, row in enumerate(rows_of(MERGED)) if row["event"] == "trade"
+    }  # fmt: skip
+    return opening(MERGED, members, **{it: own[it] | cells.get(it, {}) for it in own})
+
+
+@pytest.mark.parametrize("codes, said", [
+    ({"ADLER": "AAG7"}, "ADLER in orders, AAG7 in trades"),
+    ({"ADLER": "AAG7", "DORN": "0815"}, "ADLER in orders, AAG7 in trades, and 1 other"),
+    ({"BIRK": "BBX", "COHN": "CCX"}, "COHN in orders, CCX in trades, and 1 other"),
+    ({"ADLER": "AAG7", "DORN": "0815", "BIRK": "BBX"},
+     "ADLER in orders, AAG7 in trades, and 2 others"),
+    ({"DORN": "0815", "ADLER": "0815"}, "ADLER in orders, 0815 in trades, and 1 other"),
+])  # fmt: skip
+def test_codes_that_trades_alone_have_are_one_doubt(codes: dict[str, str], said: str) -> None:
+    """As after a merger, or where a house executes for members."""
+    verdict = renamed(codes)
+    assert verdict.word == "incomplete", str(verdict)
+    assert {it.doubt for it in verdict.doubtful} == {RENAMED + said}
+    assert len([it for it in str(verdict).splitlines() if RENAMED in it]) == 1
+
+
+@pytest.mark.parametrize("codes, cells, rows", [
+    ({"BIRK": "AAG7"}, {}, [8]),  # one row alone
+    ({"ADLER": "AAG7"}, {"row7": {"bid_member": "COHN"}}, [7]),  # a member of orders
+    ({"ADLER": "AAG7"}, {"row8": {"bid_member": "AAG7"}}, [8]),  # another member's only trade
+    ({"ADLER": "AAG7"}, {"row7": {"bid_member": "AAG8"}}, [7]),  # two codes
+    ({}, {"row6": {"bid_member": "AAG7"}, "row8": {"bid_member": "AAG7"}}, [6, 8]),
+])  # fmt: skip
+def test_members_that_no_renaming_explains_are_certain(
+    codes: dict[str, str], cells: dict[str, dict[str, str]], rows: list[int]
+) -> None:
+    verdict = renamed(codes, cells)
+    assert verdict.word == "unlawful", str(verdict)
+    lines = str(verdict).splitlines()
+    assert sorted(int(it.split(",")[0][4:]) for it in lines if it.startswith("row ")) == rows
+
+
+@pytest.mark.parametrize("is_by_row", [False, True])
+def test_a_day_whose_trades_have_other_codes_is_never_unlawful(is_by_row: bool) -> None:
+    """All trades of a member, or every other trade of all."""
+    doubtful = 0
+    for seed in SEEDS[:6]:
+        extract = timed_day(seed)
+        made = [row for row in extract.rows if row["event"] == "trade"]
+        for row in made[:: 1 + is_by_row]:
+            for name in ("bid_member", "ask_member"):
+                if is_by_row or row[name] == "M1":
+                    row[name] = f"Q{row[name]}7"
+        verdict = judged(extract)
+        assert verdict.word != "unlawful", f"{seed}\n{verdict}"
+        own = {it.doubt for it in verdict.doubtful if it.doubt.startswith(RENAMED)}
+        doubtful += len(own)
+        assert len(own) <= 1
+        if own:
+            owners = {it["order"]: it["member"] for it in extract.rows if it["event"] == "new"}
+            row = made[seed % len(made)]
+            row["bid_member"] = "M2" if owners[row["bid"]] != "M2" else "M3"
+            assert judged(extract).word == "unlawful", f"{seed}\n{verdict}"
+    assert doubtful > 2

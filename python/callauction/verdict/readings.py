@@ -11,6 +11,7 @@ from callauction.course import Watch
 from callauction.verdict import clocks
 from callauction.verdict.again import amended, copies, second_trades, too_many
 from callauction.verdict.cells import Codes, Ints
+from callauction.verdict.codes import without_codes
 from callauction.verdict.comparing import Difference, Fill, Trade, doubted
 from callauction.verdict.doubts import MOST_FALLS
 from callauction.verdict.early import Early
@@ -165,9 +166,9 @@ def _changes(found: Judgement, judge: Judge) -> Iterator[list[Change]]:
         yield [_rows(functools.partial(_respelled, spelled[0]), spelled[1])]
     elif have_other_ids(rows, found, numpy.union1d(copies(rows, found), earlier)):
         yield [_without_rows(rows, rows.of(TRADE, FILL), OTHER_IDS)]
-    others = Owners(rows if spelled is None else spelled[0]).told()
-    if others is not None:
-        yield [_rows(_with_owners, others[1])]
+    plain = rows if spelled is None else spelled[0]
+    members = ((_with_owners, Owners(plain).told()), (_without_codes, without_codes(plain)))
+    yield from ([_rows(change, told[1])] for change, told in members if told is not None)
     price = _filled_prices(rows)
     if price is not None:
         unchanged = functools.partial(_priced, price)
@@ -283,6 +284,12 @@ def _respelled(other: Rows, rows: Rows) -> Rows:
 def _with_owners(rows: Rows) -> Rows:
     """The rows with the members that orders' entries say."""
     found = Owners(rows).told()
+    return rows if found is None else found[0]
+
+
+def _without_codes(rows: Rows) -> Rows:
+    """The rows with members of trades as orders have them."""
+    found = without_codes(rows)
     return rows if found is None else found[0]
 
 
