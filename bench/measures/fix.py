@@ -206,7 +206,7 @@ def figures(played: venue.Played, processor: float) -> Figures:
 def print_table(found: dict[Kind, list[Figures]]) -> None:
     """Prints the middle ones of all runs."""
     waits = ("middle, ms", "99th of 100, ms")
-    head("server", "sessions", "synced", "orders a second", *waits, "processor, us")
+    head("server", "sessions", "synced", "middle orders a second", *waits, "processor, us")
     for (name, count, is_synced), runs in found.items():
         rate, *others = map(statistics.median, zip(*runs))
         cells = [f"{it:,.{place}f}" for it, place in zip(others, (1, 1, 0))] or ["-"] * 3
