@@ -51,18 +51,18 @@ block-after auction now new front calls is more =
     more ∙ ap (λ a. after_all a (map silent calls)) is ∙ calls-twice auction (map silent front) (map silent calls)
     ∙ ap (after_all auction) (sym (map-append silent front calls))
 
-pub block-follows : (kept : Recorder) (auction now new : RunningAuction) (front calls : List Call)
+pub block-follows : (recorder : Recorder) (auction now new : RunningAuction) (front calls : List Call)
     → now ≡ after_all auction (map silent front)
-    → RecordsHeard kept new (heard_from auction.config auction.state (map silent front)
+    → RecordsHeard recorder new (heard_from auction.config auction.state (map silent front)
     ++ heard_from now.config now.state (map silent calls))
-    → RecordsHeard kept new (heard_from auction.config auction.state (map silent (front ++ calls)))
-block-follows kept auction now new front calls is h =
+    → RecordsHeard recorder new (heard_from auction.config auction.state (map silent (front ++ calls)))
+block-follows recorder auction now new front calls is h =
     let same : heard_from auction.config auction.state (map silent front)
     ++ heard_from now.config now.state (map silent calls)
     ≡ heard_from auction.config auction.state (map silent (front ++ calls)) =
     rw is (sym (heard-twice auction.config auction.state (map silent front) (map silent calls))
     ∙ ap (heard_from auction.config auction.state) (sym (map-append silent front calls))) in
-    subst (RecordsHeard kept new) same h
+    subst (RecordsHeard recorder new) same h
 
 -- they are what the block's records give, after those
 pub block-calls : (members : ℕ) (auction now : RunningAuction) (front calls : List Call) (rows : Rows)

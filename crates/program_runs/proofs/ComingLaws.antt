@@ -51,13 +51,13 @@ coming-refused form day coming f (rs, is) why =
     (record { day = day; calls = map call_part rs }, rw is refl, why)
 
 -- a day whose calls have come
-pub coming-kept : (form : Form) (day : DayHeader) (kept : Recorder) (old new : RunningAuction)
+pub coming-recorded : (form : Form) (day : DayHeader) (recorder : Recorder) (old new : RunningAuction)
     (coming : Result (List RecordedCall) FileFault) (r : Result PrintableDay Fault) → old ≡ opened_auction day.config
-    → form_of_recorder kept ≡ form → open_fault day.config ≡ None → new.calls ≤ old.config.max_calls
-    → HearsAll (RecordsHeard kept new) [] old new coming (Ok tt)
-    → ((entries : List Entry) → RecordsEntries kept new entries → IsClosedDay day kept new.config entries r)
+    → form_of_recorder recorder ≡ form → open_fault day.config ≡ None → new.calls ≤ old.config.max_calls
+    → HearsAll (RecordsHeard recorder new) [] old new coming (Ok tt)
+    → ((entries : List Entry) → RecordsEntries recorder new entries → IsClosedDay day recorder new.config entries r)
     → RecordsDay form (calls_coming day coming) r
-coming-kept form day kept old new coming r fresh for opens room (rs, is, came, holds) closes =
+coming-recorded form day recorder old new coming r fresh for opens room (rs, is, came, holds) closes =
     let calls : List Call = map call_part rs in
     let count : new.calls ≡ old.calls + length rs = ap (λ (a : RunningAuction). a.calls) came in
     let none : old.calls ≡ 0 = ap (λ (a : RunningAuction). a.calls) fresh in
@@ -68,9 +68,9 @@ coming-kept form day kept old new coming r fresh for opens room (rs, is, came, h
     ap (λ (a : RunningAuction). a.config) came ∙ ap (λ (a : RunningAuction). a.config) fresh in
     let entries : entries_heard (heard_from old.config old.state rs) ≡ history_of day.config calls =
     rw fresh (heard-entries day.config (opening_state day.config) rs) in
-    let closed : IsClosedDay day kept day.config (history_of day.config calls) r =
-    rw config at (closes (history_of day.config calls) (subst (RecordsEntries kept new) entries holds)) in
-    rw is (said_closed form day calls kept r for opens few closed)
+    let closed : IsClosedDay day recorder day.config (history_of day.config calls) r =
+    rw config at (closes (history_of day.config calls) (subst (RecordsEntries recorder new) entries holds)) in
+    rw is (said_closed form day calls recorder r for opens few closed)
 
 -- ---- an order file
 
@@ -101,14 +101,14 @@ if-begun (Err (fault.Open f)) p = tt
 record IsListed (listing : Listing) (day : DayHeader) (entries : List Entry) (recorded_day : PrintableDay)
     : Type 0 where
   same : recorded_day.day ≡ day
-  form : form_of_recorder recorded_day.kept ≡ forms.Listing listing
-  keeps : RecordsWholeDay recorded_day.kept recorded_day.day.config entries
+  form : form_of_recorder recorded_day.recorder ≡ forms.Listing listing
+  recorded : RecordsWholeDay recorded_day.recorder recorded_day.day.config entries
 
 listed : (listing : Listing) (day : DayHeader) (entries : List Entry) (recorded_day : PrintableDay)
     → IsLegal day.config entries
     → RecordsDay (forms.Listing listing) (calls_coming day (silent_all (calls_of entries))) (Ok recorded_day)
     → IsListed listing day entries recorded_day
-listed listing day entries recorded_day legal (calls, is, (form, opens, few, keeps)) =
+listed listing day entries recorded_day legal (calls, is, (form, opens, few, recorded)) =
     let given : ◌≡◌ {A = DayWithCalls} (record { day = day; calls = map call_part (map silent (calls_of entries)) })
     (record { day = recorded_day.day; calls = calls }) = cc (is) in
     let same : recorded_day.day ≡ day = sym (ap (λ (d : DayWithCalls). d.day) given) in
@@ -119,28 +119,29 @@ listed listing day entries recorded_day legal (calls, is, (form, opens, few, kee
     record {
       same = same;
       form = form;
-      keeps = subst (RecordsWholeDay recorded_day.kept recorded_day.day.config) history keeps;
+      recorded = subst (RecordsWholeDay recorded_day.recorder recorded_day.day.config) history recorded;
     }
 
--- what is kept of it
-pub listing-kept : (listing : Listing) (day : DayHeader) (entries : List Entry) (recorded_day : PrintableDay)
+-- what is recorded of it
+pub listing-recorded : (listing : Listing) (day : DayHeader) (entries : List Entry) (recorded_day : PrintableDay)
     → IsLegal day.config entries
     → RecordsDay (forms.Listing listing) (calls_coming day (silent_all (calls_of entries))) (Ok recorded_day)
-    → RecordsWholeDay recorded_day.kept recorded_day.day.config entries
-listing-kept listing day entries recorded_day legal kept = (listed listing day entries recorded_day legal kept).keeps
+    → RecordsWholeDay recorded_day.recorder recorded_day.day.config entries
+listing-recorded listing day entries recorded_day legal recorded =
+    (listed listing day entries recorded_day legal recorded).recorded
 
 -- and printed of it
 pub listing-printed : (listing : Listing) (day : DayHeader) (entries : List Entry) (recorded_day : PrintableDay)
     → IsLegal day.config entries
     → RecordsDay (forms.Listing listing) (calls_coming day (silent_all (calls_of entries))) (Ok recorded_day)
-    → printed (form_of_recorder recorded_day.kept) recorded_day.day entries ≡ listing_text listing day entries
-listing-printed listing day entries recorded_day legal kept =
-    let is = listed listing day entries recorded_day legal kept in
+    → printed (form_of_recorder recorded_day.recorder) recorded_day.day entries ≡ listing_text listing day entries
+listing-printed listing day entries recorded_day legal recorded =
+    let is = listed listing day entries recorded_day legal recorded in
     rw (is.form, is.same) refl
 
 pub listing-wide : (listing : Listing) (day : DayHeader) (entries : List Entry) (recorded_day : PrintableDay)
     (r : Result (Unit {0}) Fault) → IsLegal day.config entries
     → RecordsDay (forms.Listing listing) (calls_coming day (silent_all (calls_of entries))) (Ok recorded_day)
-    → IsWideForm (form_of_recorder recorded_day.kept) entries → IfBegun r (IsWideListing listing entries)
-listing-wide listing day entries recorded_day r legal kept wide =
-    if-begun r (rw (listed listing day entries recorded_day legal kept).form at wide)
+    → IsWideForm (form_of_recorder recorded_day.recorder) entries → IfBegun r (IsWideListing listing entries)
+listing-wide listing day entries recorded_day r legal recorded wide =
+    if-begun r (rw (listed listing day entries recorded_day legal recorded).form at wide)

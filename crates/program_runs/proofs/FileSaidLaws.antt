@@ -32,7 +32,7 @@ use Rattle.program_runs.specs.RecordedEntries.{IsClosedDay, RecordsCallsOfText, 
 use Rattle.program_runs.specs.RecordedEntries.{RecordsEntries}
 use Rattle.program_runs.specs.RecordedEntries.{RecordsHeard, calls_for, form_of_recorder}
 use Rattle.program_runs.proofs.BlockRunLaws.{fails-then}
-use Rattle.program_runs.proofs.ComingLaws.{coming-fails, coming-kept, coming-orders}
+use Rattle.program_runs.proofs.ComingLaws.{coming-fails, coming-recorded, coming-orders}
 use Rattle.program_runs.proofs.RecorderLaws.{orders-long}
 
 -- ---- a file of a day
@@ -51,8 +51,8 @@ pub file-read : (form : Form) (day : DayHeader) (text : Option (List ℕ)) (byte
     → RecordsDay form (calls_for day (calls_of_file day.members day.config.max_calls bytes)) r
     → RecordsDayOfText form r text (orders_for day)
 unfolding orders_for file
-file-read form day None bytes r read keeps = (_, keeps, tt)
-file-read form day (Some t) bytes r read keeps = (_, keeps, rw read refl)
+file-read form day None bytes r read recorded = (_, recorded, tt)
+file-read form day (Some t) bytes r read recorded = (_, recorded, rw read refl)
 
 -- it couldn't be read
 pub file-unread : (form : Form) (day : DayHeader) (text : Option (List ℕ)) (f : FileFault)
@@ -77,18 +77,19 @@ said-memory form (Some bytes) says = (says bytes, tt, refl)
 pub said-handed : (form : Form) (text : Option (List ℕ)) (says : List ℕ → Result DayWithCalls FileFault)
     (r : Result PrintableDay Fault) (f : Fault) → IsErrAnd r (λ x. x ≡ f) → RecordsDayOfText form (Err f) text says
     → RecordsDayOfText form r text says
-said-handed form text says (Ok kept) f is keeps = absurd is
-said-handed form text says (Err e) f is keeps =
-    subst (λ (x : Fault). RecordsDayOfText form (Err x) text says) (sym is) keeps
+said-handed form text says (Ok day) f is recorded = absurd is
+said-handed form text says (Err e) f is recorded =
+    subst (λ (x : Fault). RecordsDayOfText form (Err x) text says) (sym is) recorded
 
 -- ---- the start of an input
 
 pub start-said : (form : Form) (start : List ℕ) (a b : Option (List ℕ)) (r : Result PrintableDay Fault) (says : List ℕ
     → Result DayWithCalls FileFault) → Consumes a b start
     → RecordsDayOfText form r (prepend_known start b) says → RecordsDayOfText form r a says
-start-said form start None b r says read (said, keeps, known) = (said, keeps, tt)
+start-said form start None b r says read (said, recorded, known) = (said, recorded, tt)
 start-said form start (Some xs) None r says read h = absurd read
-start-said form start (Some xs) (Some ys) r says read (said, keeps, known) = (said, keeps, known ∙ ap says (sym read))
+start-said form start (Some xs) (Some ys) r says read (said, recorded, known) =
+    (said, recorded, known ∙ ap says (sym read))
 
 pub start-unread : (form : Form) (text : Option (List ℕ)) (f : FileFault) (says : List ℕ
     → Result DayWithCalls FileFault)
@@ -128,10 +129,10 @@ digit-said : (form : Form) (day : DayHeader) (start : List ℕ) (b : Option (Lis
     → ((digit : ℕ) × (rest : List ℕ) × (start ≡ digit ∷ rest) × (48 ≤ digit) × (digit ≤ 57))
     → RecordsDayOfText form r (prepend_known start b) (orders_for day)
     → RecordsDayOfText form r (prepend_known start b) (run_input day)
-digit-said form day start None r digit (said, keeps, known) = (said, keeps, tt)
-digit-said form day start (Some left) r (d, rest, is, low, high) (said, keeps, known) = (
+digit-said form day start None r digit (said, recorded, known) = (said, recorded, tt)
+digit-said form day start (Some left) r (d, rest, is, low, high) (said, recorded, known) = (
   said,
-  keeps,
+  recorded,
   known ∙ ap (λ (front : List ℕ). orders_for day (front ++ left)) is ∙ digit-run_input day d (rest ++ left) low high
       ∙ ap (λ (front : List ℕ). run_input day (front ++ left)) (sym is),
 )
@@ -143,19 +144,19 @@ pub begun-said : (form : Form) (day : DayHeader) (left rest : Option (List ℕ))
     (r : Result PrintableDay Fault) → Consumes left rest start
     → ((digit : ℕ) × (more : List ℕ) × (start ≡ digit ∷ more) × (48 ≤ digit) × (digit ≤ 57))
     → RecordsDayOfText form r (prepend_known start rest) (orders_for day) → RecordsDayOfText form r left (run_input day)
-begun-said form day left rest start r read digit keeps =
-    start-said form start left rest r (run_input day) read (digit-said form day start rest r digit keeps)
+begun-said form day left rest start r read digit recorded =
+    start-said form start left rest r (run_input day) read (digit-said form day start rest r digit recorded)
 
 -- ---- what its blocks say
 
 -- a fault of it
-pub blocks-stop : (kept : Recorder) (old new : RunningAuction) (r : Result (Unit {0}) FileFault)
+pub blocks-stop : (recorder : Recorder) (old new : RunningAuction) (r : Result (Unit {0}) FileFault)
     (f : FileFault) (text : Option (List ℕ)) (members : ℕ) → IsErrAnd r (λ x. x ≡ f)
     → IfSome text (λ bytes. FailsAsWanted f (file bytes members old.config.max_calls))
-    → RecordsCallsOfText (RecordsHeard kept new) old new r text members
-blocks-stop kept old new (Ok u) f text members is fails = absurd is
-blocks-stop kept old new (Err e) f None members is fails = (Err e, fails-at e (Err e) refl, tt)
-blocks-stop kept old new (Err e) f (Some bytes) members is fails = (
+    → RecordsCallsOfText (RecordsHeard recorder new) old new r text members
+blocks-stop recorder old new (Ok u) f text members is fails = absurd is
+blocks-stop recorder old new (Err e) f None members is fails = (Err e, fails-at e (Err e) refl, tt)
+blocks-stop recorder old new (Err e) f (Some bytes) members is fails = (
   file bytes members old.config.max_calls,
   fails-then e (file bytes members old.config.max_calls) silent_all
       (subst (λ (x : FileFault). FailsAsWanted x (file bytes members old.config.max_calls)) (sym is) fails),
@@ -163,35 +164,36 @@ blocks-stop kept old new (Err e) f (Some bytes) members is fails = (
 )
 
 -- all of its calls
-pub blocks-end : (kept : Recorder) (old new : RunningAuction) (calls : List Call)
+pub blocks-end : (recorder : Recorder) (old new : RunningAuction) (calls : List Call)
     (text : Option (List ℕ)) (members : ℕ) → IfSome text (λ bytes. file bytes members old.config.max_calls ≡ Ok calls)
     → new ≡ after_all old (map silent calls)
-    → RecordsHeard kept new (heard_from old.config old.state (map silent calls))
-    → RecordsCallsOfText (RecordsHeard kept new) old new (Ok tt) text members
-blocks-end kept old new calls None members says came holds = (Ok calls, (map silent calls, refl, came, holds), tt)
-blocks-end kept old new calls (Some bytes) members says came holds =
+    → RecordsHeard recorder new (heard_from old.config old.state (map silent calls))
+    → RecordsCallsOfText (RecordsHeard recorder new) old new (Ok tt) text members
+blocks-end recorder old new calls None members says came holds = (Ok calls, (map silent calls, refl, came, holds), tt)
+blocks-end recorder old new calls (Some bytes) members says came holds =
     (Ok calls, (map silent calls, refl, came, holds), sym says)
 
 -- its calls came to the auction, and the day was closed
-pub blocks-kept : (form : Form) (day : DayHeader) (kept : Recorder) (old new : RunningAuction) (text : Option (List ℕ))
-    (r : Result PrintableDay Fault) → old ≡ opened_auction day.config → form_of_recorder kept ≡ form
-    → open_fault day.config ≡ None → new.calls ≤ old.config.max_calls
-    → RecordsCallsOfText (RecordsHeard kept new) old new (Ok tt) text day.members
-    → ((entries : List Entry) → RecordsEntries kept new entries → IsClosedDay day kept new.config entries r)
+pub blocks-recorded : (form : Form) (day : DayHeader) (recorder : Recorder) (old new : RunningAuction)
+    (text : Option (List ℕ)) (r : Result PrintableDay Fault) → old ≡ opened_auction day.config
+    → form_of_recorder recorder ≡ form → open_fault day.config ≡ None → new.calls ≤ old.config.max_calls
+    → RecordsCallsOfText (RecordsHeard recorder new) old new (Ok tt) text day.members
+    → ((entries : List Entry) → RecordsEntries recorder new entries → IsClosedDay day recorder new.config entries r)
     → RecordsDayOfText form r text (orders_for day)
-blocks-kept form day kept old new text r fresh for opens room (wanted, heard, known) closes = (
+blocks-recorded form day recorder old new text r fresh for opens room (wanted, heard, known) closes = (
   calls_for day wanted,
   subst (λ (said : Result DayWithCalls FileFault). RecordsDay form said r) (coming-orders day wanted)
-      (coming-kept form day kept old new (wanted >>= silent_all) r fresh for opens room heard closes),
+      (coming-recorded form day recorder old new (wanted >>= silent_all) r fresh for opens room heard closes),
   orders-known day wanted text (rw fresh at known),
 )
 
 -- it has a fault
-pub blocks-failed : (form : Form) (day : DayHeader) (kept : Recorder) (old new : RunningAuction)
+pub blocks-failed : (form : Form) (day : DayHeader) (recorder : Recorder) (old new : RunningAuction)
     (text : Option (List ℕ)) (f : FileFault) (r : Result PrintableDay Fault) → old ≡ opened_auction day.config
-    → IsErrAnd r (λ x. x ≡ fault.File f) → RecordsCallsOfText (RecordsHeard kept new) old new (Err f) text day.members
+    → IsErrAnd r (λ x. x ≡ fault.File f)
+    → RecordsCallsOfText (RecordsHeard recorder new) old new (Err f) text day.members
     → RecordsDayOfText form r text (orders_for day)
-blocks-failed form day kept old new text f r fresh is (wanted, fails, known) =
+blocks-failed form day recorder old new text f r fresh is (wanted, fails, known) =
     said-handed form text (orders_for day) r (fault.File f) is (
       calls_for day wanted,
       subst (λ (said : Result DayWithCalls FileFault). RecordsDay form said (Err (fault.File f)))
@@ -200,8 +202,8 @@ blocks-failed form day kept old new text f r fresh is (wanted, fails, known) =
     )
 
 -- memory that was refused at a day's end is no failed read
-pub closed-read : (day : DayHeader) (kept : Recorder) (config : Config) (entries : List Entry) (r
+pub closed-read : (day : DayHeader) (recorder : Recorder) (config : Config) (entries : List Entry) (r
     : Result PrintableDay Fault)
-    → IsClosedDay day kept config entries r → IsErrOf r (fault.File faults.ReadFailed) → ⊥
-closed-read day kept config entries (Ok closed) is e = absurd (cc (e))
-closed-read day kept config entries (Err f) is e = absurd (cc (is, e))
+    → IsClosedDay day recorder config entries r → IsErrOf r (fault.File faults.ReadFailed) → ⊥
+closed-read day recorder config entries (Ok closed) is e = absurd (cc (e))
+closed-read day recorder config entries (Err f) is e = absurd (cc (is, e))

@@ -1,4 +1,4 @@
--- A session whose commands are kept.
+-- A session with a journal.
 use Rattle.std.proofs.Common.{◌≡◌, ◌<◌, ◌≤◌, ℕ, Bool, true, false, Some, None, Result, Ok, Err, IfOk, refl, inl, inr}
 use Rattle.std.proofs.Common.{IfErr, arith}
 use Rattle.auction.specs.ConfigFault.{open_fault}
@@ -28,7 +28,7 @@ use Rattle.program_runs.specs.JournaledLive.{RunsJournaledSession, RunsToEnd}
 use Rattle.program_runs.specs.JournaledLive.{begin_status, journaled_status, resume_status}
 use Rattle.program_runs.specs.LiveRun.{terms_of}
 use Rattle.program_runs.specs.declared.journaling.JournaledFault.{JournaledFault}
-use Rattle.program_runs.specs.declared.journaling.JournaledFault.TheVariants as kept
+use Rattle.program_runs.specs.declared.journaling.JournaledFault.TheVariants as journaled
 use Rattle.program_runs.proofs.ServedLaws.{file-small, open-small}
 
 resume-small : (f : ResumeFault) → resume_status f ≤ 4
@@ -43,15 +43,15 @@ begin-small (begin.Damaged number bytes) = omega arith
 begin-small (begin.Device error) = omega arith
 begin-small begin.NoMemory = omega arith
 
-kept-small : (f : JournaledFault) → journaled_status f ≤ 4
-kept-small (kept.Day f) = open-small f
-kept-small (kept.Opening Busy) = omega arith
-kept-small (kept.Opening NotRegular) = omega arith
-kept-small (kept.Opening Foreign) = omega arith
-kept-small (kept.Opening Stream) = omega arith
-kept-small (kept.Opening Shared) = omega arith
-kept-small (kept.Opening (Failed error)) = omega arith
-kept-small (kept.Begin f) = begin-small f
+journaled-small : (f : JournaledFault) → journaled_status f ≤ 4
+journaled-small (journaled.Day f) = open-small f
+journaled-small (journaled.Opening Busy) = omega arith
+journaled-small (journaled.Opening NotRegular) = omega arith
+journaled-small (journaled.Opening Foreign) = omega arith
+journaled-small (journaled.Opening Stream) = omega arith
+journaled-small (journaled.Opening Shared) = omega arith
+journaled-small (journaled.Opening (Failed error)) = omega arith
+journaled-small (journaled.Begin f) = begin-small f
 
 ended-small : (ended : Result Ending LiveFault) (is_closed : Bool) (status : ℕ) → EndsWithStatus ended is_closed status
     → status ≤ 4
@@ -99,9 +99,9 @@ module _ {D : Type 0} (files : JournalFiles D) (file : JournalFile) (day : DayHe
       → files.Opens file opened → IfErr r (IsRefusedOn files.device day opened files.left)
       → IfErr r (IsReason files file day)
   refused-on (Ok begun) opened opens was_opened h = tt
-  refused-on (Err (kept.Day f)) opened opens was_opened h = absurd h
-  refused-on (Err (kept.Opening f)) opened opens was_opened h = absurd h
-  refused-on (Err (kept.Begin f)) opened opens was_opened (last, left, why) =
+  refused-on (Err (journaled.Day f)) opened opens was_opened h = absurd h
+  refused-on (Err (journaled.Opening f)) opened opens was_opened h = absurd h
+  refused-on (Err (journaled.Begin f)) opened opens was_opened (last, left, why) =
       record { opens = opens; device = opened; opened = was_opened; last = last; left = left; why = why }
 
 module _ {D : Type 0} (files : JournalFiles D) (file : JournalFile) (day : DayHeader) (reserve : ℕ) {R O : Type 0}
@@ -123,18 +123,18 @@ module _ {D : Type 0} (files : JournalFiles D) (file : JournalFile) (day : DayHe
     quiet = λ two. refl;
     read_failed = λ f. absurd (omega (arith, f));
     write_failed = λ f. absurd (omega (arith, f));
-    small = rw is (kept-small why);
+    small = rw is (journaled-small why);
   }
 
   -- it ran
-  pub ran-kept : (reader last_reader : R) (out last_out : O) (start : RunningAuction)
+  pub ran-journaled : (reader last_reader : R) (out last_out : O) (start : RunningAuction)
       (journal closed : CommittedLines D) (status : ℕ) → IsBegunFor files file day journal start
       → RunsToEnd files.device (terms_of day reserve) start journal closed.device
       (ends_at (reads.left reader) (writes.written out) (reads.failures reader) (writes.failures out))
       (ends_at (reads.left last_reader) (writes.written last_out) (reads.failures last_reader)
       (writes.failures last_out)) status → files.left ≡ Some closed.device
       → RunsJournaledSession files file day reserve (ends_of reads writes reader last_reader out last_out) status
-  ran-kept reader last_reader out last_out start journal closed status begun ran left =
+  ran-journaled reader last_reader out last_out start journal closed status begun ran left =
       record {
         came = inr (record {
           start = start;

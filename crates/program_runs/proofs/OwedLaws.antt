@@ -53,11 +53,11 @@ pub refused_input : {X : Type 0} (job : Job) (ends : Ends) (r : Result X FileFau
     → (IsErrOf r file.ReadFailed ↔ ends.ReadFailed)
     → (ends.WriteFailed → ⊥) → ends.new ≡ ends.old → job.Faults (fault.File f)
     → IfSome ends.left (λ bytes. FailsAsWanted f (job.says bytes)) → IsRunOf job ends (Err (fault.File f))
-refused_input {X} job ends r f is told wrote_well kept faults fails = record {
+refused_input {X} job ends r f is told wrote_well quiet faults fails = record {
   read_failed = (λ e. told.0 (read e), λ h. failed (told.1 h));
   write_failed = (λ e. absurd (cc (e)), λ h. absurd (wrote_well h));
   wrote = fails;
-  kept = kept;
+  quiet = quiet;
   fault = faults;
 }
   where
@@ -73,35 +73,35 @@ pub refused_opening : (job : Job) (ends : Ends) (run_input : job.Given) (f : Ope
     → IsSaidByInput job ends run_input
     → (ends.ReadFailed → ⊥) → (ends.WriteFailed → ⊥) → ends.new ≡ ends.old
     → job.Faults (fault.Open f) → f ≡ unwrap_or (job.opening run_input) NoMemory → IsRunOf job ends (Err (fault.Open f))
-refused_opening job ends run_input f hears read_well wrote_well kept faults opens = record {
+refused_opening job ends run_input f hears read_well wrote_well quiet faults opens = record {
   read_failed = (λ e. absurd (cc (e)), λ h. absurd (read_well h));
   write_failed = (λ e. absurd (cc (e)), λ h. absurd (wrote_well h));
   wrote = known ends.left job ends run_input (Err (fault.Open f)) hears (opens, tt);
-  kept = kept;
+  quiet = quiet;
   fault = faults;
 }
 
 pub ended_between : (X : Type 0) (job : Job) (ends : Ends) (run_input : job.Given) (f : Fault)
     → IsSaidByInput job ends run_input → (ends.ReadFailed → ⊥) → (ends.WriteFailed → ⊥) → ends.new ≡ ends.old
     → job.Faults f → IsOfOpeningOrDay f → OpensUnless {X = X} (job.opening run_input) (Err f) → IsRunOf job ends (Err f)
-ended_between X job ends run_input (fault.File f) hears read_well wrote_well kept faults between opens = absurd between
-ended_between X job ends run_input (fault.Open f) hears read_well wrote_well kept faults between opens =
-    refused_opening job ends run_input f hears read_well wrote_well kept faults opens
-ended_between X job ends run_input fault.NoMemory hears read_well wrote_well kept faults between opens = record {
+ended_between X job ends run_input (fault.File f) hears read_well wrote_well quiet faults between opens = absurd between
+ended_between X job ends run_input (fault.Open f) hears read_well wrote_well quiet faults between opens =
+    refused_opening job ends run_input f hears read_well wrote_well quiet faults opens
+ended_between X job ends run_input fault.NoMemory hears read_well wrote_well quiet faults between opens = record {
   read_failed = (λ e. absurd (cc (e)), λ h. absurd (read_well h));
   write_failed = (λ e. absurd (cc (e)), λ h. absurd (wrote_well h));
   wrote = known ends.left job ends run_input (Err fault.NoMemory) hears (opens, tt);
-  kept = kept;
+  quiet = quiet;
   fault = faults;
 }
-ended_between X job ends run_input fault.NotClosed hears read_well wrote_well kept faults between opens = record {
+ended_between X job ends run_input fault.NotClosed hears read_well wrote_well quiet faults between opens = record {
   read_failed = (λ e. absurd (cc (e)), λ h. absurd (read_well h));
   write_failed = (λ e. absurd (cc (e)), λ h. absurd (wrote_well h));
   wrote = known ends.left job ends run_input (Err fault.NotClosed) hears (opens, tt);
-  kept = kept;
+  quiet = quiet;
   fault = faults;
 }
-ended_between X job ends run_input fault.WriteFailed hears read_well wrote_well kept faults between opens =
+ended_between X job ends run_input fault.WriteFailed hears read_well wrote_well quiet faults between opens =
     absurd between
 
 -- ---- what was written
@@ -114,7 +114,7 @@ ran_whole job ends run_input finish text hears read_well wrote_well opens is wro
   read_failed = (λ e. absurd (cc (e)), λ h. absurd (read_well h));
   write_failed = (λ e. absurd (cc (e)), λ h. absurd (wrote_well h));
   wrote = known ends.left job ends run_input (Ok finish) hears (opens, (text, is, wrote));
-  kept = tt;
+  quiet = tt;
   fault = tt;
 }
 
@@ -128,7 +128,7 @@ ran_short job ends run_input finish text r fault.NoMemory same hears read_well t
       read_failed = (λ e. absurd (cc (e)), λ h. absurd (read_well h));
       write_failed = (λ e. absurd (cc (e)), λ h. let late : r ≡ Err fault.WriteFailed = told.1 h in absurd cc);
       wrote = known ends.left job ends run_input (Err fault.NoMemory) hears (opens, tt);
-      kept = wrote;
+      quiet = wrote;
       fault = faults;
     }
 ran_short job ends run_input finish text r fault.WriteFailed same hears read_well told opens faults after is wrote =
@@ -136,7 +136,7 @@ ran_short job ends run_input finish text r fault.WriteFailed same hears read_wel
       read_failed = (λ e. absurd (cc (e)), λ h. absurd (read_well h));
       write_failed = (λ e. told.0 same, λ h. refl);
       wrote = known ends.left job ends run_input (Err fault.WriteFailed) hears (opens, (finish, text, is refl, wrote));
-      kept = tt;
+      quiet = tt;
       fault = faults;
     }
 ran_short job ends run_input finish text r (fault.File f) same hears read_well told opens faults after is wrote =

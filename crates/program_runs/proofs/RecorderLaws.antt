@@ -1,4 +1,4 @@
--- What is kept of a day's entries, call by call.
+-- What is recorded of a day's entries, call by call.
 use Rattle.std.proofs.Common.{◌≡◌, ◌<◌, ◌≤◌, ◌∙◌, ℕ, List, length, nat_lt, false, true, rules}
 use Rattle.std.proofs.Common.{Option, None, Some, Ok, Err, Result, refl, ap, sym, subst}
 use Rattle.auction_terms.specs.declared.Call.{Call}
@@ -47,13 +47,13 @@ pub opened_so : (auction : RunningAuction) (config : Config) → auction ≡ ope
 opened_so auction config is =
     is ∙ ap (λ (c : Config). opened_auction c) (sym (ap (λ (a : RunningAuction). a.config) is))
 
--- what is kept of a day whose calls have all come
-kept-closed : (form : Form) (day : DayHeader) (calls : List Call) (old : Recorder) (closed : PrintableDay)
+-- what is recorded of a day whose calls have all come
+recorded-closed : (form : Form) (day : DayHeader) (calls : List Call) (old : Recorder) (closed : PrintableDay)
     → form_of_recorder old ≡ form
     → open_fault day.config ≡ None
     → length calls ≤ day.config.max_calls → IsClosedDay day old day.config (history_of day.config calls) (Ok closed)
     → RecordsDay form (Ok (record { day = day; calls = calls })) (Ok closed)
-kept-closed form day calls old closed for opens few (is, same, holds) = (
+recorded-closed form day calls old closed for opens few (is, same, holds) = (
   calls,
   ap (λ (d : DayHeader). Ok (record { day = d; calls = calls })) (sym is),
   (same ∙ for, rw is opens, rw is few, rw is holds),
@@ -68,7 +68,7 @@ pub said_closed : (form : Form) (day : DayHeader) (calls : List Call) (old : Rec
     → form_of_recorder old ≡ form → open_fault day.config ≡ None
     → length calls ≤ day.config.max_calls → IsClosedDay day old day.config (history_of day.config calls) r
     → RecordsDay form (Ok (record { day = day; calls = calls })) r
-said_closed form day calls old (Ok closed) for opens few is = kept-closed form day calls old closed for opens few is
+said_closed form day calls old (Ok closed) for opens few is = recorded-closed form day calls old closed for opens few is
 said_closed form day calls old (Err f) for opens few is =
     refused-closed form day old day.config (history_of day.config calls) f _ is
 
@@ -92,8 +92,8 @@ pub known_said : (form : Form) (day : DayHeader) (left : Option (List ℕ)) (byt
     → IfSome left (λ all. within_limit MAX_JOURNAL_BYTES all ≡ Ok bytes) → RecordsDay form (run_input_of day bytes) r
     → (said : Result DayWithCalls FileFault) × RecordsDay form said r × IfSome left (λ all. said ≡ run_input day all)
 unfolding run_input
-known_said form day None bytes r read keeps = (run_input_of day bytes, keeps, tt)
-known_said form day (Some all) bytes r read keeps = (run_input_of day bytes, keeps, rw read refl)
+known_said form day None bytes r read recorded = (run_input_of day bytes, recorded, tt)
+known_said form day (Some all) bytes r read recorded = (run_input_of day bytes, recorded, rw read refl)
 
 -- the input couldn't be read
 pub unread_said : (day : DayHeader) (left : Option (List ℕ)) (f : FileFault)
@@ -103,22 +103,22 @@ unread_said day None f h = (Err f, fails-at f (Err f) refl, tt)
 unread_said day (Some all) f h = (run_input day all, unread day all f h, refl)
 
 -- what may come of refused memory may come in any case
-keeps-none : (form : Form) (r : Result PrintableDay Fault) (said : Result DayWithCalls FileFault)
+records-none : (form : Form) (r : Result PrintableDay Fault) (said : Result DayWithCalls FileFault)
     → RecordsDay form (Err faults.NoMemory) r → RecordsDay form said r
-keeps-none form (Ok kept) said h = absurd (cc (h.1))
-keeps-none form (Err (fault.File faults.TooLong)) said h = absurd (cc h)
-keeps-none form (Err (fault.File faults.ReadFailed)) said h = tt
-keeps-none form (Err (fault.File (faults.BadMember n))) said h = absurd (cc h)
-keeps-none form (Err (fault.File (faults.BadCommand n))) said h = absurd (cc h)
-keeps-none form (Err (fault.File (faults.BadCount n))) said h = absurd (cc h)
-keeps-none form (Err (fault.File (faults.BadField n k))) said h = absurd (cc h)
-keeps-none form (Err (fault.File (faults.TooManyCommands n))) said h = absurd (cc h)
-keeps-none form (Err (fault.File faults.NotADay)) said h = absurd (cc h)
-keeps-none form (Err (fault.File faults.NoMemory)) said h = tt
-keeps-none form (Err (fault.Open f)) said h = absurd (cc (h.1))
-keeps-none form (Err fault.NoMemory) said h = absurd h
-keeps-none form (Err fault.NotClosed) said h = absurd h
-keeps-none form (Err fault.WriteFailed) said h = absurd h
+records-none form (Ok recorded) said h = absurd (cc (h.1))
+records-none form (Err (fault.File faults.TooLong)) said h = absurd (cc h)
+records-none form (Err (fault.File faults.ReadFailed)) said h = tt
+records-none form (Err (fault.File (faults.BadMember n))) said h = absurd (cc h)
+records-none form (Err (fault.File (faults.BadCommand n))) said h = absurd (cc h)
+records-none form (Err (fault.File (faults.BadCount n))) said h = absurd (cc h)
+records-none form (Err (fault.File (faults.BadField n k))) said h = absurd (cc h)
+records-none form (Err (fault.File (faults.TooManyCommands n))) said h = absurd (cc h)
+records-none form (Err (fault.File faults.NotADay)) said h = absurd (cc h)
+records-none form (Err (fault.File faults.NoMemory)) said h = tt
+records-none form (Err (fault.Open f)) said h = absurd (cc (h.1))
+records-none form (Err fault.NoMemory) said h = absurd h
+records-none form (Err fault.NotClosed) said h = absurd h
+records-none form (Err fault.WriteFailed) said h = absurd h
 
 -- what has a fault as a journal
 pub no-journal : (form : Form) (day : DayHeader) (bytes : List ℕ) (f : FileFault) (r : Result PrintableDay Fault)
@@ -133,14 +133,14 @@ no-journal form day bytes (faults.BadCount k) r f n h = rw f h
 no-journal form day bytes (faults.BadField k l) r f n h = rw f h
 no-journal form day bytes (faults.TooManyCommands k) r f n h = rw f h
 no-journal form day bytes faults.NotADay r f n h = rw f h
-no-journal form day bytes faults.NoMemory r f n h = keeps-none form r _ h
+no-journal form day bytes faults.NoMemory r f n h = records-none form r _ h
 
--- ---- a run of an input that was kept
+-- ---- a run of an input that was recorded
 
--- nothing that was kept was read at fault
-pub kept_well : {F : Type 0} (r : Result PrintableDay Fault) (kept : PrintableDay) → r ≡ Ok kept
+-- nothing that was recorded was read at fault
+pub recorded_well : {F : Type 0} (r : Result PrintableDay Fault) (recorded : PrintableDay) → r ≡ Ok recorded
     → (IsErrOf r (fault.File faults.ReadFailed) ↔ F) → F → ⊥
-kept_well r kept is told h = let late : r ≡ Err (fault.File faults.ReadFailed) = told.1 h in absurd cc
+recorded_well r recorded is told h = let late : r ≡ Err (fault.File faults.ReadFailed) = told.1 h in absurd cc
 
 -- what was said is what was given, where the input is known
 pub said_given : (day : DayHeader) (left : Option (List ℕ)) (said : Result DayWithCalls FileFault)
@@ -155,15 +155,15 @@ said_fails : (day : DayHeader) (left : Option (List ℕ)) (said : Result DayWith
 said_fails day None said f h known = tt
 said_fails day (Some all) said f h known = rw known at h
 
--- what wasn't kept
-pub journaled_refused : (form : Form) (day : DayHeader) (ends : Ends) (said : Result DayWithCalls FileFault)
+-- what wasn't recorded
+pub unrecorded : (form : Form) (day : DayHeader) (ends : Ends) (said : Result DayWithCalls FileFault)
     (r : Result PrintableDay Fault) (f : Fault) → r ≡ Err f
     → (IsErrOf r (fault.File faults.ReadFailed) ↔ ends.ReadFailed) → (ends.WriteFailed → ⊥) → ends.new ≡ ends.old
     → RecordsDay form said (Err f) → IfSome ends.left (λ all. said ≡ run_input day all)
     → IsRunOf (auction_job day form) ends (Err f)
-journaled_refused form day ends said r (fault.File f) is told wrote_well kept keeps known =
+unrecorded form day ends said r (fault.File f) is told wrote_well quiet recorded known =
     refused_input (auction_job day form) ends (Err f) f refl (λ e. told.0 (is ∙ read e), λ h. failed (told.1 h))
-    wrote_well kept tt (said_fails day ends.left said f keeps known)
+    wrote_well quiet tt (said_fails day ends.left said f recorded known)
   where
     read : IsErrOf {T = Unit {0}} (Err f) faults.ReadFailed → ◌≡◌ {A =
         Result PrintableDay Fault} (Err (fault.File f)) (Err (fault.File faults.ReadFailed))
@@ -171,27 +171,27 @@ journaled_refused form day ends said r (fault.File f) is told wrote_well kept ke
 
     failed : r ≡ Err (fault.File faults.ReadFailed) → IsErrOf {T = Unit {0}} (Err f) faults.ReadFailed
     failed e = let same : f ≡ faults.ReadFailed = cc (e, is) in ap (λ (x : FileFault). Err x) same
-journaled_refused form day ends said r (fault.Open f) is told wrote_well kept keeps known =
-    refused_opening (auction_job day form) ends keeps.0 f (said_given day ends.left said keeps.0 keeps.1 known)
+unrecorded form day ends said r (fault.Open f) is told wrote_well quiet recorded known =
+    refused_opening (auction_job day form) ends recorded.0 f (said_given day ends.left said recorded.0 recorded.1 known)
     (λ h. let late : r ≡ Err (fault.File faults.ReadFailed) =
-    told.1 h in absurd (cc (late, is))) wrote_well kept tt keeps.2
-journaled_refused form day ends said r fault.NoMemory is told wrote_well kept keeps known = absurd keeps
-journaled_refused form day ends said r fault.NotClosed is told wrote_well kept keeps known = absurd keeps
-journaled_refused form day ends said r fault.WriteFailed is told wrote_well kept keeps known = absurd keeps
+    told.1 h in absurd (cc (late, is))) wrote_well quiet tt recorded.2
+unrecorded form day ends said r fault.NoMemory is told wrote_well quiet recorded known = absurd recorded
+unrecorded form day ends said r fault.NotClosed is told wrote_well quiet recorded known = absurd recorded
+unrecorded form day ends said r fault.WriteFailed is told wrote_well quiet recorded known = absurd recorded
 
--- what was kept is of a form, and of what was said
-pub kept-day : (form : Form) (r : Result PrintableDay Fault) (text : Option (List ℕ))
+-- what was recorded is of a form, and of what was said
+pub recorded-said : (form : Form) (r : Result PrintableDay Fault) (text : Option (List ℕ))
     (says : List ℕ → Result DayWithCalls FileFault) → RecordsDayOfText form r text says
     → (for : Form) × (said : Result DayWithCalls FileFault) × RecordsDay for said r
-kept-day form r text says (said, keeps, known) = (form, said, keeps)
+recorded-said form r text says (said, recorded, known) = (form, said, recorded)
 
 -- what was written of it
-pub kept_wrote : (form for : Form) (day_with_calls : DayWithCalls) (old new : Option (List ℕ))
+pub recorded_wrote : (form for : Form) (day_with_calls : DayWithCalls) (old new : Option (List ℕ))
     (r : Result (Unit {0}) Fault) → for ≡ form
     → WritesText old new (printed for day_with_calls.day (history_of day_with_calls.day.config day_with_calls.calls)) r
     → WritesText old new (run_text form day_with_calls) r
-kept_wrote form for day_with_calls old new r is wrote = rw is at wrote
+recorded_wrote form for day_with_calls old new r is wrote = rw is at wrote
 
-pub kept_wide : (form for : Form) (entries : List Entry) → for ≡ form → IsWideForm for entries
+pub recorded_wide : (form for : Form) (entries : List Entry) → for ≡ form → IsWideForm for entries
     → IsWideForm form entries
-kept_wide form for entries is wide = rw is at wide
+recorded_wide form for entries is wide = rw is at wide

@@ -71,10 +71,10 @@ run-quiet job ends (Ok Unlawful) h (inl e) = absurd (omega (arith, e))
 run-quiet job ends (Ok Unlawful) h (inr e) = absurd (omega (arith, e))
 run-quiet job ends (Ok Incomplete) h (inl e) = absurd (omega (arith, e))
 run-quiet job ends (Ok Incomplete) h (inr e) = absurd (omega (arith, e))
-run-quiet job ends (Err (fault.File f)) h e = h.kept
-run-quiet job ends (Err (fault.Open f)) h e = h.kept
-run-quiet job ends (Err fault.NoMemory) h e = h.kept
-run-quiet job ends (Err fault.NotClosed) h e = h.kept
+run-quiet job ends (Err (fault.File f)) h e = h.quiet
+run-quiet job ends (Err (fault.Open f)) h e = h.quiet
+run-quiet job ends (Err fault.NoMemory) h e = h.quiet
+run-quiet job ends (Err fault.NotClosed) h e = h.quiet
 run-quiet job ends (Err fault.WriteFailed) h (inl e) = absurd (omega (arith, e))
 run-quiet job ends (Err fault.WriteFailed) h (inr e) = absurd (omega (arith, e))
 
@@ -158,10 +158,10 @@ does-small files day None (Live reserve) ends status h = rw h.2 (omega (arith, s
 does-small files day (Some file) (Live reserve) ends status h = omega (arith, h.small)
 
 -- a session with a journal
-pub does-kept : {D : Type 0} (files : JournalFiles D) (day : DayHeader) (journal : Option JournalFile)
+pub does-journaled : {D : Type 0} (files : JournalFiles D) (day : DayHeader) (journal : Option JournalFile)
     (file : JournalFile) (reserve : ℕ) (ends : Ends) (status : ℕ) → journal ≡ Some file
     → RunsJournaledSession files file day reserve ends status → DoesTask files day journal (Live reserve) ends status
-does-kept files day journal file reserve ends status is h = rw is h
+does-journaled files day journal file reserve ends status is h = rw is h
 
 -- ---- the arguments
 
@@ -186,10 +186,10 @@ serves-settings files arguments s task ends status accepts ranges is h =
 -- a status that isn't that of help
 not-help : {K W : Type 0} (n status : ℕ) → (status ≡ n) ⊎ W → (W → status ≡ 3) → (n ≢ 0 → K)
     → (status ≡ 2) ⊎ (status ≡ 1) → K
-not-help n status (inl is) fails kept (inl e) = kept (λ z. omega (arith, is, e, z))
-not-help n status (inl is) fails kept (inr e) = kept (λ z. omega (arith, is, e, z))
-not-help n status (inr f) fails kept (inl e) = let late = fails f in absurd (omega (arith, late, e))
-not-help n status (inr f) fails kept (inr e) = let late = fails f in absurd (omega (arith, late, e))
+not-help n status (inl is) fails quiet (inl e) = quiet (λ z. omega (arith, is, e, z))
+not-help n status (inl is) fails quiet (inr e) = quiet (λ z. omega (arith, is, e, z))
+not-help n status (inr f) fails quiet (inl e) = let late = fails f in absurd (omega (arith, late, e))
+not-help n status (inr f) fails quiet (inr e) = let late = fails f in absurd (omega (arith, late, e))
 
 arguments-small : (kind : ErrorKind) → arguments_status kind ≤ 5
 arguments-small kinds.InvalidValue = omega arith
@@ -222,14 +222,14 @@ pub serves-arguments : {D : Type 0} (files : JournalFiles D) (arguments : List T
     → ServesArguments files arguments ends status
 serves-arguments files arguments ends status (inl h) = record {
   answer = inr (inl h);
-  quiet = λ q. not-help (arguments_status h.kind) status h.status_is h.write_failed h.kept (one-or-two status q refl);
+  quiet = λ q. not-help (arguments_status h.kind) status h.status_is h.write_failed h.quiet (one-or-two status q refl);
   read_failed = λ f. absurd (h.none_read f);
   write_failed = h.write_failed;
   few = few-of-arguments h.kind status h.status_is h.write_failed;
 }
 serves-arguments files arguments ends status (inr h) = record {
   answer = inr (inr h);
-  quiet = λ q. h.kept;
+  quiet = λ q. h.quiet;
   read_failed = λ f. absurd (h.none_read f);
   write_failed = λ f. absurd (h.none_written f);
   few = let two = h.status_is in omega (arith, two);

@@ -83,15 +83,15 @@ WritesByInput job ends (Ok run_input) r = OpensUnless (job.opening run_input) r 
 WritesByInput job ends (Err f) r = ⊥
 
 -- nothing was written but by a run that failed to write
-abbrev pub KeepsOutput : Ends → Fault → Type 0
-KeepsOutput ends fault.WriteFailed = Unit {0}
-KeepsOutput ends f = ends.new ≡ ends.old
+abbrev pub LeavesOutput : Ends → Fault → Type 0
+LeavesOutput ends fault.WriteFailed = Unit {0}
+LeavesOutput ends f = ends.new ≡ ends.old
 
 pub record IsRunOf (job : Job) (ends : Ends) (run : RunResult) : Type 0 where
   pub read_failed : IsErrOf run (fault.File ReadFailed) ↔ ends.ReadFailed
   pub write_failed : IsErrOf run fault.WriteFailed ↔ ends.WriteFailed
   pub wrote : IfSome ends.left (λ bytes. WritesByInput job ends (job.says bytes) run)
-  pub kept : IfErr run (KeepsOutput ends)
+  pub quiet : IfErr run (LeavesOutput ends)
   pub fault : IfErr run job.Faults
 
 -- What was written once a job was opened: this text, at a failing write a beginning of it, and nothing at another

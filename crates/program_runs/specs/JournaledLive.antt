@@ -1,4 +1,4 @@
--- What a session does whose commands are kept in a journal's file.
+-- What a session with a journal does.
 use Rattle.std.specs.Prelude.{◌≡◌, ◌<◌, ◌≤◌, ◌⊎◌, ◌↔◌, ℕ, List, Bool, true, false, Option, Some, None, Result, Err}
 use Rattle.std.specs.Prelude.{unwrap_or}
 use Rattle.auction.specs.ConfigFault.{open_fault}
@@ -27,7 +27,7 @@ use Rattle.program_runs.specs.FileRun.{Ends}
 use Rattle.program_runs.specs.LiveRun.{as_session, session_status, terms_of}
 use Rattle.program_runs.specs.Status.{file_status, open_status}
 use Rattle.program_runs.specs.declared.journaling.JournaledFault.{JournaledFault}
-use Rattle.program_runs.specs.declared.journaling.JournaledFault.TheVariants as kept
+use Rattle.program_runs.specs.declared.journaling.JournaledFault.TheVariants as journaled
 
 -- 1 for a fault of the file, 2 for another day, 4 for a reply that isn't the lawful one, 3 for refused memory
 abbrev pub resume_status : ResumeFault → ℕ
@@ -48,9 +48,9 @@ opening_status Busy = 2
 opening_status f = 3
 
 abbrev pub journaled_status : JournaledFault → ℕ
-journaled_status (kept.Day f) = open_status f
-journaled_status (kept.Opening f) = opening_status f
-journaled_status (kept.Begin f) = begin_status f
+journaled_status (journaled.Day f) = open_status f
+journaled_status (journaled.Opening f) = opening_status f
+journaled_status (journaled.Begin f) = begin_status f
 
 -- What is known of the files of journals: of their devices, what opening one gives, and why it can't be opened; and how
 -- the one that was opened is left.
@@ -87,15 +87,15 @@ pub record IsNotBegunOn {D : Type 0} (files : JournalFiles D) (file : JournalFil
 
 -- no session begins on a file that was opened: so it is left
 abbrev pub IsRefusedOn : {D : Type 0} → Ghosts D → DayHeader → D → Option D → JournaledFault → Type 0
-IsRefusedOn {D = D} device day opened left (kept.Begin f) =
+IsRefusedOn {D = D} device day opened left (journaled.Begin f) =
     (last : D) × (left ≡ Some last) × HasNotBegun device day opened last f
 IsRefusedOn {D = D} device day opened left f = ⊥
 
 -- why a session of this day doesn't begin
 abbrev pub IsReason : {D : Type 0} → JournalFiles D → JournalFile → DayHeader → JournaledFault → Type 0
-IsReason files file day (kept.Day f) = f ≡ unwrap_or (open_fault day.config) NoMemory
-IsReason files file day (kept.Opening f) = (open_fault day.config ≡ None) × files.CannotOpen file f
-IsReason files file day (kept.Begin f) = IsNotBegunOn files file day f
+IsReason files file day (journaled.Day f) = f ≡ unwrap_or (open_fault day.config) NoMemory
+IsReason files file day (journaled.Opening f) = (open_fault day.config ≡ None) × files.CannotOpen file f
+IsReason files file day (journaled.Begin f) = IsNotBegunOn files file day f
 
 -- that of a session, and 3 where its journal couldn't be closed
 abbrev pub EndsWithStatus : Result Ending LiveFault → Bool → ℕ → Type 0
@@ -111,7 +111,7 @@ pub record HasClosed {D : Type 0} (device : Ghosts D) (ended : Result Ending Liv
   pub text : is_closed ≡ true → device.seen new ≡ committed (device.seen old)
   pub why : is_closed ≡ false → (ended ≡ Err CommitFailed) ⊎ (device.faults old < device.faults new)
 
--- A session that is kept ran to its end, and its journal was closed.
+-- A session with a journal ran to its end, and its journal was closed.
 pub record RunsToEnd {D : Type 0} (device : Ghosts D) (terms : SessionTerms) (start : RunningAuction)
     (journal : CommittedLines D) (left : D) (before after : List ℕ → ℕ → SessionEnds) (status : ℕ) : Type 0 where
   pub ended : Result Ending LiveFault
@@ -133,7 +133,7 @@ pub record HasNotBegunSession {D : Type 0} (files : JournalFiles D) (file : Jour
   pub none_read : ends.ReadFailed → ⊥
   pub none_written : ends.WriteFailed → ⊥
 
--- It began on what the file had, ran as any session that is kept does, and closed its journal: so the file is left.
+-- It began on what the file had, ran as any session with a journal does, and closed that: so the file is left.
 pub record HasRunJournaledSession {D : Type 0} (files : JournalFiles D) (file : JournalFile)
     (day : DayHeader) (reserve : ℕ) (ends : Ends) (status : ℕ) : Type 0 where
   pub start : RunningAuction
@@ -156,7 +156,7 @@ pub record HasRunJournaledSession {D : Type 0} (files : JournalFiles D) (file : 
   pub left : files.left ≡ Some closed.device
   pub status_is : EndsWithStatus ended is_closed status
 
--- What came of a session of this day, with `reserve` calls for the operator, whose commands are kept in this file.
+-- What came of a session of this day, with `reserve` calls for the operator, whose journal is this file.
 pub record RunsJournaledSession {D : Type 0} (files : JournalFiles D) (file : JournalFile) (day : DayHeader)
     (reserve : ℕ) (ends : Ends) (status : ℕ) : Type 0 where
   pub came : HasNotBegunSession files file day ends status ⊎ HasRunJournaledSession files file day reserve ends status

@@ -1,4 +1,4 @@
--- What a run keeps of a day's entries until they are printed.
+-- What a run records of a day's entries until they are printed.
 use Rattle.std.specs.Prelude.{◌≡◌, ◌≤◌, ℕ, ◌++◌, List, [], ◌∷◌, length, map}
 use Rattle.std.specs.Prelude.{Option, None, IfSome, unwrap_or, Result, Ok, Err}
 use Rattle.auction_terms.specs.declared.Call.{Call}
@@ -36,15 +36,15 @@ use Rattle.program_runs.specs.Printed.{history_of, reply_in}
 abbrev pub entry_in : RunningAuction → Call → Entry
 entry_in auction call = entry_of call (step auction.config auction.state call).1
 
--- the form that it is kept for
+-- the form that it records for
 abbrev pub form_of_recorder : Recorder → Form
 form_of_recorder (Lines replies) = forms.Lines
 form_of_recorder (Journal lines) = forms.Listing listing.Journal
 form_of_recorder (Trades trades) = forms.Listing listing.Trades
 form_of_recorder (Book book) = forms.Listing listing.Book
 
--- What is kept is of these entries, after which this is the auction: their replies, their lines in the journal, what
--- the table of trades needs of them, or the tables before the uncrosses among them.
+-- What is recorded is of these entries, after which this is the auction: their replies, their lines in the journal,
+-- what the table of trades needs of them, or the tables before the uncrosses among them.
 abbrev pub RecordsEntries : Recorder → RunningAuction → List Entry → Type 0
 RecordsEntries (Lines replies) auction entries = replies ≡ map reply_in entries
 RecordsEntries (Journal lines) auction entries = HasEntryLines (kept_text lines) entries
@@ -58,16 +58,16 @@ entry_heard heard = entry_of heard.recording.call heard.reply
 abbrev pub entries_heard : List HeardEntry → List Entry
 entries_heard heard = map entry_heard heard
 
--- what is kept is of the entries that were heard
+-- what is recorded is of the entries that were heard
 abbrev pub RecordsHeard : Recorder → RunningAuction → List HeardEntry → Type 0
-RecordsHeard kept auction heard = RecordsEntries kept auction (entries_heard heard)
+RecordsHeard recorder auction heard = RecordsEntries recorder auction (entries_heard heard)
 
--- What is kept when the auction's next call comes, of the entries before it: those, and of the book the table before
--- the call too, if it is an uncross that will be accepted.
+-- What is recorded when the auction's next call comes, of the entries before it: those, and of the book the table
+-- before the call too, if it is an uncross that will be accepted.
 abbrev pub RecordsUpToCall : Recorder → RunningAuction → List Entry → Call → Type 0
 RecordsUpToCall (Book book) auction entries call =
     HasTablesSoFar book (auction_after_call auction call) (entries ++ entry_in auction call ∷ [])
-RecordsUpToCall kept auction entries call = RecordsEntries kept auction entries
+RecordsUpToCall recorder auction entries call = RecordsEntries recorder auction entries
 
 -- the same of all entries of a day, with its tape and all its tables
 abbrev pub RecordsWholeDay : Recorder → Config → List Entry → Type 0
@@ -84,40 +84,40 @@ unanswered calls = calls >>= silent_all
 -- Where its text is known, they are those of it.
 abbrev pub RecordsCallsOfText : (List HeardEntry → Type 0) → RunningAuction → RunningAuction
     → Result (Unit {0}) FileFault → Option (List ℕ) → ℕ → Type 0
-RecordsCallsOfText AreKept old new result text members =
-    (wanted : Result (List Call) FileFault) × HearsAll AreKept [] old new (unanswered wanted) result
+RecordsCallsOfText AreRecorded old new result text members =
+    (wanted : Result (List Call) FileFault) × HearsAll AreRecorded [] old new (unanswered wanted) result
     × IfSome text (λ bytes. wanted ≡ file bytes members old.config.max_calls)
 
 -- a day's calls, as what was given to it
 abbrev pub calls_for : DayHeader → Result (List Call) FileFault → Result DayWithCalls FileFault
 calls_for day r = r >>= λ calls. Ok (record { day = day; calls = calls })
 
--- The day of these calls could be opened, takes as many, and is kept for this form.
+-- The day of these calls could be opened, takes as many, and is recorded for this form.
 abbrev pub IsRecordedDay : Form → PrintableDay → List Call → Type 0
-IsRecordedDay form kept calls =
-    (form_of_recorder kept.kept ≡ form) × (open_fault kept.day.config ≡ None)
-    × (length calls ≤ kept.day.config.max_calls)
-    × RecordsWholeDay kept.kept kept.day.config (history_of kept.day.config calls)
+IsRecordedDay form recorded calls =
+    (form_of_recorder recorded.recorder ≡ form) × (open_fault recorded.day.config ≡ None)
+    × (length calls ≤ recorded.day.config.max_calls)
+    × RecordsWholeDay recorded.recorder recorded.day.config (history_of recorded.day.config calls)
 
--- What was said is kept, or is at fault, or couldn't be opened.
+-- What was said is recorded, or is at fault, or couldn't be opened.
 abbrev pub RecordsDay : Form → Result DayWithCalls FileFault → Result PrintableDay Fault → Type 0
-RecordsDay form said (Ok kept) =
-    (calls : List Call) × (said ≡ Ok (record { day = kept.day; calls = calls })) × IsRecordedDay form kept calls
+RecordsDay form said (Ok recorded) =
+    (calls : List Call) × (said ≡ Ok (record { day = recorded.day; calls = calls })) × IsRecordedDay form recorded calls
 RecordsDay form said (Err (fault.File f)) = FailsAsWanted f said
 RecordsDay form said (Err (fault.Open f)) =
     (run_input : DayWithCalls) × (said ≡ Ok run_input) × (f ≡ unwrap_or (open_fault run_input.day.config) NoMemory)
 RecordsDay form said (Err f) = ⊥
 
--- What was said is kept, or is at fault, or couldn't be opened; where the text is known, it is what that says.
+-- What was said is recorded, or is at fault, or couldn't be opened; where the text is known, it is what that says.
 abbrev pub RecordsDayOfText : Form → Result PrintableDay Fault → Option (List ℕ) → (List ℕ
     → Result DayWithCalls FileFault)
     → Type 0
 RecordsDayOfText form result text says =
     (said : Result DayWithCalls FileFault) × RecordsDay form said result × IfSome text (λ bytes. said ≡ says bytes)
 
--- Of a day whose calls have all come what is kept is of these entries, or memory was refused.
+-- Of a day whose calls have all come what is recorded is of these entries, or memory was refused.
 abbrev pub IsClosedDay : DayHeader → Recorder → Config → List Entry → Result PrintableDay Fault → Type 0
 IsClosedDay day old config entries (Ok closed) =
-    (closed.day ≡ day) × (form_of_recorder closed.kept ≡ form_of_recorder old)
-    × RecordsWholeDay closed.kept config entries
+    (closed.day ≡ day) × (form_of_recorder closed.recorder ≡ form_of_recorder old)
+    × RecordsWholeDay closed.recorder config entries
 IsClosedDay day old config entries (Err f) = f ≡ fault.File file_fault.NoMemory

@@ -66,7 +66,7 @@ pub record AnswersArguments (arguments : List Text) (ends : Ends) (status : ℕ)
   pub kind : ErrorKind
   pub one_of : (kind ≡ OutOfMemory) ⊎ IsAmong kind (argument_kinds arguments)
   pub status_is : (status ≡ arguments_status kind) ⊎ ends.WriteFailed
-  pub kept : arguments_status kind ≢ 0 → ends.new ≡ ends.old
+  pub quiet : arguments_status kind ≢ 0 → ends.new ≡ ends.old
   pub none_read : ends.ReadFailed → ⊥
   pub write_failed : ends.WriteFailed → status ≡ 3
 
@@ -77,7 +77,7 @@ pub record RefusesMix (arguments : List Text) (ends : Ends) (status : ℕ) : Typ
       ⊎ (RefusesArguments arguments LiveNotAlone ⊎ (RefusesArguments arguments ResultsWithoutAudit
       ⊎ (RefusesArguments arguments WithoutLive ⊎ RefusesArguments arguments SyncWithoutJournal)))
   pub status_is : status ≡ 2
-  pub kept : ends.new ≡ ends.old
+  pub quiet : ends.new ≡ ends.old
   pub none_read : ends.ReadFailed → ⊥
   pub none_written : ends.WriteFailed → ⊥
 

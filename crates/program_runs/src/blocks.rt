@@ -25,19 +25,19 @@ use order_file::{Blocks, Calls, FileFault, MAX_BYTES, bytes_after};
 use settings::Form;
 use std::alloc::Global;
 
-/// Applies the calls of a block's records, which come after the auction's so far, and keeps their entries; or answers
-/// the first fault, which may be that memory is refused.
+/// Applies the calls of a block's records, which come after the auction's so far, and records their entries; or
+/// answers the first fault, which may be that memory is refused.
 fn record_block(
     alloc: Global,
     blocks: &Blocks,
     auction: &mut Auction,
-    kept: &mut Recorder,
+    recorder: &mut Recorder,
     members: u8,
 ) -> Result<(), FileFault>
     requires { auction.old.calls ≤ auction.old.config.max_calls }
-    ensures form { form_of_recorder kept.new ≡ form_of_recorder kept.old }
-    ensures kept { (heard : List HeardEntry) → RecordsHeard kept.old auction.old heard
-        → HearsAll (RecordsHeard kept.new auction.new) heard auction.old auction.new
+    ensures form { form_of_recorder recorder.new ≡ form_of_recorder recorder.old }
+    ensures heard { (before : List HeardEntry) → RecordsHeard recorder.old auction.old before
+        → HearsAll (RecordsHeard recorder.new auction.new) before auction.old auction.new
         (unanswered (calls_after members auction.old.config.max_calls auction.old.calls (block_rows blocks.now)))
         result }
     ensures room { auction.new.calls ≤ auction.old.config.max_calls }
@@ -45,30 +45,30 @@ fn record_block(
 {
     let max_calls = auction.config().max_calls;
     let mut calls = blocks.calls(alloc, members, max_calls, auction.calls())?;
-    hear_all(alloc, &mut calls, auction, kept)
+    hear_all(alloc, &mut calls, auction, recorder)
 }
 
-/// Applies the calls of this block's records, of which none has come, and of those behind it, and keeps their entries;
-/// or answers the first fault, before which one of the reading comes.
+/// Applies the calls of this block's records, of which none has come, and of those behind it, and records their
+/// entries; or answers the first fault, before which one of the reading comes.
 fn record_blocks<R: Source>(
     alloc: Global,
     reader: &mut R,
     auction: &mut Auction,
-    kept: &mut Recorder,
+    recorder: &mut Recorder,
     blocks: &mut Blocks,
     members: u8,
 ) -> Result<(), FileFault>
     requires opened { auction.old ≡ opened_auction auction.old.config }
-    requires none { RecordsHeard kept.old auction.old [] }
+    requires none { RecordsHeard recorder.old auction.old [] }
     ensures failed { IsErrOf result FileFault.ReadFailed ↔ (R.failures reader.old < R.failures reader.new) }
-    ensures form { form_of_recorder kept.new ≡ form_of_recorder kept.old }
+    ensures form { form_of_recorder recorder.new ≡ form_of_recorder recorder.old }
     ensures room { auction.new.calls ≤ auction.old.config.max_calls }
-    ensures kept { (text : Option (List ℕ))
+    ensures recorded { (text : Option (List ℕ))
         → IfSome text (OpensBlock (Ok blocks.old) MAX_BYTES (R.left reader.old))
-        → RecordsCallsOfText (RecordsHeard kept.new auction.new) auction.old auction.new result text members }
+        → RecordsCallsOfText (RecordsHeard recorder.new auction.new) auction.old auction.new result text members }
 {
     'turns: loop {
-        if let Err(fault) = record_block(alloc, blocks, auction, kept, members) {
+        if let Err(fault) = record_block(alloc, blocks, auction, recorder, members) {
             blocks.drain(reader)?;
             return Err(fault);
         }
@@ -81,7 +81,7 @@ fn record_blocks<R: Source>(
 /// What an order file owes whose day can't be opened: a fault of its own comes first.
 fn refused_orders(alloc: Global, bytes: &[u8], day: DayHeader, fault: OpenFault) -> Fault
     requires { fault ≡ unwrap_or (open_fault day.config) OpenFault.NoMemory }
-    ensures kept { (form : Form)
+    ensures recorded { (form : Form)
         → RecordsDay form (calls_for day (calls_of_file day.members day.config.max_calls bytes.now)) (Err result) }
     ensures read { result ≢ Fault.File FileFault.ReadFailed }
 {
@@ -103,7 +103,7 @@ fn refused_file<R: Source>(
     requires short { length start.items ≤ MAX_BYTES }
     requires fault { fault ≡ unwrap_or (open_fault day.config) OpenFault.NoMemory }
     ensures failed { (result ≡ Fault.File FileFault.ReadFailed) ↔ (R.failures reader.old < R.failures reader.new) }
-    ensures kept { (form : Form)
+    ensures recorded { (form : Form)
         → RecordsDayOfText form (Err result) (prepend_known start.items (R.left reader.old)) (orders_for day) }
 {
     match bytes_after(start, reader, MAX_BYTES) {
@@ -113,28 +113,28 @@ fn refused_file<R: Source>(
 }
 
 /// Applies the calls of an order file, of which these bytes at the start were read, to an auction that was just opened,
-/// and keeps their entries; or answers the file's first fault. The start is dropped once the first block has a copy, as
-/// it may be the whole input.
+/// and records their entries; or answers the file's first fault. The start is dropped once the first block has a copy,
+/// as it may be the whole input.
 fn record_text<R: Source>(
     alloc: Global,
     start: Vec<u8>,
     reader: &mut R,
     auction: &mut Auction,
-    kept: &mut Recorder,
+    recorder: &mut Recorder,
     members: u8,
 ) -> Result<(), FileFault>
     requires short { length start.items ≤ MAX_BYTES }
     requires opened { auction.old ≡ opened_auction auction.old.config }
-    requires none { RecordsHeard kept.old auction.old [] }
+    requires none { RecordsHeard recorder.old auction.old [] }
     ensures failed { IsErrOf result FileFault.ReadFailed ↔ (R.failures reader.old < R.failures reader.new) }
-    ensures form { form_of_recorder kept.new ≡ form_of_recorder kept.old }
+    ensures form { form_of_recorder recorder.new ≡ form_of_recorder recorder.old }
     ensures room { IfOk result (λ _. auction.new.calls ≤ auction.old.config.max_calls) }
-    ensures kept { RecordsCallsOfText (RecordsHeard kept.new auction.new) auction.old auction.new result
+    ensures recorded { RecordsCallsOfText (RecordsHeard recorder.new auction.new) auction.old auction.new result
         (prepend_known start.items (R.left reader.old)) members }
 {
     let mut blocks = Blocks::open(alloc, start.as_slice(), reader, MAX_BYTES)?;
     drop(start);
-    record_blocks(alloc, reader, auction, kept, &mut blocks, members)
+    record_blocks(alloc, reader, auction, recorder, &mut blocks, members)
 }
 
 /// Runs the commands of an order file of this day on its auction, as `record_file`.
@@ -151,13 +151,20 @@ fn record_opened<R: Source>(
     requires opens { open_fault day.config ≡ None }
     ensures failed { IsErrOf result (Fault.File FileFault.ReadFailed)
         ↔ (R.failures reader.old < R.failures reader.new) }
-    ensures kept { RecordsDayOfText form result (prepend_known start.items (R.left reader.old)) (orders_for day) }
+    ensures recorded { RecordsDayOfText form result (prepend_known start.items (R.left reader.old)) (orders_for day) }
 {
-    let Ok(mut kept) = Recorder::open(alloc, form, &auction) else {
+    let Ok(mut recorder) = Recorder::open(alloc, form, &auction) else {
         return Err(Fault::File(FileFault::NoMemory));
     };
-    record_text(alloc, start, reader, &mut auction, &mut kept, day.members)?;
-    close_day(alloc, day, &mut auction, kept)
+    record_text(
+        alloc,
+        start,
+        reader,
+        &mut auction,
+        &mut recorder,
+        day.members,
+    )?;
+    close_day(alloc, day, &mut auction, recorder)
 }
 
 /// Runs the commands of an order file of this day, of which these bytes at the start were read, block by block.
@@ -171,7 +178,7 @@ pub fn record_file<R: Source>(
     requires { length start.items ≤ MAX_BYTES }
     ensures failed { IsErrOf result (Fault.File FileFault.ReadFailed)
         ↔ (R.failures reader.old < R.failures reader.new) }
-    ensures kept { RecordsDayOfText form result (prepend_known start.items (R.left reader.old)) (orders_for day) }
+    ensures recorded { RecordsDayOfText form result (prepend_known start.items (R.left reader.old)) (orders_for day) }
 {
     match Auction::open(alloc, day.config) {
         Ok(auction) => record_opened(alloc, start, reader, auction, day, form),

@@ -107,7 +107,11 @@ fn write_listing<S: Sink>(
 {
     let mut history = History::new(entries);
     match record_calls(alloc, &mut history, day, Form::Listing(listing)) {
-        Ok(mut recorded_day) => write_recorded(writer, recorded_day.day, &mut recorded_day.kept),
+        Ok(mut recorded_day) => write_recorded(
+            writer,
+            recorded_day.day,
+            &mut recorded_day.recorder,
+        ),
         Err(_) => Err(Fault::NoMemory),
     }
 }

@@ -1,4 +1,4 @@
-//! A live session whose commands are kept in a journal's file.
+//! A live session with a journal.
 
 ghost use Rattle.std.specs.Prelude.{◌≡◌, Err, IfErr, IfOk};
 ghost use Rattle.auction_terms.specs.Auxiliary.RunningAuction.{opened_auction};

@@ -74,17 +74,17 @@ pub fn write_closing<S: Sink>(
     printer.flush()
 }
 
-/// Prints a day in the form that its entries are kept for.
+/// Prints a day in the form that it was recorded for.
 fn print_recorded<S: Sink>(
     printer: &mut Printer<'_, S>,
     day: DayHeader,
-    kept: &mut Recorder,
+    recorder: &mut Recorder,
 ) -> Result<(), WriteFailed>
-    requires { (entries : List Entry) × RecordsWholeDay kept.old day.config entries }
-    ensures { (entries : List Entry) → RecordsWholeDay kept.old day.config entries
-        → Prints S.Sink printer.old printer.new result (printed (form_of_recorder kept.old) day entries) }
+    requires { (entries : List Entry) × RecordsWholeDay recorder.old day.config entries }
+    ensures { (entries : List Entry) → RecordsWholeDay recorder.old day.config entries
+        → Prints S.Sink printer.old printer.new result (printed (form_of_recorder recorder.old) day entries) }
 {
-    match kept {
+    match recorder {
         Recorder::Lines(replies) => print_replies(printer, replies),
         Recorder::Journal(lines) => print_kept_journal(printer, day, lines),
         Recorder::Trades(trades) => trades.print(printer),
@@ -95,34 +95,34 @@ fn print_recorded<S: Sink>(
 fn write_printed<S: Sink>(
     writer: &mut S,
     day: DayHeader,
-    kept: &mut Recorder,
+    recorder: &mut Recorder,
 ) -> Result<(), WriteFailed>
-    requires { (entries : List Entry) × RecordsWholeDay kept.old day.config entries }
-    ensures { (entries : List Entry) → RecordsWholeDay kept.old day.config entries
-        → WritesAll S.Sink writer.old writer.new result (printed (form_of_recorder kept.old) day entries) }
+    requires { (entries : List Entry) × RecordsWholeDay recorder.old day.config entries }
+    ensures { (entries : List Entry) → RecordsWholeDay recorder.old day.config entries
+        → WritesAll S.Sink writer.old writer.new result (printed (form_of_recorder recorder.old) day entries) }
 {
     let mut printer = Printer::new(writer);
-    print_recorded(&mut printer, day, kept)?;
+    print_recorded(&mut printer, day, recorder)?;
     printer.flush()
 }
 
-/// Writes what is printed of a day in the form that its entries are kept for. It takes no memory, and a write that
+/// Writes what is printed of a day in the form that it was recorded for. It takes no memory, and a write that
 /// fails leaves a beginning of the text.
 pub fn write_recorded<S: Sink>(
     writer: &mut S,
     day: DayHeader,
-    kept: &mut Recorder,
+    recorder: &mut Recorder,
 ) -> Result<(), Fault>
-    requires { (entries : List Entry) × RecordsWholeDay kept.old day.config entries }
-    ensures text { (entries : List Entry) → RecordsWholeDay kept.old day.config entries
-        → WritesText (S.written writer.old) (S.written writer.new) (printed (form_of_recorder kept.old) day entries)
+    requires { (entries : List Entry) × RecordsWholeDay recorder.old day.config entries }
+    ensures text { (entries : List Entry) → RecordsWholeDay recorder.old day.config entries
+        → WritesText (S.written writer.old) (S.written writer.new) (printed (form_of_recorder recorder.old) day entries)
         result }
     ensures failed { IsErrOf result Fault.WriteFailed ↔ (S.failures writer.old < S.failures writer.new) }
     ensures fault { IfErr result (λ f. f ≡ Fault.WriteFailed) }
-    ensures wide { (entries : List Entry) → RecordsWholeDay kept.old day.config entries
-        → IsWideForm (form_of_recorder kept.old) entries }
+    ensures wide { (entries : List Entry) → RecordsWholeDay recorder.old day.config entries
+        → IsWideForm (form_of_recorder recorder.old) entries }
 {
-    let Ok(()) = write_printed(writer, day, kept) else {
+    let Ok(()) = write_printed(writer, day, recorder) else {
         return Err(Fault::WriteFailed);
     };
     Ok(())

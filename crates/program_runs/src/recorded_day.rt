@@ -1,4 +1,4 @@
-//! A day whose commands were run, with what its form needs kept of its entries.
+//! A day whose commands were run, with what its form needs of its entries.
 
 ghost use Rattle.std.specs.Prelude.{List};
 ghost use Rattle.auction_terms.specs.declared.Entry.{Entry};
@@ -11,25 +11,25 @@ use journal::DayHeader;
 use order_file::FileFault;
 use std::alloc::Global;
 
-/// A day, and what is kept of its entries.
+/// A day, and what was recorded of its entries.
 #[derive(Drop)]
 pub struct PrintableDay {
     pub day: DayHeader,
-    pub kept: Recorder,
+    pub recorder: Recorder,
 }
 
-/// A day whose calls have all come, which is kept.
+/// A day whose calls have all come.
 pub fn close_day(
     alloc: Global,
     day: DayHeader,
     auction: &mut Auction,
-    mut kept: Recorder,
+    mut recorder: Recorder,
 ) -> Result<PrintableDay, Fault>
-    ensures { (entries : List Entry) → RecordsEntries kept auction.old entries
-        → IsClosedDay day kept auction.old.config entries result }
+    ensures { (entries : List Entry) → RecordsEntries recorder auction.old entries
+        → IsClosedDay day recorder auction.old.config entries result }
 {
-    match kept.close(alloc, auction) {
-        Ok(()) => Ok(PrintableDay { day, kept }),
+    match recorder.close(alloc, auction) {
+        Ok(()) => Ok(PrintableDay { day, recorder }),
         Err(_) => Err(Fault::File(FileFault::NoMemory)),
     }
 }

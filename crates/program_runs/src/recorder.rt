@@ -1,4 +1,4 @@
-//! What is kept of a day's entries until they are printed.
+//! What is recorded of a day's entries until they are printed.
 
 ghost use Rattle.std.specs.Prelude.{◌≡◌, [], List, IfOk, OnOk, refl};
 ghost use Rattle.std.proofs.Common.{◌∙◌};
@@ -18,7 +18,7 @@ use printed_lines::{KeptText, ReplyList};
 use settings::{Form, Listing};
 use std::alloc::{AllocError, Global};
 
-/// What a form needs of a day's entries: lines the replies, which are kept in a byte each, a journal its lines, the
+/// What a form needs of a day's entries: lines the replies, which take a byte each, a journal its lines, the
 /// trades who entered each order and in which auction each trade was made, and the book its tables.
 #[derive(Drop)]
 pub enum Recorder {
@@ -41,11 +41,11 @@ fn entry_of(call: &Call, reply: &Reply) -> Entry
 }
 
 impl Recorder {
-    /// No entries of a day that was just opened, kept for this form. The error is that memory is refused.
+    /// No entries of a day that was just opened, for this form. The error is that memory is refused.
     pub fn open(alloc: Global, form: Form, auction: &Auction) -> Result<Recorder, AllocError>
-        ensures form { IfOk result (λ kept. form_of_recorder kept ≡ form) }
+        ensures form { IfOk result (λ recorder. form_of_recorder recorder ≡ form) }
         ensures none { auction.now ≡ opened_auction auction.now.config
-            → IfOk result (λ kept. RecordsEntries kept auction.now []) }
+            → IfOk result (λ recorder. RecordsEntries recorder auction.now []) }
     {
         match form {
             Form::Lines => Ok(Recorder::Lines(ReplyList::new(alloc))),
@@ -55,11 +55,11 @@ impl Recorder {
         }
     }
 
-    /// Keeps what the auction holds at the input's end, as all its calls have come. The error is that memory is
+    /// Records what the auction holds at the input's end, as all its calls have come. The error is that memory is
     /// refused.
     pub fn close(&mut self, alloc: Global, auction: &mut Auction) -> Result<(), AllocError>
         ensures form { form_of_recorder self.new ≡ form_of_recorder self.old }
-        ensures kept { (entries : List Entry) → RecordsEntries self.old auction.old entries
+        ensures recorded { (entries : List Entry) → RecordsEntries self.old auction.old entries
             → OnOk result (RecordsWholeDay self.new auction.old.config entries) }
     {
         match self {
@@ -81,7 +81,7 @@ impl Listener for Recorder {
 
     ghost becomes_on = { λ _ _ _ h k. k ∙ h };
 
-    /// Keeps what its form needs from before the auction's next call: of the book the ladder, where the call is an
+    /// Records what its form needs from before the auction's next call: of the book the ladder, where the call is an
     /// uncross that will be accepted.
     #[inline(always)]
     fn before(
@@ -96,7 +96,7 @@ impl Listener for Recorder {
         }
     }
 
-    /// Keeps the entry of a call that the auction answered so.
+    /// Records the entry of a call that the auction answered so.
     #[inline(always)]
     fn hear(&mut self, call: &Call, _text: &[u8], reply: &Reply) -> Result<(), AllocError> {
         match self {

@@ -17,7 +17,7 @@ use order_file::{FileFault, bytes_after, read_start};
 use settings::Form;
 use std::alloc::Global;
 
-/// Writes what is printed of a day that was kept, or hands on why it wasn't.
+/// Writes what is printed of a day that was recorded, or hands on why it wasn't.
 fn write_run<S: Sink>(writer: &mut S, run: Result<PrintableDay, Fault>) -> Result<Finish, Fault>
     requires { (form : Form) × (said : Result DayWithCalls FileFault) × RecordsDay form said run }
     ensures { (day : DayHeader) (form : Form) (left rest : Option (List ℕ)) (reads reads_after : ℕ)
@@ -30,7 +30,7 @@ fn write_run<S: Sink>(writer: &mut S, run: Result<PrintableDay, Fault>) -> Resul
         Ok(recorded_day) => recorded_day,
         Err(fault) => return Err(fault),
     };
-    write_recorded(writer, recorded_day.day, &mut recorded_day.kept)?;
+    write_recorded(writer, recorded_day.day, &mut recorded_day.recorder)?;
     Ok(Finish::Lawful)
 }
 
@@ -55,7 +55,7 @@ fn record_run<R: Source>(
 ) -> Result<PrintableDay, Fault>
     ensures failed { IsErrOf result (Fault.File FileFault.ReadFailed)
         ↔ (R.failures reader.old < R.failures reader.new) }
-    ensures kept { RecordsDayOfText form result (R.left reader.old) (run_input day) }
+    ensures recorded { RecordsDayOfText form result (R.left reader.old) (run_input day) }
 {
     let start = read_start(alloc, reader)?;
     if begins_with_digit(start.as_slice()) {

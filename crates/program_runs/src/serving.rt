@@ -46,7 +46,7 @@ fn text_of(alloc: Global, error: &Error) -> Option<String>
 fn print_text<O: Sink, E: Sink>(out: &mut O, err: &mut E, error: &Error, text: &str) -> u8
     requires { kind_of error.now ≢ OutOfMemory }
     ensures status { (result ≡ arguments_status (kind_of error.now)) ⊎ (O.failures out.old < O.failures out.new) }
-    ensures kept { arguments_status (kind_of error.now) ≢ 0 → O.written out.new ≡ O.written out.old }
+    ensures quiet { arguments_status (kind_of error.now) ≢ 0 → O.written out.new ≡ O.written out.old }
     ensures failed { O.failures out.old < O.failures out.new → result ≡ 3 }
 {
     if error.use_stderr() {

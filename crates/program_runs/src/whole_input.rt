@@ -20,7 +20,7 @@ use std::alloc::Global;
 pub fn refused<I: Input>(input: &mut I, day: DayHeader, fault: OpenFault) -> Fault
     requires ready { I.CanRead input.old }
     requires fault { fault ≡ unwrap_or (open_fault day.config) OpenFault.NoMemory }
-    ensures kept { (form : Form) → RecordsDay form (calls_coming day (I.coming input.old)) (Err result) }
+    ensures recorded { (form : Form) → RecordsDay form (calls_coming day (I.coming input.old)) (Err result) }
     ensures read { result ≢ Fault.File FileFault.ReadFailed }
 {
     match pass_over(input) {
@@ -41,14 +41,14 @@ fn record_on<I: Input>(
     requires room { I.room input.old ≤ day.config.max_calls }
     requires opened { auction ≡ opened_auction day.config }
     requires opens { open_fault day.config ≡ None }
-    ensures kept { RecordsDay form (calls_coming day (I.coming input.old)) result }
+    ensures recorded { RecordsDay form (calls_coming day (I.coming input.old)) result }
     ensures read { result ≢ Err (Fault.File FileFault.ReadFailed) }
 {
-    let Ok(mut kept) = Recorder::open(alloc, form, &auction) else {
+    let Ok(mut recorder) = Recorder::open(alloc, form, &auction) else {
         return Err(Fault::File(FileFault::NoMemory));
     };
-    match hear_all(alloc, input, &mut auction, &mut kept) {
-        Ok(()) => close_day(alloc, day, &mut auction, kept),
+    match hear_all(alloc, input, &mut auction, &mut recorder) {
+        Ok(()) => close_day(alloc, day, &mut auction, recorder),
         Err(fault) => Err(Fault::File(fault)),
     }
 }
@@ -62,7 +62,7 @@ pub fn record_calls<I: Input>(
 ) -> Result<PrintableDay, Fault>
     requires ready { I.CanRead input.old }
     requires room { I.room input.old ≤ day.config.max_calls }
-    ensures kept { RecordsDay form (calls_coming day (I.coming input.old)) result }
+    ensures recorded { RecordsDay form (calls_coming day (I.coming input.old)) result }
     ensures read { result ≢ Err (Fault.File FileFault.ReadFailed) }
 {
     match Auction::open(alloc, day.config) {
@@ -78,7 +78,7 @@ fn record_orders(
     day: DayHeader,
     form: Form,
 ) -> Result<PrintableDay, Fault>
-    ensures kept { RecordsDay form (orders_for day bytes.now) result }
+    ensures recorded { RecordsDay form (orders_for day bytes.now) result }
     ensures read { result ≢ Err (Fault.File FileFault.ReadFailed) }
 {
     if bytes.len() > MAX_BYTES {
@@ -97,7 +97,7 @@ fn record_or_refuse(
     fault: FileFault,
 ) -> Result<PrintableDay, Fault>
     requires { fault ≢ FileFault.ReadFailed }
-    ensures kept { RecordsDay form (or_orders (orders_for day bytes.now) fault) result }
+    ensures recorded { RecordsDay form (or_orders (orders_for day bytes.now) fault) result }
     ensures read { result ≢ Err (Fault.File FileFault.ReadFailed) }
 {
     match fault {
@@ -113,7 +113,7 @@ pub fn record_input(
     day: DayHeader,
     form: Form,
 ) -> Result<PrintableDay, Fault>
-    ensures kept { RecordsDay form (run_input_of day bytes.now) result }
+    ensures recorded { RecordsDay form (run_input_of day bytes.now) result }
     ensures read { result ≢ Err (Fault.File FileFault.ReadFailed) }
 {
     match Entries::open(alloc, bytes) {

@@ -10,18 +10,18 @@ use Rattle.order_file.proofs.BlockCallLaws.{CarriesCalls}
 use Rattle.program_runs.specs.RecordedEntries.{RecordsHeard, form_of_recorder}
 use Rattle.program_runs.proofs.blocks.record_blocks.Given as goal
 
--- The calls of the blocks so far came to the auction and are kept; they, and those of the records to come, are those
--- of the file; no read has failed.
+-- The calls of the blocks so far came to the auction and are recorded; they, and those of the records to come, are
+-- those of the file; no read has failed.
 abbrev pub invariant-turns : goal.invariant-turns
 invariant-turns g l = record {
   steady : g.R.Source.failures l.reader ≡ g.R.Source.failures l.fn.reader;
-  form : form_of_recorder l.kept ≡ form_of_recorder l.fn.kept;
+  form : form_of_recorder l.recorder ≡ form_of_recorder l.fn.recorder;
   room : l.auction.calls ≤ l.fn.auction.config.max_calls;
   calls : (front : List Call) × (l.auction ≡ after_all l.fn.auction (map silent front))
       × ((text : Option (List ℕ))
       → IfSome text (OpensBlock (Ok l.fn.blocks) MAX_BYTES (g.R.Source.left l.fn.reader))
       → CarriesCalls text (g.R.Source.left l.reader) l.members l.fn.auction.config.max_calls front l.blocks)
-      × RecordsHeard l.kept l.auction (heard_from l.fn.auction.config l.fn.auction.state (map silent front));
+      × RecordsHeard l.recorder l.auction (heard_from l.fn.auction.config l.fn.auction.state (map silent front));
 }
 
 abbrev pub decreases-turns : goal.decreases-turns

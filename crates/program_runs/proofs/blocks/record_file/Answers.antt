@@ -7,5 +7,5 @@ pub record_opened-requires-clause-opens : goal.record_opened-requires-clause-ope
 record_opened-requires-clause-opens g c =
     none_refused (open_fault c.args.day.config) c.open.result c.in-Ok.auction c.in-Ok.is c.open.ensures.refused
 
-pub returns-in-Err-clause-kept : goal.returns-in-Err-clause-kept
-returns-in-Err-clause-kept g c = c.refused_file.ensures.kept c.args.form
+pub returns-in-Err-clause-recorded : goal.returns-in-Err-clause-recorded
+returns-in-Err-clause-recorded g c = c.refused_file.ensures.recorded c.args.form

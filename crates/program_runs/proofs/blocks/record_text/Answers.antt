@@ -3,11 +3,12 @@ use Rattle.order_file.proofs.BlockCallLaws.{fails-file}
 use Rattle.program_runs.proofs.FileSaidLaws.{blocks-stop}
 use Rattle.program_runs.proofs.blocks.record_text.Goals as goal
 
-pub returns-in_err-blocks-clause-kept : goal.returns-in_err-blocks-clause-kept
-returns-in_err-blocks-clause-kept g c =
-    blocks-stop c.args.kept.now c.args.auction.now c.args.auction.now c.from_residual.result
+pub returns-in_err-blocks-clause-recorded : goal.returns-in_err-blocks-clause-recorded
+returns-in_err-blocks-clause-recorded g c =
+    blocks-stop c.args.recorder.now c.args.auction.now c.args.auction.now c.from_residual.result
     c.in_err-blocks.field-0.0 _ c.args.members c.from_residual.ensures.1
     (fails-file _ _ _ _ (rw c.as_slice.ensures.value at c.in_err-blocks.ensures.rows))
 
-pub returns-clause-kept : goal.returns-clause-kept
-returns-clause-kept g c = c.record_blocks.ensures.kept _ (rw c.as_slice.ensures.value at c.in_ok-blocks.ensures.rows)
+pub returns-clause-recorded : goal.returns-clause-recorded
+returns-clause-recorded g c =
+    c.record_blocks.ensures.recorded _ (rw c.as_slice.ensures.value at c.in_ok-blocks.ensures.rows)

@@ -8,13 +8,13 @@ use Rattle.program_runs.proofs.ComingLaws.{coming-orders}
 use Rattle.program_runs.proofs.RecorderLaws.{orders-long, orders-short}
 use Rattle.program_runs.proofs.whole_input.record_orders.Goals as goal
 
-pub returns-then-bytes-gt-MAX_BYTES-clause-kept : goal.returns-then-bytes-gt-MAX_BYTES-clause-kept
-returns-then-bytes-gt-MAX_BYTES-clause-kept c =
+pub returns-then-bytes-gt-MAX_BYTES-clause-recorded : goal.returns-then-bytes-gt-MAX_BYTES-clause-recorded
+returns-then-bytes-gt-MAX_BYTES-clause-recorded c =
     orders-long c.args.day c.args.bytes.now (omega (arith, c.if-bytes-gt-MAX_BYTES.true))
 
-pub returns-clause-kept : goal.returns-clause-kept
-returns-clause-kept c =
+pub returns-clause-recorded : goal.returns-clause-recorded
+returns-clause-recorded c =
     let short = orders-short c.args.day c.args.bytes.now (omega (arith, c.if-bytes-gt-MAX_BYTES.false)) in
     subst (λ (said : Result DayWithCalls FileFault). RecordsDay c.args.form said c.record_calls.result)
     (coming-orders c.args.day _ ∙ ap (calls_for c.args.day) c.in_ok-calls.ensures.calls ∙ sym short)
-    c.record_calls.ensures.kept
+    c.record_calls.ensures.recorded

@@ -2,6 +2,6 @@
 use Rattle.program_runs.proofs.ComingLaws.{coming-refused}
 use Rattle.program_runs.proofs.whole_input.refused.Goals as goal
 
-pub returns-in-Ok-clause-kept : goal.returns-in-Ok-clause-kept
-returns-in-Ok-clause-kept g c = λ form.
+pub returns-in-Ok-clause-recorded : goal.returns-in-Ok-clause-recorded
+returns-in-Ok-clause-recorded g c = λ form.
     coming-refused form c.args.day _ c.args.fault c.in-Ok.ensures.passed c.requires.fault
