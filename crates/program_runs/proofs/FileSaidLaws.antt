@@ -17,10 +17,9 @@ use Rattle.journal.specs.DayRecord.{is_day_row}
 use Rattle.journal.specs.JournalFile.{journal_of, journal_of_rows}
 use Rattle.journal.specs.declared.day.DayHeader.{DayHeader}
 use Rattle.journal.specs.declared.reading.TheConstants.{MAX_JOURNAL_BYTES}
-use Rattle.order_file.specs.File.{FailsAsWanted, calls_of_file, file, within_limit}
+use Rattle.order_file.specs.File.{FailsAsWanted, file, within_limit}
 use Rattle.order_file.specs.declared.fault.FileFault.{FileFault}
 use Rattle.order_file.specs.declared.fault.FileFault.TheVariants as faults
-use Rattle.order_file.specs.declared.reading.TheConstants.{MAX_BYTES}
 use Rattle.order_file.proofs.CallLaws.{fails-at}
 use Rattle.order_file.proofs.FirstFieldLaws.{BeginsWith, digit-first}
 use Rattle.settings.specs.declared.types.Form.{Form}
@@ -43,29 +42,6 @@ orders-known : (day : DayHeader) (wanted : Result (List Call) FileFault) (text :
 unfolding orders_for
 orders-known day wanted None h = tt
 orders-known day wanted (Some bytes) h = ap (calls_for day) h
-
--- the file was read whole
-pub file-read : (form : Form) (day : DayHeader) (text : Option (List ℕ)) (bytes : List ℕ)
-    (r : Result PrintableDay Fault)
-    → IfSome text (λ t. within_limit MAX_BYTES t ≡ Ok bytes)
-    → RecordsDay form (calls_for day (calls_of_file day.members day.config.max_calls bytes)) r
-    → RecordsDayOfText form r text (orders_for day)
-unfolding orders_for file
-file-read form day None bytes r read recorded = (_, recorded, tt)
-file-read form day (Some t) bytes r read recorded = (_, recorded, rw read refl)
-
--- it couldn't be read
-pub file-unread : (form : Form) (day : DayHeader) (text : Option (List ℕ)) (f : FileFault)
-    → IfSome text (λ t. FailsAsWanted f (within_limit MAX_BYTES t))
-    → RecordsDayOfText form (Err (fault.File f)) text (orders_for day)
-unfolding orders_for file
-file-unread form day None f h = (Err f, fails-at f (Err f) refl, tt)
-file-unread form day (Some t) f h = (
-  orders_for day t,
-  fails-then f _ (λ calls. Ok (record { day = day; calls = calls }))
-      (fails-then f (within_limit MAX_BYTES t) (calls_of_file day.members day.config.max_calls) h),
-  refl,
-)
 
 -- memory was refused
 pub said-memory : (form : Form) (text : Option (List ℕ)) (says : List ℕ → Result DayWithCalls FileFault)

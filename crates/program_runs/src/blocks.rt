@@ -1,27 +1,25 @@
 //! The commands of an order file, applied to an auction block by block, as they are read.
 
-ghost use Rattle.std.specs.Prelude.{◌≡◌, ◌≢◌, ◌<◌, ◌≤◌, ◌↔◌, ℕ, [], List, length, Option, None, unwrap_or, Ok, Err};
-ghost use Rattle.std.specs.Prelude.{IfErr, IfOk, IfSome, IsErrOf};
+ghost use Rattle.std.specs.Prelude.{◌≡◌, ◌<◌, ◌≤◌, ◌↔◌, ℕ, [], List, length, Option, None, Ok, IfErr, IfOk, IfSome};
+ghost use Rattle.std.specs.Prelude.{IsErrOf};
 ghost use Rattle.std.specs.Io.KnownBytes.{prepend_known};
 ghost use Rattle.auction_terms.specs.Auxiliary.RunningAuction.{opened_auction};
 ghost use Rattle.auction.specs.ConfigFault.{open_fault};
 ghost use Rattle.day_road.specs.Heard.{HeardEntry, HearsAll};
 ghost use Rattle.journal.specs.DayWithCalls.{orders_for};
 ghost use Rattle.order_file.specs.Blocks.{OpensBlock, block_rows};
-ghost use Rattle.order_file.specs.File.{IsOfRecord, calls_after, calls_of_file};
-ghost use Rattle.program_runs.specs.RecordedEntries.{RecordsCallsOfText, RecordsDay, RecordsDayOfText, RecordsHeard};
-ghost use Rattle.program_runs.specs.RecordedEntries.{calls_for};
+ghost use Rattle.order_file.specs.File.{IsOfRecord, calls_after};
+ghost use Rattle.program_runs.specs.RecordedEntries.{RecordsCallsOfText, RecordsDayOfText, RecordsHeard};
 ghost use Rattle.program_runs.specs.RecordedEntries.{form_of_recorder, unanswered};
 
 use crate::fault::Fault;
-use crate::recorded_day::{PrintableDay, close_day};
+use crate::recorded_day::{PrintableDay, close_day, open_day};
 use crate::recorder::Recorder;
-use crate::whole_input::refused;
-use auction::{Auction, OpenFault};
+use auction::Auction;
 use byte_streams::Source;
 use day_road::hear_all;
 use journal::DayHeader;
-use order_file::{Blocks, Calls, FileFault, MAX_BYTES, bytes_after};
+use order_file::{Blocks, FileFault, MAX_BYTES};
 use settings::Form;
 use std::alloc::Global;
 
@@ -78,40 +76,6 @@ fn record_blocks<R: Source>(
     }
 }
 
-/// What an order file owes whose day can't be opened: a fault of its own comes first.
-fn refused_orders(alloc: Global, bytes: &[u8], day: DayHeader, fault: OpenFault) -> Fault
-    requires { fault ≡ unwrap_or (open_fault day.config) OpenFault.NoMemory }
-    ensures recorded { (form : Form)
-        → RecordsDay form (calls_for day (calls_of_file day.members day.config.max_calls bytes.now)) (Err result) }
-    ensures read { result ≢ Fault.File FileFault.ReadFailed }
-{
-    match Calls::open(alloc, bytes, day.members, day.config.max_calls) {
-        Ok(mut calls) => refused(&mut calls, day, fault),
-        Err(fault) => Fault::File(fault),
-    }
-}
-
-/// What an order file owes whose day can't be opened, and of which these bytes at the start were read: a fault of its
-/// own comes first.
-fn refused_file<R: Source>(
-    alloc: Global,
-    start: Vec<u8>,
-    reader: &mut R,
-    day: DayHeader,
-    fault: OpenFault,
-) -> Fault
-    requires short { length start.items ≤ MAX_BYTES }
-    requires fault { fault ≡ unwrap_or (open_fault day.config) OpenFault.NoMemory }
-    ensures failed { (result ≡ Fault.File FileFault.ReadFailed) ↔ (R.failures reader.old < R.failures reader.new) }
-    ensures recorded { (form : Form)
-        → RecordsDayOfText form (Err result) (prepend_known start.items (R.left reader.old)) (orders_for day) }
-{
-    match bytes_after(start, reader, MAX_BYTES) {
-        Ok(bytes) => refused_orders(alloc, bytes.as_slice(), day, fault),
-        Err(fault) => Fault::File(fault),
-    }
-}
-
 /// Applies the calls of an order file, of which these bytes at the start were read, to an auction that was just opened,
 /// and records their entries; or answers the file's first fault. The start is dropped once the first block has a copy,
 /// as it may be the whole input.
@@ -137,37 +101,8 @@ fn record_text<R: Source>(
     record_blocks(alloc, reader, auction, recorder, &mut blocks, members)
 }
 
-/// Runs the commands of an order file of this day on its auction, as `record_file`.
-fn record_opened<R: Source>(
-    alloc: Global,
-    start: Vec<u8>,
-    reader: &mut R,
-    mut auction: Auction,
-    day: DayHeader,
-    form: Form,
-) -> Result<PrintableDay, Fault>
-    requires short { length start.items ≤ MAX_BYTES }
-    requires opened { auction ≡ opened_auction day.config }
-    requires opens { open_fault day.config ≡ None }
-    ensures failed { IsErrOf result (Fault.File FileFault.ReadFailed)
-        ↔ (R.failures reader.old < R.failures reader.new) }
-    ensures recorded { RecordsDayOfText form result (prepend_known start.items (R.left reader.old)) (orders_for day) }
-{
-    let Ok(mut recorder) = Recorder::open(alloc, form, &auction) else {
-        return Err(Fault::File(FileFault::NoMemory));
-    };
-    record_text(
-        alloc,
-        start,
-        reader,
-        &mut auction,
-        &mut recorder,
-        day.members,
-    )?;
-    close_day(alloc, day, &mut auction, recorder)
-}
-
-/// Runs the commands of an order file of this day, of which these bytes at the start were read, block by block.
+/// Runs the commands of an order file of this day, which can be opened, block by block. These bytes at the file's start
+/// were read.
 pub fn record_file<R: Source>(
     alloc: Global,
     start: Vec<u8>,
@@ -175,13 +110,22 @@ pub fn record_file<R: Source>(
     day: DayHeader,
     form: Form,
 ) -> Result<PrintableDay, Fault>
-    requires { length start.items ≤ MAX_BYTES }
+    requires short { length start.items ≤ MAX_BYTES }
+    requires opens { open_fault day.config ≡ None }
     ensures failed { IsErrOf result (Fault.File FileFault.ReadFailed)
         ↔ (R.failures reader.old < R.failures reader.new) }
     ensures recorded { RecordsDayOfText form result (prepend_known start.items (R.left reader.old)) (orders_for day) }
 {
-    match Auction::open(alloc, day.config) {
-        Ok(auction) => record_opened(alloc, start, reader, auction, day, form),
-        Err(fault) => Err(refused_file(alloc, start, reader, day, fault)),
-    }
+    let Ok(mut open_day) = open_day(alloc, day, form) else {
+        return Err(Fault::File(FileFault::NoMemory));
+    };
+    record_text(
+        alloc,
+        start,
+        reader,
+        &mut open_day.auction,
+        &mut open_day.recorder,
+        day.members,
+    )?;
+    close_day(alloc, day, open_day)
 }

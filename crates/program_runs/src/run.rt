@@ -1,6 +1,7 @@
 //! The run of commands on an auction.
 
-ghost use Rattle.std.specs.Prelude.{◌≡◌, ◌<◌, ◌≤◌, ◌↔◌, ◌∷◌, ℕ, List, Option, Result, true, IsErrOf};
+ghost use Rattle.std.specs.Prelude.{◌≡◌, ◌<◌, ◌≤◌, ◌↔◌, ◌∷◌, ℕ, List, Option, None, Result, true, IsErrOf};
+ghost use Rattle.auction.specs.ConfigFault.{open_fault};
 ghost use Rattle.program_runs.specs.AuctionRun.{RunsOnAuction};
 ghost use Rattle.program_runs.specs.FileRun.{ends_by, ends_of};
 ghost use Rattle.program_runs.specs.RecordedEntries.{RecordsDay, RecordsDayOfText};
@@ -11,6 +12,7 @@ use crate::fault::{Fault, Finish};
 use crate::printing::write_recorded;
 use crate::recorded_day::PrintableDay;
 use crate::whole_input::record_input;
+use auction::config_fault;
 use byte_streams::{Sink, Source};
 use journal::{DayHeader, MAX_JOURNAL_BYTES};
 use order_file::{FileFault, bytes_after, read_start};
@@ -45,6 +47,16 @@ fn begins_with_digit(start: &[u8]) -> bool
     }
 }
 
+/// Whether an input that begins so is read block by block: it is no journal, and this day can be opened. Where it
+/// can't be, a fault of the whole input comes first.
+fn is_read_in_blocks(start: &[u8], day: DayHeader) -> bool
+    ensures digit { result ≡ true
+        → (digit : ℕ) × (rest : List ℕ) × (start.now ≡ digit ∷ rest) × (48 ≤ digit) × (digit ≤ 57) }
+    ensures opens { result ≡ true → open_fault day.config ≡ None }
+{
+    begins_with_digit(start) && config_fault(day.config).is_none()
+}
+
 /// Runs the commands of an input, a journal or an order file of this day; of one that begins with a digit block by
 /// block.
 fn record_run<R: Source>(
@@ -58,7 +70,7 @@ fn record_run<R: Source>(
     ensures recorded { RecordsDayOfText form result (R.left reader.old) (run_input day) }
 {
     let start = read_start(alloc, reader)?;
-    if begins_with_digit(start.as_slice()) {
+    if is_read_in_blocks(start.as_slice(), day) {
         return record_file(alloc, start, reader, day, form);
     }
     let bytes = bytes_after(start, reader, MAX_JOURNAL_BYTES)?;

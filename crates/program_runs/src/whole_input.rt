@@ -1,15 +1,13 @@
 //! The commands of an input that was read whole, a journal or an order file, or of a history, applied to an auction.
 
-ghost use Rattle.std.specs.Prelude.{◌≡◌, ◌≢◌, ◌≤◌, Err, None, unwrap_or};
-ghost use Rattle.auction_terms.specs.Auxiliary.RunningAuction.{opened_auction};
+ghost use Rattle.std.specs.Prelude.{◌≡◌, ◌≢◌, ◌≤◌, Err, unwrap_or};
 ghost use Rattle.auction.specs.ConfigFault.{open_fault};
 ghost use Rattle.journal.specs.DayWithCalls.{calls_coming, run_input_of, or_orders, orders_for};
 ghost use Rattle.program_runs.specs.RecordedEntries.{RecordsDay};
 
 use crate::fault::Fault;
-use crate::recorded_day::{PrintableDay, close_day};
-use crate::recorder::Recorder;
-use auction::{Auction, OpenFault};
+use crate::recorded_day::{PrintableDay, close_day, open_day};
+use auction::OpenFault;
 use day_road::{Input, hear_all, pass_over};
 use journal::{DayHeader, Entries};
 use order_file::{Calls, FileFault, MAX_BYTES};
@@ -17,7 +15,7 @@ use settings::Form;
 use std::alloc::Global;
 
 /// What an input owes whose day can't be opened: a fault of its own comes first.
-pub fn refused<I: Input>(input: &mut I, day: DayHeader, fault: OpenFault) -> Fault
+fn refused<I: Input>(input: &mut I, day: DayHeader, fault: OpenFault) -> Fault
     requires ready { I.CanRead input.old }
     requires fault { fault ≡ unwrap_or (open_fault day.config) OpenFault.NoMemory }
     ensures recorded { (form : Form) → RecordsDay form (calls_coming day (I.coming input.old)) (Err result) }
@@ -26,30 +24,6 @@ pub fn refused<I: Input>(input: &mut I, day: DayHeader, fault: OpenFault) -> Fau
     match pass_over(input) {
         Ok(()) => Fault::Open(fault),
         Err(fault) => Fault::File(fault),
-    }
-}
-
-/// Runs the calls of an input, of which none has come, on the auction of this day.
-fn record_on<I: Input>(
-    alloc: Global,
-    input: &mut I,
-    mut auction: Auction,
-    day: DayHeader,
-    form: Form,
-) -> Result<PrintableDay, Fault>
-    requires ready { I.CanRead input.old }
-    requires room { I.room input.old ≤ day.config.max_calls }
-    requires opened { auction ≡ opened_auction day.config }
-    requires opens { open_fault day.config ≡ None }
-    ensures recorded { RecordsDay form (calls_coming day (I.coming input.old)) result }
-    ensures read { result ≢ Err (Fault.File FileFault.ReadFailed) }
-{
-    let Ok(mut recorder) = Recorder::open(alloc, form, &auction) else {
-        return Err(Fault::File(FileFault::NoMemory));
-    };
-    match hear_all(alloc, input, &mut auction, &mut recorder) {
-        Ok(()) => close_day(alloc, day, &mut auction, recorder),
-        Err(fault) => Err(Fault::File(fault)),
     }
 }
 
@@ -65,9 +39,13 @@ pub fn record_calls<I: Input>(
     ensures recorded { RecordsDay form (calls_coming day (I.coming input.old)) result }
     ensures read { result ≢ Err (Fault.File FileFault.ReadFailed) }
 {
-    match Auction::open(alloc, day.config) {
-        Ok(auction) => record_on(alloc, input, auction, day, form),
-        Err(fault) => Err(refused(input, day, fault)),
+    let mut open_day = match open_day(alloc, day, form) {
+        Ok(open_day) => open_day,
+        Err(fault) => return Err(refused(input, day, fault)),
+    };
+    match hear_all(alloc, input, &mut open_day.auction, &mut open_day.recorder) {
+        Ok(()) => close_day(alloc, day, open_day),
+        Err(fault) => Err(Fault::File(fault)),
     }
 }
 

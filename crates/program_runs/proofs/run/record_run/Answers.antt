@@ -12,10 +12,10 @@ returns-in_err-start-clause-recorded g c =
     said-handed c.args.form _ (run_input c.args.day) c.from_residual.result (fault.File f) c.from_residual.ensures.1
     (start-unread c.args.form _ f (run_input c.args.day) c.in_err-start.ensures.faults)
 
-pub returns-then-begins_with_digit-clause-recorded : goal.returns-then-begins_with_digit-clause-recorded
-returns-then-begins_with_digit-clause-recorded g c =
+pub returns-then-is_read_in_blocks-clause-recorded : goal.returns-then-is_read_in_blocks-clause-recorded
+returns-then-is_read_in_blocks-clause-recorded g c =
     begun-said c.args.form c.args.day _ _ c.in_ok-start.start.items c.record_file.result c.in_ok-start.ensures.start.0
-    (rw c.as_slice.ensures.value at (c.begins_with_digit.ensures c.if-begins_with_digit.true))
+    (rw c.as_slice.ensures.value at (c.is_read_in_blocks.ensures.digit c.if-is_read_in_blocks.true))
     c.record_file.ensures.recorded
 
 pub returns-in_err-bytes-clause-recorded : goal.returns-in_err-bytes-clause-recorded
