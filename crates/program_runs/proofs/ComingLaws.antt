@@ -27,8 +27,7 @@ use Rattle.settings.specs.declared.types.Form.{Form}
 use Rattle.settings.specs.declared.types.Form.TheVariants as forms
 use Rattle.settings.specs.declared.types.Listing.{Listing}
 use Rattle.program_runs.specs.RecordedEntries.{IsClosedDay, RecordsDay, RecordsEntries, RecordsHeard, RecordsWholeDay}
-use Rattle.program_runs.specs.RecordedEntries.{calls_for}
-use Rattle.program_runs.specs.RecordedEntries.{entries_heard, form_of_recorder}
+use Rattle.program_runs.specs.RecordedEntries.{calls_for, entries_heard, form_of_recorder}
 use Rattle.program_runs.specs.Printed.{IfBegun, IsWideForm, IsWideListing, history_of, listing_text, printed}
 use Rattle.program_runs.proofs.EntriesLaws.{legal-history}
 use Rattle.program_runs.specs.declared.fault.Fault.{Fault}

@@ -28,8 +28,7 @@ use Rattle.program_runs.specs.declared.fault.Fault.TheVariants as fault
 use Rattle.program_runs.specs.declared.recorder.Recorder.{Recorder}
 use Rattle.program_runs.specs.declared.recorded_day.PrintableDay.{PrintableDay}
 use Rattle.program_runs.specs.RecordedEntries.{IsClosedDay, RecordsCallsOfText, RecordsDay, RecordsDayOfText}
-use Rattle.program_runs.specs.RecordedEntries.{RecordsEntries}
-use Rattle.program_runs.specs.RecordedEntries.{RecordsHeard, calls_for, form_of_recorder}
+use Rattle.program_runs.specs.RecordedEntries.{RecordsEntries, RecordsHeard, calls_for, form_of_recorder}
 use Rattle.program_runs.proofs.BlockRunLaws.{fails-then}
 use Rattle.program_runs.proofs.ComingLaws.{coming-fails, coming-recorded, coming-orders}
 use Rattle.program_runs.proofs.RecorderLaws.{orders-long}

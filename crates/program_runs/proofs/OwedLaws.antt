@@ -1,6 +1,5 @@
 -- What a run owes, by how far it came.
-use Rattle.std.proofs.Common.{◌≡◌, ℕ, ◌++◌, List, Option, None, Some, Result, Ok, Err, IfSome, ap}
-use Rattle.std.proofs.Common.{refl, sym, subst}
+use Rattle.std.proofs.Common.{◌≡◌, ℕ, ◌++◌, List, Option, None, Some, Result, Ok, Err, IfSome, ap, refl, sym, subst}
 use Rattle.std.specs.Prelude.{◌↔◌, IsErrAnd, IsErrOf, unwrap_or}
 use Rattle.std.specs.Io.KnownBytes.{Appends}
 use Rattle.auction.specs.declared.OpenFault.{OpenFault}

@@ -25,9 +25,8 @@ use Rattle.program_runs.specs.declared.fault.Fault.{Fault}
 use Rattle.program_runs.specs.declared.fault.Fault.TheVariants as fault
 use Rattle.program_runs.specs.BoardRun.{IsDayOf, IsSplit, commands_of, calls_of_members}
 use Rattle.program_runs.specs.PlayedDay.{IsFaultAfter, IsOfBoard, IsPlayedOut, IsUnclosedFault, IsWhole}
-use Rattle.program_runs.proofs.SplitLaws.{IsNewMember, all_new, at_each}
-use Rattle.program_runs.proofs.SplitLaws.{calls_of_from, none_beyond, none_from, own_commands}
-use Rattle.program_runs.proofs.SplitLaws.{recorded_commands, sum_counts}
+use Rattle.program_runs.proofs.SplitLaws.{IsNewMember, all_new, at_each, calls_of_from, none_beyond, none_from}
+use Rattle.program_runs.proofs.SplitLaws.{own_commands, recorded_commands, sum_counts}
 
 -- ---- the end of a run
 

@@ -21,12 +21,10 @@ use Rattle.order_file.specs.declared.fault.FileFault.TheVariants as faults
 use Rattle.settings.specs.declared.types.Form.{Form}
 use Rattle.program_runs.specs.declared.fault.Fault.TheVariants as fault
 use Rattle.program_runs.specs.declared.recorder.Recorder.{Recorder}
-use Rattle.program_runs.specs.RecordedEntries.{IsClosedDay, RecordsDay, RecordsDayOfText}
-use Rattle.program_runs.specs.RecordedEntries.{calls_for, form_of_recorder}
+use Rattle.program_runs.specs.RecordedEntries.{IsClosedDay, RecordsDay, RecordsDayOfText, calls_for, form_of_recorder}
 use Rattle.program_runs.specs.AuctionRun.{auction_job, run_text}
 use Rattle.program_runs.specs.FileRun.{Ends, IsRunOf, WritesText}
-use Rattle.program_runs.specs.Printed.{IsWideForm}
-use Rattle.program_runs.specs.Printed.{history_of, printed}
+use Rattle.program_runs.specs.Printed.{IsWideForm, history_of, printed}
 use Rattle.program_runs.proofs.OwedLaws.{refused_input, refused_opening}
 
 -- ---- an order file

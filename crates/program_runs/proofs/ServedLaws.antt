@@ -22,8 +22,7 @@ use Rattle.program_runs.specs.BoardRun.{board_job}
 use Rattle.program_runs.specs.FileRun.{Ends, IsRunOf, Job}
 use Rattle.program_runs.specs.JournaledLive.{JournalFiles, RunsJournaledSession}
 use Rattle.program_runs.specs.LiveRun.{RunsLive, SessionResult, session_status}
-use Rattle.program_runs.specs.Served.{AnswersFault, DoesTask, ServesArguments, ServesSettings}
-use Rattle.program_runs.specs.Served.{day_of_settings}
+use Rattle.program_runs.specs.Served.{AnswersFault, DoesTask, ServesArguments, ServesSettings, day_of_settings}
 use Rattle.program_runs.specs.Served.{is_session, arguments_status}
 use Rattle.program_runs.specs.Status.{RunResult, file_status, open_status, run_status}
 use Rattle.program_runs.specs.declared.fault.Fault.TheVariants as fault

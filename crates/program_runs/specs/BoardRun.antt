@@ -1,6 +1,5 @@
 -- What a run of commands on a board writes.
-use Rattle.std.specs.Prelude.{◌≡◌, ℕ, ◌++◌, ◌==◌, List, All, filter, length, map}
-use Rattle.std.specs.Prelude.{Option, None, MatchOption}
+use Rattle.std.specs.Prelude.{◌≡◌, ℕ, ◌++◌, ◌==◌, List, All, filter, length, map, Option, None, MatchOption}
 use Rattle.std.specs.List.{range_with_len}
 use Rattle.auction_terms.specs.declared.Call.{Call}
 use Rattle.auction_terms.specs.declared.Command.{Command}

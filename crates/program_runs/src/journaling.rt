@@ -9,9 +9,8 @@ ghost use Rattle.settings.specs.declared.types.JournalFile.{JournalFile};
 ghost use Rattle.program_runs.specs.FileRun.{ends_of};
 ghost use Rattle.live_session.specs.Begun.{HasBegun};
 ghost use Rattle.live_session.specs.JournaledRun.{ends_at};
-ghost use Rattle.program_runs.specs.JournaledLive.{HasClosed, IsBegunFor, IsReason, IsRefusedOn};
-ghost use Rattle.program_runs.specs.JournaledLive.{RunsJournaledSession, RunsToEnd};
-ghost use Rattle.program_runs.specs.JournaledLive.{files_of};
+ghost use Rattle.program_runs.specs.JournaledLive.{HasClosed, IsBegunFor, IsReason, IsRefusedOn, RunsJournaledSession};
+ghost use Rattle.program_runs.specs.JournaledLive.{RunsToEnd, files_of};
 
 use crate::journal_lines::{write_cut, write_ending, write_entries, write_journaled_fault};
 use auction::Auction;

@@ -5,8 +5,7 @@ ghost use Rattle.std.proofs.Common.{◌∙◌};
 ghost use Rattle.auction_terms.specs.declared.Entry.{Entry};
 ghost use Rattle.auction_terms.specs.Auxiliary.RunningAuction.{opened_auction};
 ghost use Rattle.program_runs.specs.RecordedEntries.{RecordsEntries, RecordsHeard, RecordsUpToCall, RecordsWholeDay};
-ghost use Rattle.program_runs.specs.RecordedEntries.{entries_heard};
-ghost use Rattle.program_runs.specs.RecordedEntries.{form_of_recorder};
+ghost use Rattle.program_runs.specs.RecordedEntries.{entries_heard, form_of_recorder};
 ghost use Rattle.day_tables.specs.AnsweredCalls.{entry_of};
 
 use auction::Auction;

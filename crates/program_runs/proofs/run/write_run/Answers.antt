@@ -4,8 +4,7 @@ use Rattle.program_runs.specs.AuctionRun.{auction_job, run_text}
 use Rattle.program_runs.specs.Printed.{history_of}
 use Rattle.program_runs.specs.declared.fault.Finish.TheVariants.{Lawful}
 use Rattle.journal.specs.DayWithCalls.{DayWithCalls}
-use Rattle.program_runs.proofs.RecorderLaws.{unrecorded, recorded_well, recorded_wide, recorded_wrote}
-use Rattle.program_runs.proofs.RecorderLaws.{said_given}
+use Rattle.program_runs.proofs.RecorderLaws.{unrecorded, recorded_well, recorded_wide, recorded_wrote, said_given}
 use Rattle.program_runs.proofs.OwedLaws.{handed_over, ran_short, ran_whole, write-failed, wrote_well}
 use Rattle.program_runs.proofs.run.write_run.Goals as goal
 

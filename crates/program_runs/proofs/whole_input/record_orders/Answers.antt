@@ -1,7 +1,6 @@
 -- Answers of `record_orders` (src/whole_input.rt): what the prover left open; rt looks here.
-use Rattle.std.proofs.Common.{◌∙◌, ap, arith, subst, sym}
+use Rattle.std.proofs.Common.{◌∙◌, ap, arith, subst, sym, Result}
 use Rattle.journal.specs.DayWithCalls.{DayWithCalls}
-use Rattle.std.proofs.Common.{Result}
 use Rattle.order_file.specs.declared.fault.FileFault.{FileFault}
 use Rattle.program_runs.specs.RecordedEntries.{RecordsDay, calls_for}
 use Rattle.program_runs.proofs.ComingLaws.{coming-orders}
