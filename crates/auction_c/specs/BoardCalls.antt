@@ -1,10 +1,11 @@
 -- What a call from C does to the board's member that its handle holds, and what it writes.
-use Rattle.std.specs.Prelude.{◌≡◌, ◌≢◌, ◌<◌, ◌⊎◌, ◌++◌, ℕ, List, [], ◌∷◌, length, map, get_or, min, take, drop}
-use Rattle.std.specs.Prelude.{All, Bool, ◌||◌, not, nat_eq, nat_lt, Option, None, Some, is_some, IfSome, IsSomeAnd}
+use Rattle.std.specs.Prelude.{◌≡◌, ◌≢◌, ◌<◌, ◌⊎◌, ◌++◌, ℕ, List, [], ◌∷◌, length, map, get_or, min, take, drop, All}
+use Rattle.std.specs.Prelude.{Bool, ◌||◌, not, nat_eq, nat_lt, Option, None, Some, is_some, IfNone, IfSome, IsSomeAnd}
 use Rattle.std.specs.List.{list_any}
 use Rattle.logbook.specs.Pages.{Book}
 use Rattle.auction_terms.specs.Auxiliary.RunningAuction.{RunningAuction, auction_after}
 use Rattle.auction_terms.specs.Day.{IsLegal, calls_of}
+use Rattle.auction_terms.specs.Priority.{orders_in_priority}
 use Rattle.auction_terms.specs.declared.Config.{Config}
 use Rattle.auction_terms.specs.declared.Command.{Command}
 use Rattle.auction_terms.specs.declared.Entry.{Entry}
@@ -27,9 +28,10 @@ use Rattle.auction_c.specs.declared.structs.AuctionOrder.{AuctionOrder}
 use Rattle.auction_c.specs.declared.structs.AuctionReceipt.{AuctionReceipt}
 use Rattle.auction_c.specs.declared.structs.AuctionShown.{AuctionShown}
 use Rattle.auction_c.specs.declared.structs.AuctionTrade.{AuctionTrade}
-use Rattle.auction_c.specs.declared.errors.TheConstants.{BAD_LENGTH, BEHIND, BUSY, CLOSED, FULL, MISSING_MEMBER}
-use Rattle.auction_c.specs.declared.errors.TheConstants.{NO_MEMBER, NO_MEMORY, OVERTAKEN}
+use Rattle.auction_c.specs.declared.errors.TheConstants.{BAD_LENGTH, BAD_MEMBER, BEHIND, BUSY, CLOSED, FULL}
+use Rattle.auction_c.specs.declared.errors.TheConstants.{MISSING_MEMBER, NO_MEMBER, NO_MEMORY, OVERTAKEN}
 use Rattle.auction_c.specs.Calling.{ladder_error, ticks_of}
+use Rattle.auction_c.specs.Handles.{KeepsMemberTerms}
 use Rattle.auction_c.specs.Encoding.{display_out, entry_out, market_out, order_out, reply_out, state_out, trade_out}
 
 abbrev pub receipt_out : Receipt → AuctionReceipt
@@ -95,12 +97,27 @@ IsShowError m error = IsLockError error ⊎ ((error ≡ BEHIND) × SeesMore m)
 abbrev pub IsListError : BoardMember → ℕ → Type 0
 IsListError m error = IsShowError m error ⊎ (error ≡ NO_MEMORY)
 
+-- the same of the orders of whom a number says, which is looked at first
+abbrev pub IsOrdersError : Option (Option ℕ) → BoardMember → ℕ → Type 0
+IsOrdersError None m error = error ≡ BAD_MEMBER
+IsOrdersError (Some of) m error = IsListError m error
+
 -- the same of a ladder, whose arrays may have other lengths than there are ticks, which is looked at first
 abbrev pub IsLadderError : BoardMember → ℕ → ℕ → ℕ → Type 0
 IsLadderError m bids asks error =
     IsLockError error
     ⊎ (((error ≡ BAD_LENGTH) × (ladder_error (ticks_of m.board.config) bids asks ≡ BAD_LENGTH))
     ⊎ ((error ≡ BEHIND) × (ladder_error (ticks_of m.board.config) bids asks ≡ 0) × SeesMore m))
+
+-- The handle's member asks its board for something, and is shown it where the answer is 0. Else the error says why not,
+-- and the member is as it was. In any case the handle keeps its terms.
+pub record AsksBoard (Shows : BoardMember → BoardMember → Type 0) (IsError : BoardMember → ℕ → Type 0)
+    (old new : AuctionMember) (answer : ℕ) : Type 0 where
+  pub shown : answer ≡ 0 → HoldsAfter Shows old.boxed.value new.boxed.value
+  pub missing : IfNone old.boxed.value (answer ≡ NO_MEMBER)
+  pub error : IfSome old.boxed.value (λ (m : BoardMember). 0 < answer → IsError m answer)
+  pub same : 0 < answer → new.boxed.value ≡ old.boxed.value
+  pub terms : KeepsMemberTerms old new
 
 -- the member has seen all calls of this legal history, and is else as before
 pub record SeesHistory (old new : BoardMember) (history : List Entry) : Type 0 where
@@ -137,6 +154,13 @@ pub record ShowsOrders (listed : RunningAuction → List OpenOrder) (room orders
   pub orders_are : orders
       ≡ map order_out (take copied (listed (auction_after old.board.config (calls_of history)))) ++ drop copied room
   pub calls_are : calls ≡ length history
+
+-- the open orders in priority of a member, or of all, where a number says of whom
+abbrev pub ShowsOrdersOf : Option (Option ℕ) → List AuctionOrder → List AuctionOrder → ℕ → ℕ → BoardMember
+    → BoardMember → Type 0
+ShowsOrdersOf None room orders copied calls old new = ⊥
+ShowsOrdersOf (Some of) room orders copied calls old new =
+    ShowsOrders (λ (a : RunningAuction). orders_in_priority of a.state) room orders copied calls old new
 
 -- where the day is after all calls that the member has seen now
 pub record ShowsState (reserve : ℕ) (out : AuctionDayState) (old new : BoardMember) : Type 0 where

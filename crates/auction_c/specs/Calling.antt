@@ -1,6 +1,7 @@
 -- What a call from C does to the auction that its handle holds, and what it answers.
 use Rattle.std.specs.Prelude.{ℕ, ◌+◌, ◌-◌, ◌&&◌, ◌||◌, ◌==◌, nat_eq, if◌then◌else◌, List, [], ◌∷◌, length, drop}
 use Rattle.std.specs.Prelude.{Bool, Option, Some, None}
+use Rattle.std.specs.Option.{option_map_or}
 use Rattle.auction_terms.specs.declared.Command.{Command}
 use Rattle.auction_terms.specs.declared.Config.{Config}
 use Rattle.auction_terms.specs.declared.Trade.{Trade}
@@ -11,7 +12,7 @@ use Rattle.auction.specs.AuctionState.{current_orders, ladder_over, call_by}
 use Rattle.auction.specs.declared.OpenFault.{OpenFault}
 use Rattle.auction.specs.declared.OpenFault.TheVariants.{BadBounds, BadReference, BadCapacity, NoMemory}
 use Rattle.auction_c.specs.declared.errors.TheConstants.{BAD_BOUNDS, BAD_REFERENCE, BAD_CAPACITY, NO_MEMORY}
-use Rattle.auction_c.specs.declared.errors.TheConstants.{DONE, NO_COMMAND, FULL, BAD_LENGTH}
+use Rattle.auction_c.specs.declared.errors.TheConstants.{DONE, NO_AUCTION, NO_COMMAND, FULL, BAD_LENGTH}
 use Rattle.auction_c.specs.declared.errors.TheConstants.{BUSY, BEHIND, CLOSED, OVERTAKEN}
 use Rattle.board_terms.specs.declared.calls.CallFault.TheVariants.{HistoryFull, OutOfStep, Overtaken}
 use Rattle.auction.specs.Reserve.{is_reserved_from}
@@ -34,6 +35,10 @@ board_fault_number Closed = CLOSED
 board_fault_number (CallRefused HistoryFull) = FULL
 board_fault_number (CallRefused (OutOfStep history counted)) = BEHIND
 board_fault_number (CallRefused Overtaken) = OVERTAKEN
+
+-- what a call answers that each auction can: an error only where the handle holds none
+abbrev pub answer_of_held : Option RunningAuction → ℕ
+answer_of_held held = option_map_or (λ (a : RunningAuction). DONE) held NO_AUCTION
 
 -- ---- one command
 

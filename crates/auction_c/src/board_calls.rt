@@ -1,11 +1,11 @@
 //! The exports of a board's members.
 ghost use Rattle.std.specs.Prelude.{◌≡◌, ◌≢◌, ◌<◌, ◌≤◌, ℕ, true, false, length};
 ghost use Rattle.std.specs.Prelude.{None, IfNone, IfSome, IsNone, IsSome, IsSomeAnd};
-ghost use Rattle.auction_c.specs.BoardCalls.{HoldsAfter, HoldsNewMembers, RecordsCall, ShowsDisplay, is_in_use};
-ghost use Rattle.auction_c.specs.BoardCalls.{ShowsEntries, ShowsLadder, ShowsState, ShowsTrades, WritesClosing};
-ghost use Rattle.auction_c.specs.BoardCalls.{AreOfBoards, IsCloseError, first_boxed, lacks_room};
-ghost use Rattle.auction_c.specs.BoardCalls.{FindsFull, IsOutOfStepWithBoard, IsCallError, IsClone, IsLadderError};
-ghost use Rattle.auction_c.specs.BoardCalls.{IsListError, IsShowError};
+ghost use Rattle.auction_c.specs.BoardCalls.{AreOfBoards, AsksBoard, FindsFull, HoldsAfter, HoldsNewMembers};
+ghost use Rattle.auction_c.specs.BoardCalls.{IsCallError, IsClone, IsCloseError, IsLadderError, IsListError};
+ghost use Rattle.auction_c.specs.BoardCalls.{IsOutOfStepWithBoard, IsShowError, RecordsCall, ShowsDisplay, ShowsLadder};
+ghost use Rattle.auction_c.specs.BoardCalls.{ShowsEntries, ShowsState, ShowsTrades, WritesClosing, first_boxed};
+ghost use Rattle.auction_c.specs.BoardCalls.{is_in_use, lacks_room};
 ghost use Rattle.auction.specs.OpenOrders as limits;
 ghost use Rattle.auction_c.specs.Calling.{fault_number, ladder_error, ticks_of};
 ghost use Rattle.auction_c.specs.Handles.{IsMemberUnchanged, KeepsMemberTerms};
@@ -171,13 +171,8 @@ pub extern "C" fn callauction_board_ladder(
     market: &mut AuctionMarketOrders,
     calls: &mut u32,
 ) -> u32
-    ensures done { result ≡ 0 → HoldsAfter (ShowsLadder bids.new asks.new market.new calls.new)
-        member.old.boxed.value member.new.boxed.value }
-    ensures terms { KeepsMemberTerms member.old member.new }
-    ensures fault { 0 < result → member.new.boxed.value ≡ member.old.boxed.value }
-    ensures missing { IfNone member.old.boxed.value (result ≡ NO_MEMBER) }
-    ensures error { IfSome member.old.boxed.value (λ m. 0 < result →
-        IsLadderError m (length bids.old) (length asks.old) result) }
+    ensures asked { AsksBoard (ShowsLadder bids.new asks.new market.new calls.new)
+        (λ m error. IsLadderError m (length bids.old) (length asks.old) error) member.old member.new result }
     ensures length { IfSome member.old.boxed.value (λ m. result ≡ 0 →
         ladder_error (ticks_of m.board.config) (length bids.old) (length asks.old) ≡ 0) }
     ensures arrays { 0 < result → (bids.new ≡ bids.old) × (asks.new ≡ asks.old) }
@@ -199,12 +194,8 @@ pub extern "C" fn callauction_board_trades(
     copied: &mut usize,
     calls: &mut u32,
 ) -> u32
-    ensures done { result ≡ 0 → HoldsAfter (ShowsTrades seen trades.old trades.new copied.new calls.new)
-        member.old.boxed.value member.new.boxed.value }
-    ensures terms { KeepsMemberTerms member.old member.new }
-    ensures fault { 0 < result → member.new.boxed.value ≡ member.old.boxed.value }
-    ensures missing { IfNone member.old.boxed.value (result ≡ NO_MEMBER) }
-    ensures error { IfSome member.old.boxed.value (λ m. 0 < result → IsShowError m result) }
+    ensures asked { AsksBoard (ShowsTrades seen trades.old trades.new copied.new calls.new) IsShowError
+        member.old member.new result }
     ensures same { 0 < result → (trades.new ≡ trades.old) × (copied.new ≡ copied.old) × (calls.new ≡ calls.old) }
 {
     if !member.is_open {
@@ -269,12 +260,7 @@ pub extern "C" fn callauction_board_state(
     member: &mut AuctionMember,
     state: &mut AuctionDayState,
 ) -> u32
-    ensures done { result ≡ 0 →
-        HoldsAfter (ShowsState member.old.reserve state.new) member.old.boxed.value member.new.boxed.value }
-    ensures terms { KeepsMemberTerms member.old member.new }
-    ensures fault { 0 < result → member.new.boxed.value ≡ member.old.boxed.value }
-    ensures missing { IfNone member.old.boxed.value (result ≡ NO_MEMBER) }
-    ensures error { IfSome member.old.boxed.value (λ m. 0 < result → IsShowError m result) }
+    ensures asked { AsksBoard (ShowsState member.old.reserve state.new) IsShowError member.old member.new result }
     ensures same { 0 < result → state.new ≡ state.old }
 {
     if !member.is_open {
@@ -293,12 +279,8 @@ pub extern "C" fn callauction_board_history(
     entries: &mut [AuctionEntry],
     copied: &mut usize,
 ) -> u32
-    ensures done { result ≡ 0 → HoldsAfter (ShowsEntries seen entries.old entries.new copied.new)
-        member.old.boxed.value member.new.boxed.value }
-    ensures terms { KeepsMemberTerms member.old member.new }
-    ensures fault { 0 < result → member.new.boxed.value ≡ member.old.boxed.value }
-    ensures missing { IfNone member.old.boxed.value (result ≡ NO_MEMBER) }
-    ensures error { IfSome member.old.boxed.value (λ m. 0 < result → IsShowError m result) }
+    ensures asked { AsksBoard (ShowsEntries seen entries.old entries.new copied.new) IsShowError
+        member.old member.new result }
     ensures same { 0 < result → (entries.new ≡ entries.old) × (copied.new ≡ copied.old) }
 {
     if !member.is_open {

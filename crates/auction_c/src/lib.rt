@@ -12,8 +12,8 @@ ghost use Rattle.auction_terms.specs.Day.{display};
 ghost use Rattle.auction_terms.specs.Auxiliary.RunningAuction.{opened_auction};
 ghost use Rattle.auction.specs.ConfigFault.{open_fault};
 ghost use Rattle.auction.specs.OpenOrders.{has_same_limits};
-ghost use Rattle.auction_c.specs.Calling.{fault_number, apply_struct, apply_all};
-ghost use Rattle.auction_c.specs.Calling.{ladder_now, ladder_error, ticks_of, unseen_trades};
+ghost use Rattle.auction_c.specs.Calling.{answer_of_held, apply_all, apply_struct, fault_number, ladder_error};
+ghost use Rattle.auction_c.specs.Calling.{ladder_now, ticks_of, unseen_trades};
 ghost use Rattle.auction_c.specs.Handles.{IsHandleUnchanged, KeepsTerms};
 ghost use Rattle.auction_c.specs.Decoding as decoded_as;
 ghost use Rattle.auction_c.specs.Encoding as encoded_as;
@@ -162,7 +162,7 @@ pub extern "C" fn callauction_apply_many(
 /// Writes what is shown, as a reply with tag 5 or 6. It is no call of a member: it isn't counted.
 #[unsafe(no_mangle)]
 pub extern "C" fn callauction_display(handle: &mut AuctionHandle, shown: &mut AuctionReply) -> u32
-    ensures error { result ≡ option_map_or (λ a. DONE) handle.old.boxed.value NO_AUCTION }
+    ensures error { result ≡ answer_of_held handle.old.boxed.value }
     ensures handle { IsHandleUnchanged handle.old handle.new }
     ensures shown { shown.new ≡
         option_map_or (λ a. encoded_as.display_out (display a.state)) handle.old.boxed.value shown.old }
@@ -210,7 +210,7 @@ pub extern "C" fn callauction_trades(
     trades: &mut [AuctionTrade],
     copied: &mut usize,
 ) -> u32
-    ensures error { result ≡ option_map_or (λ a. DONE) handle.old.boxed.value NO_AUCTION }
+    ensures error { result ≡ answer_of_held handle.old.boxed.value }
     ensures handle { IsHandleUnchanged handle.old handle.new }
     ensures copied { copied.new ≡ min (length (unseen_trades seen handle.old.boxed.value)) (length trades.old) }
     ensures trades { trades.new ≡
@@ -232,7 +232,7 @@ pub extern "C" fn callauction_trades(
 /// Writes how many commands were applied, those among them that the auction refused.
 #[unsafe(no_mangle)]
 pub extern "C" fn callauction_calls(handle: &mut AuctionHandle, calls: &mut u32) -> u32
-    ensures error { result ≡ option_map_or (λ a. DONE) handle.old.boxed.value NO_AUCTION }
+    ensures error { result ≡ answer_of_held handle.old.boxed.value }
     ensures handle { IsHandleUnchanged handle.old handle.new }
     ensures calls { calls.new ≡ option_map_or (λ a. a.calls) handle.old.boxed.value calls.old }
 {
@@ -247,7 +247,7 @@ pub extern "C" fn callauction_calls(handle: &mut AuctionHandle, calls: &mut u32)
 /// calls, those that are left to the operator and to another member.
 #[unsafe(no_mangle)]
 pub extern "C" fn callauction_state(handle: &mut AuctionHandle, state: &mut AuctionDayState) -> u32
-    ensures error { result ≡ option_map_or (λ a. DONE) handle.old.boxed.value NO_AUCTION }
+    ensures error { result ≡ answer_of_held handle.old.boxed.value }
     ensures handle { IsHandleUnchanged handle.old handle.new }
     ensures state { state.new ≡
         option_map_or (λ a. encoded_as.state_out handle.old.reserve a) handle.old.boxed.value state.old }
@@ -266,7 +266,7 @@ pub extern "C" fn callauction_config_of(
     handle: &mut AuctionHandle,
     config: &mut AuctionConfig,
 ) -> u32
-    ensures error { result ≡ option_map_or (λ a. DONE) handle.old.boxed.value NO_AUCTION }
+    ensures error { result ≡ answer_of_held handle.old.boxed.value }
     ensures handle { IsHandleUnchanged handle.old handle.new }
     ensures config { config.new ≡
         option_map_or (λ a. encoded_as.config_out a.config handle.old.reserve) handle.old.boxed.value config.old }
@@ -282,7 +282,7 @@ pub extern "C" fn callauction_config_of(
 /// Goes back to the opening, as if the auction had just been opened. It takes no memory.
 #[unsafe(no_mangle)]
 pub extern "C" fn callauction_reset(handle: &mut AuctionHandle) -> u32
-    ensures error { result ≡ option_map_or (λ a. DONE) handle.old.boxed.value NO_AUCTION }
+    ensures error { result ≡ answer_of_held handle.old.boxed.value }
     ensures auction { handle.new.boxed.value ≡ option_map (λ a. opened_auction a.config) handle.old.boxed.value }
     ensures terms { KeepsTerms handle.old handle.new }
 {
@@ -339,7 +339,7 @@ pub extern "C" fn callauction_clone(
 /// Gives up the auction and its memory. The handle then holds none.
 #[unsafe(no_mangle)]
 pub extern "C" fn callauction_close(alloc: Global, handle: &mut AuctionHandle) -> u32
-    ensures error { result ≡ option_map_or (λ a. DONE) handle.old.boxed.value NO_AUCTION }
+    ensures error { result ≡ answer_of_held handle.old.boxed.value }
     ensures auction { handle.new.boxed.value ≡ None }
     ensures clients { handle.new.clients ≡ handle.old.clients }
 {

@@ -1,12 +1,11 @@
 //! The open orders of an auction and of a board, for C.
-ghost use Rattle.std.specs.Prelude.{◌≡◌, ◌<◌, ◌++◌, IsSome, IsNone, IfNone, IfSome, IsSomeAnd};
-ghost use Rattle.std.specs.Prelude.{length, map, min, take, drop};
+ghost use Rattle.std.specs.Prelude.{◌≡◌, ◌<◌, ◌++◌, IsSome, IsNone, IfSome, length, map, min, take, drop};
 ghost use Rattle.auction_terms.specs.Priority.{orders_in_priority, orders_expiring};
-ghost use Rattle.auction_c.specs.BoardCalls.{HoldsAfter, IsListError, ShowsOrders};
-ghost use Rattle.auction_c.specs.Handles.{IsHandleUnchanged, KeepsMemberTerms};
+ghost use Rattle.auction_c.specs.BoardCalls.{AsksBoard, IsListError, IsOrdersError, ShowsOrders, ShowsOrdersOf};
+ghost use Rattle.auction_c.specs.Handles.{IsHandleUnchanged};
 ghost use Rattle.auction_c.specs.Decoding as decoded_as;
 ghost use Rattle.auction_c.specs.Encoding as encoded_as;
-ghost use Rattle.auction_c.specs.declared.errors.TheConstants.{BAD_MEMBER, NO_AUCTION, NO_MEMBER, NO_MEMORY};
+ghost use Rattle.auction_c.specs.declared.errors.TheConstants.{BAD_MEMBER, NO_AUCTION, NO_MEMORY};
 
 use crate::board::listing::{show_expiring, show_orders};
 use crate::copying::copy_orders;
@@ -105,15 +104,9 @@ pub extern "C" fn callauction_board_orders(
     copied: &mut usize,
     calls: &mut u32,
 ) -> u32
-    ensures done { result ≡ 0 → IsSomeAnd (decoded_as.decoded_member of) (λ o.
-        HoldsAfter (ShowsOrders (λ a. orders_in_priority o a.state) orders.old orders.new copied.new calls.new)
-        member.old.boxed.value member.new.boxed.value) }
-    ensures terms { KeepsMemberTerms member.old member.new }
-    ensures fault { 0 < result → member.new.boxed.value ≡ member.old.boxed.value }
-    ensures missing { IfNone member.old.boxed.value (result ≡ NO_MEMBER) }
-    ensures number { IsSome member.old.boxed.value → IsNone (decoded_as.decoded_member of) → result ≡ BAD_MEMBER }
-    ensures error { IfSome member.old.boxed.value (λ m. IsSome (decoded_as.decoded_member of) → 0 < result →
-        IsListError m result) }
+    ensures asked { AsksBoard
+        (ShowsOrdersOf (decoded_as.decoded_member of) orders.old orders.new copied.new calls.new)
+        (IsOrdersError (decoded_as.decoded_member of)) member.old member.new result }
     ensures unchanged { 0 < result → (copied.new ≡ 0) × (orders.new ≡ orders.old) × (calls.new ≡ calls.old) }
 {
     *copied = 0;
@@ -138,13 +131,9 @@ pub extern "C" fn callauction_board_expiring(
     copied: &mut usize,
     calls: &mut u32,
 ) -> u32
-    ensures done { result ≡ 0 →
-        HoldsAfter (ShowsOrders (λ a. orders_expiring a.config a.state) orders.old orders.new copied.new calls.new)
-        member.old.boxed.value member.new.boxed.value }
-    ensures terms { KeepsMemberTerms member.old member.new }
-    ensures fault { 0 < result → member.new.boxed.value ≡ member.old.boxed.value }
-    ensures missing { IfNone member.old.boxed.value (result ≡ NO_MEMBER) }
-    ensures error { IfSome member.old.boxed.value (λ m. 0 < result → IsListError m result) }
+    ensures asked { AsksBoard
+        (ShowsOrders (λ a. orders_expiring a.config a.state) orders.old orders.new copied.new calls.new) IsListError
+        member.old member.new result }
     ensures unchanged { 0 < result → (copied.new ≡ 0) × (orders.new ≡ orders.old) × (calls.new ≡ calls.old) }
 {
     *copied = 0;
