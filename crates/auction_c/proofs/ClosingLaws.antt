@@ -10,8 +10,7 @@ use Rattle.auction_c.specs.declared.member_handle.AuctionMember.{AuctionMember}
 use Rattle.auction_c.specs.declared.structs.AuctionEntry.{AuctionEntry}
 use Rattle.auction_c.specs.Encoding.{entry_out}
 use Rattle.auction_c.specs.BoardCalls.{AreOfBoards, HoldAccounts, IsAccountsError, IsCloseError, WritesClosing}
-use Rattle.auction_c.specs.BoardCalls.{first_boxed}
-use Rattle.auction_c.specs.BoardCalls.{lacks_room}
+use Rattle.auction_c.specs.BoardCalls.{first_boxed, lacks_room}
 
 pub writes_closing : (f : BoardHistory) (handles : List AuctionMember) (room entries : List AuctionEntry)
     (counts : List ℕ) (written : ℕ) → HoldAccounts f handles

@@ -38,8 +38,7 @@ use Rattle.std_alloc.proofs.VecSteps.Shapes.{after}
 use Rattle.std_alloc.proofs.BoxSteps.Form.{R, B, τ, word, handle}
 use Rattle.std_alloc.proofs.BoxSteps.Steps.{box_out, box_in}
 use Rattle.std.specs.Prelude.{Option, IsSome, Some}
-use Rattle.auction_c.proofs.HeldBox.{Held, E, HB, CR, at, alloc, value, as_box, owns_inside, Some-inner}
-use Rattle.auction_c.proofs.HeldBox.{after_lending}
+use Rattle.auction_c.proofs.HeldBox.{Held, E, HB, CR, at, alloc, value, as_box, owns_inside, Some-inner, after_lending}
 
 -- the code as it is generated, at what stands behind its references
 abbrev pub lending : Ty → Ty → Ty → Ty → Ty → Fn

@@ -1,7 +1,6 @@
 -- The lines of entries, written one after the other.
 use Rattle.std.proofs.Common.{◌≡◌, ◌≤◌, ◌<◌, ◌+◌, ◌-◌, ◌++◌, ◌∷◌, ◌∙◌, [], ℕ, List, length, map, take, drop, get_or}
-use Rattle.std.proofs.Common.{Result, Ok, Err, Some, None, refl, ap, sym, arith, subst, append_assoc}
-use Rattle.std.proofs.Common.{length-append}
+use Rattle.std.proofs.Common.{Result, Ok, Err, Some, None, refl, ap, sym, arith, subst, append_assoc, length-append}
 use Rattle.std.proofs.lemmas.List.{append-nil, drop-drop, length-take-le, length_push, map-append, take_more}
 use Rattle.std.proofs.lemmas.Option.{slice_get-get_or, slice_get_past}
 use Rattle.std.proofs.Math.Seq.{drop-append-add, take-append_seam}

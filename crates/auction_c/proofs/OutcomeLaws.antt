@@ -1,14 +1,12 @@
 -- What an uncross does to the orders, read off tables of what its trades executed.
-use Rattle.std.proofs.Common.{◌≡◌, ◌≢◌, ℕ, zero, suc, ◌+◌, ◌-◌, ◌^◌, ◌<◌, ◌≤◌, nat_eq, cond, inl, inr, min, Bool}
-use Rattle.std.proofs.Common.{List, [], ◌∷◌, ◌++◌, length, map, filter, get_or, set, take, replicate}
-use Rattle.std.proofs.Common.{None, refl, sym, ap, ◌∙◌}
-use Rattle.std.proofs.Common.{arith}
+use Rattle.std.proofs.Common.{◌≡◌, ◌≢◌, ℕ, zero, suc, ◌+◌, ◌-◌, ◌^◌, ◌<◌, ◌≤◌, nat_eq, cond, inl, inr, min, Bool, List}
+use Rattle.std.proofs.Common.{[], ◌∷◌, ◌++◌, length, map, filter, get_or, set, take, replicate, None, refl, sym, ap}
+use Rattle.std.proofs.Common.{◌∙◌, arith}
 use Rattle.std.proofs.lemmas.Bool.{cases_lt}
 use Rattle.std.proofs.lemmas.Bool.Decides.{nat_tests}
 use Rattle.std.proofs.lemmas.Grind.{common_steps}
 use Rattle.std.proofs.lemmas.List.{length-map, set_past, take-map}
-use Rattle.std.proofs.lemmas.List.Elements.{All-filter, All-head, All-tail}
-use Rattle.std.proofs.lemmas.List.Elements.{filter-append}
+use Rattle.std.proofs.lemmas.List.Elements.{All-filter, All-head, All-tail, filter-append}
 use Rattle.std.proofs.lemmas.List.Sums.{sum_by-append, sum_by-cons}
 use Rattle.auction_terms.specs.declared.OpenOrder.{OpenOrder}
 use Rattle.auction_terms.specs.declared.Order.{Order}
@@ -22,8 +20,7 @@ use Rattle.auction_terms.specs.Priority.{executed_of, orders_in_priority, traded
 use Rattle.auction_terms.proofs.LadderLaws.{at_spread, length-tick_values, set_spread}
 use Rattle.auction.proofs.EmptyBookLaws.{spread_zero}
 use Rattle.auction_c.specs.declared.structs.AuctionOutcome.{AuctionOutcome}
-use Rattle.auction_c.specs.Executed.{AreNumberedUpTo, by_side, filled_in, is_touched_in, outcome_in}
-use Rattle.auction_c.specs.Executed.{shares_by_id}
+use Rattle.auction_c.specs.Executed.{AreNumberedUpTo, by_side, filled_in, is_touched_in, outcome_in, shares_by_id}
 use Rattle.auction_c.specs.Outcomes.{is_touched_with, outcome_with, outcomes, outcomes_of, shares_of, uncross_reply}
 use Rattle.auction_c.specs.Outcomes.{uncross_trades, uncrossed_of}
 

@@ -14,8 +14,7 @@ use Rattle.order_file.specs.declared.fault.FileFault.TheVariants.{BadField, TooM
 use Rattle.order_file.specs.declared.fault.FileFault.TheVariants.{NoMemory as MemoryRefused}
 use Rattle.auction_c.specs.Encoding.{flag_out}
 use Rattle.auction_c.specs.Journals.{ReplyPair, StopsAt, pair_of, auction_in, first_unlawful_call, journal_found}
-use Rattle.auction_c.specs.Journals.{is_compared}
-use Rattle.auction_c.specs.Journals.{is_unlawful, journal_error, journal_in, lines_found}
+use Rattle.auction_c.specs.Journals.{is_compared, is_unlawful, journal_error, journal_in, lines_found}
 use Rattle.auction_c.specs.ReadBack.{price_back}
 use Rattle.auction_c.specs.declared.errors.TheConstants.{BAD_JOURNAL, DONE, NO_MEMORY}
 use Rattle.auction_c.specs.declared.journals.comparing.Compared.{Compared}

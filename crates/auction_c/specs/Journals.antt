@@ -1,8 +1,7 @@
 -- Journals from C: the day that a struct says, the entries that structs say, and what is found in a journal's text.
 use Rattle.std.specs.Prelude.{◌≡◌, ℕ, ◌+◌, ◌-◌, ◌^◌, ◌<◌, ◌⊎◌, ◌==◌, ◌&&◌, nat_lt, nat_le, min, not, Bool, true, false}
 use Rattle.std.specs.Prelude.{if◌then◌else◌, List, [], ◌∷◌, ◌++◌, length, map, take, drop, slice_get, Option, Some}
-use Rattle.std.specs.Prelude.{None}
-use Rattle.std.specs.Prelude.{option_and_then, option_map, unwrap_or, Result, Ok, Err}
+use Rattle.std.specs.Prelude.{None, option_and_then, option_map, unwrap_or, Result, Ok, Err}
 use Rattle.std.specs.List.{count_by, position_from}
 use Rattle.std.specs.Option.{option_map_or}
 use Rattle.std.specs.Str.{bytes_eq}
