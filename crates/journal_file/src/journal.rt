@@ -64,6 +64,7 @@ impl<D: Device> CommittedLines<D> {
             → LeavesOnly D.moment D.left_since since self.new.device (IsBegun text (before ++ lines.now)) }
 
         // It doesn't give up by itself.
+        ensures aside { D.aside self.new.device ≡ D.aside self.old.device }
         ensures causes { D.faults self.old.device ≤ D.faults self.new.device }
         ensures failed { IsErrOf result DeviceError.Failed → D.faults self.old.device < D.faults self.new.device }
         ensures changed { IsErrOf result DeviceError.Changed → D.faults self.old.device < D.faults self.new.device }
@@ -86,6 +87,7 @@ impl<D: Device> CommittedLines<D> {
             (IsBegun (committed (D.seen self.old.device)) lines.now) }
 
         // It doesn't give up by itself.
+        ensures aside { D.aside self.new.device ≡ D.aside self.old.device }
         ensures causes { D.faults self.old.device ≤ D.faults self.new.device }
         ensures failed { IsErrOf result DeviceError.Failed → D.faults self.old.device < D.faults self.new.device }
         ensures changed { IsErrOf result DeviceError.Changed → D.faults self.old.device < D.faults self.new.device }
@@ -103,6 +105,7 @@ impl<D: Device> CommittedLines<D> {
         ensures same { OnOk result (committed (D.seen self.new.device) ≡ committed (D.seen self.old.device)) }
         ensures any_moment { LeavesOnly D.moment D.left_since self.old.device self.new.device
             (Means (committed (D.seen self.old.device))) }
+        ensures aside { D.aside self.new.device ≡ D.aside self.old.device }
         ensures causes { D.faults self.old.device ≤ D.faults self.new.device }
         ensures failed { IsErrOf result DeviceError.Failed → D.faults self.old.device < D.faults self.new.device }
         ensures changed { IsErrOf result DeviceError.Changed → D.faults self.old.device < D.faults self.new.device }
@@ -131,6 +134,7 @@ impl<D: Device> CommittedLines<D> {
             (committed (D.seen self.new.device) ≡ committed (D.seen self.old.device) ++ lines.now) }
         ensures any_moment { LeavesOnly D.moment D.left_since self.old.device self.new.device
             (IsBegun (committed (D.seen self.old.device)) lines.now) }
+        ensures aside { D.aside self.new.device ≡ D.aside self.old.device }
         ensures cause { HasCause (D.faults self.old.device) (D.faults self.new.device) result }
     {
         let mut rest = lines;
@@ -154,6 +158,7 @@ impl<D: Device> CommittedLines<D> {
             (committed (D.seen self.new.device) ≡ committed (D.seen self.old.device) ++ lines.now) }
         ensures any_moment { LeavesOnly D.moment D.left_since self.old.device self.new.device
             (IsBegun (committed (D.seen self.old.device)) lines.now) }
+        ensures aside { D.aside self.new.device ≡ D.aside self.old.device }
         ensures cause { HasCause (D.faults self.old.device) (D.faults self.new.device) result }
     {
         self.device.write_at(self.end, lines)?;
@@ -179,6 +184,7 @@ impl<D: Device> CommittedLines<D> {
             → LeavesOnly D.moment D.left_since since self.old.device (IsBegun text before)
             → LeavesOnly D.moment D.left_since since self.new.device (IsBegun text before) }
 
+        ensures aside { D.aside self.new.device ≡ D.aside self.old.device }
         ensures cause { HasCause (D.faults self.old.device) (D.faults self.new.device) result }
     {
         self.cut()
@@ -191,6 +197,7 @@ impl<D: Device> CommittedLines<D> {
         ensures text { OnOk result (D.seen self.new.device ≡ committed (D.seen self.old.device)) }
         ensures any_moment { LeavesOnly D.moment D.left_since self.old.device self.new.device
             (Means (committed (D.seen self.old.device))) }
+        ensures aside { D.aside self.new.device ≡ D.aside self.old.device }
         ensures cause { HasCause (D.faults self.old.device) (D.faults self.new.device) result }
     {
         self.device.resize(self.end)?;

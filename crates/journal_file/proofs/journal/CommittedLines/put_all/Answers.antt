@@ -21,39 +21,42 @@ pieces-init g c =
     let file = g.D.Device.seen device in
     let s = c.requires.settled in
     let P = IsBegun (committed file) [] in
-    let torn = torn-end-room file (committed file) c.args.self.now.room s.file refl in
-    record {
-      done = [];
-      split = refl;
-      whole = refl;
-      short = c.requires.short;
-      settled = s;
-      has = sym (append-nil (committed file));
-      room = c.requires.room;
-      leaves =
-          started g.D.Device.moment g.D.Device.left_since device P
-          (λ f left. subst P (sym (s.durable f (g.met.D.Device.only_now device f left)))
-          (0, (sym (append-nil (committed file)), torn)));
-      risen = omega arith;
-    }
+    let torn = torn-end-room file (committed file) c.args.self.now.room s.file refl in (
+      record {
+        done = [];
+        split = refl;
+        whole = refl;
+        short = c.requires.short;
+        settled = s;
+        has = sym (append-nil (committed file));
+        room = c.requires.room;
+        leaves =
+            started g.D.Device.moment g.D.Device.left_since device P
+            (λ f left. subst P (sym (s.durable f (g.met.D.Device.only_now device f left)))
+            (0, (sym (append-nil (committed file)), torn)));
+        risen = omega arith;
+      },
+      refl,
+    )
 
 pub split_at-requires : goal.split_at-requires
 split_at-requires g c =
-    let piece = piece-of c.pieces.rest.now c.piece_len.result c.pieces.invariant.short c.piece_len.ensures in piece.fits
+    let piece = piece-of c.pieces.rest.now c.piece_len.result c.pieces.invariant.0.short c.piece_len.ensures in
+    piece.fits
 
 pub put-requires-clause-whole : goal.put-requires-clause-whole
 put-requires-clause-whole g c =
-    let piece = piece-of c.pieces.rest.now c.piece_len.result c.pieces.invariant.short c.piece_len.ensures in
+    let piece = piece-of c.pieces.rest.now c.piece_len.result c.pieces.invariant.0.short c.piece_len.ensures in
     ap committed c.split_at.ensures.front ∙ piece.whole ∙ sym c.split_at.ensures.front
 
 pub put-requires-clause-few : goal.put-requires-clause-few
 put-requires-clause-few g c =
-    let piece = piece-of c.pieces.rest.now c.piece_len.result c.pieces.invariant.short c.piece_len.ensures in
+    let piece = piece-of c.pieces.rest.now c.piece_len.result c.pieces.invariant.0.short c.piece_len.ensures in
     omega (arith, piece.few, ap length c.split_at.ensures.front, length-take c.piece_len.result c.pieces.rest.now)
 
 pub returns-in_err-put-clause-any_moment : goal.returns-in_err-put-clause-any_moment
 returns-in_err-put-clause-any_moment g c =
-    let i = c.pieces.invariant in
+    let i = c.pieces.invariant.0 in
     let piece = piece-of c.pieces.rest.now c.piece_len.result i.short c.piece_len.ensures in
     let front = c.split_at.result.0.now in
     let more = drop c.piece_len.result c.pieces.rest.now in
@@ -66,7 +69,7 @@ returns-in_err-put-clause-any_moment g c =
 
 pub pieces-smaller : goal.pieces-smaller
 pieces-smaller g c =
-    let piece = piece-of c.pieces.rest.now c.piece_len.result c.pieces.invariant.short c.piece_len.ensures in
+    let piece = piece-of c.pieces.rest.now c.piece_len.result c.pieces.invariant.0.short c.piece_len.ensures in
     let some : 0 < length c.pieces.rest.now =
     not-none (length c.pieces.rest.now) c.is_empty.result c.is_empty.ensures c.pieces-test.true in
     omega (
@@ -79,7 +82,7 @@ pieces-smaller g c =
 
 pub pieces-preserved : goal.pieces-preserved
 pieces-preserved g c =
-    let i = c.pieces.invariant in
+    let i = c.pieces.invariant.0 in
     let rest = c.pieces.rest.now in
     let n = c.piece_len.result in
     let piece = piece-of rest n i.short c.piece_len.ensures in
@@ -91,21 +94,23 @@ pieces-preserved g c =
     sym (take-append-drop n rest) ∙ ap (λ (l : List ℕ). l ++ drop n rest) (sym front_is)
     ∙ ap (λ (l : List ℕ). front ++ l) (sym more_is) in
     let whole : committed front ≡ front = ap committed front_is ∙ piece.whole ∙ sym front_is in
-    let put = c.in_ok-put.ensures in
-    record {
-      done = i.done ++ front;
-      split =
-          i.split ∙ ap (λ (l : List ℕ). i.done ++ l) split ∙ sym (append_assoc i.done front more);
-      whole = committed-append i.done front i.whole ∙ ap (λ (l : List ℕ). i.done ++ l) whole;
-      short = subst HasShortLines (sym more_is) piece.more;
-      settled = put.settled;
-      has =
-          put.committed ∙ ap (λ (l : List ℕ). l ++ front) i.has
-          ∙ append_assoc (committed (g.D.Device.seen c.args.self.now.device)) i.done front;
-      room = omega (arith, i.room, put.room, ap length split, length-append front more);
-      leaves =
-          chain g.D.Device.moment g.D.Device.left_since c.args.self.now.device c.pieces.self.device
-          c.put.new.self.device (committed (g.D.Device.seen c.args.self.now.device)) i.done front
-          (committed (g.D.Device.seen c.pieces.self.device)) i.has i.whole i.leaves c.put.ensures.any_moment;
-      risen = omega (arith, i.risen, c.put.ensures.cause.later);
-    }
+    let put = c.in_ok-put.ensures in (
+      record {
+        done = i.done ++ front;
+        split =
+            i.split ∙ ap (λ (l : List ℕ). i.done ++ l) split ∙ sym (append_assoc i.done front more);
+        whole = committed-append i.done front i.whole ∙ ap (λ (l : List ℕ). i.done ++ l) whole;
+        short = subst HasShortLines (sym more_is) piece.more;
+        settled = put.settled;
+        has =
+            put.committed ∙ ap (λ (l : List ℕ). l ++ front) i.has
+            ∙ append_assoc (committed (g.D.Device.seen c.args.self.now.device)) i.done front;
+        room = omega (arith, i.room, put.room, ap length split, length-append front more);
+        leaves =
+            chain g.D.Device.moment g.D.Device.left_since c.args.self.now.device c.pieces.self.device
+            c.put.new.self.device (committed (g.D.Device.seen c.args.self.now.device)) i.done front
+            (committed (g.D.Device.seen c.pieces.self.device)) i.has i.whole i.leaves c.put.ensures.any_moment;
+        risen = omega (arith, i.risen, c.put.ensures.cause.later);
+      },
+      put.aside ∙ c.pieces.invariant.1,
+    )
