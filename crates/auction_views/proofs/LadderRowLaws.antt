@@ -1,7 +1,6 @@
 -- The rows of a ladder are those of its book.
 use Rattle.std.proofs.Common.{◌≡◌, ◌∙◌, ◌+◌, ◌-◌, ◌<◌, ◌≤◌, ℕ, zero, suc, Bool, true, false, cond, eqb, List, [], ◌∷◌}
-use Rattle.std.proofs.Common.{◌++◌}
-use Rattle.std.proofs.Common.{map, filter, length, append_assoc, ap, refl, sym, arith}
+use Rattle.std.proofs.Common.{◌++◌, map, filter, length, append_assoc, ap, refl, sym, arith}
 use Rattle.std.proofs.lemmas.List.{append-nil}
 use Rattle.auction_terms.specs.declared.Config.{Config}
 use Rattle.auction_terms.specs.declared.Order.{Order}

@@ -1,7 +1,6 @@
 -- What an audit finds of what it hears.
-use Rattle.std.proofs.Common.{◌≡◌, ◌≤◌, ◌+◌, ◌-◌, ◌++◌, ◌∷◌, ◌∙◌, [], ℕ, Bool, true, false, List, length, map}
-use Rattle.std.proofs.Common.{arith, rules}
-use Rattle.std.proofs.Common.{Option, Some, None, Result, Ok, Err, refl, ap, subst, sym, append_assoc}
+use Rattle.std.proofs.Common.{◌≡◌, ◌≤◌, ◌+◌, ◌-◌, ◌++◌, ◌∷◌, ◌∙◌, [], ℕ, Bool, true, false, List, length, map, arith}
+use Rattle.std.proofs.Common.{rules, Option, Some, None, Result, Ok, Err, refl, ap, subst, sym, append_assoc}
 use Rattle.std.specs.Prelude.{IfSome, ◌&&◌, nat_le}
 use Rattle.printed_lines.specs.declared.page.TheConstants.{LONGEST_LINE}
 use Rattle.journal.specs.declared.entry.TheConstants.{MAX_REPLY}

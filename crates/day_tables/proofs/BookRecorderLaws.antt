@@ -1,7 +1,6 @@
 -- The tables of a book that are kept while a day's calls are applied.
-use Rattle.std.proofs.Common.{◌≡◌, ◌∙◌, ◌+◌, ◌-◌, ◌<◌, ◌++◌, ◌∷◌, [], ℕ, List, length}
-use Rattle.std.proofs.Common.{drop, get_or, add-one, drop-cons, refl, sym, ap, subst, append_assoc, length-append}
-use Rattle.std.proofs.Common.{Result, Ok, Err, OnOk}
+use Rattle.std.proofs.Common.{◌≡◌, ◌∙◌, ◌+◌, ◌-◌, ◌<◌, ◌++◌, ◌∷◌, [], ℕ, List, length, drop, get_or, add-one, drop-cons}
+use Rattle.std.proofs.Common.{refl, sym, ap, subst, append_assoc, length-append, Result, Ok, Err, OnOk}
 use Rattle.std.proofs.lemmas.List.{append-nil}
 use Rattle.std.specs.List.{AllByRecursion}
 use Rattle.auction_terms.specs.declared.Call.{Call}

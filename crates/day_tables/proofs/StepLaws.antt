@@ -22,10 +22,9 @@ use Rattle.auction_terms.specs.AuctionPrice.{price}
 use Rattle.auction_terms.specs.Edits.{keeps_place, without_id}
 use Rattle.auction_terms.specs.Day.{State, Outcome, refuse_if, current_auction, own_order, is_bad_quantity}
 use Rattle.auction_terms.specs.Day.{is_bad_limit, is_bad_peak, is_past, loses_limit, book_with_change, visible_of}
-use Rattle.auction_terms.specs.Day.{display, trade_at}
-use Rattle.auction_terms.specs.Day.{enter, change, delete, order_status, indicate, read_trade, is_interrupted}
-use Rattle.auction_terms.specs.Day.{end_without_price, end_at_price, end_call_phase, uncross}
-use Rattle.auction_terms.specs.Day.{decide, state_with_reply, step}
+use Rattle.auction_terms.specs.Day.{display, trade_at, enter, change, delete, order_status, indicate, read_trade}
+use Rattle.auction_terms.specs.Day.{is_interrupted, end_without_price, end_at_price, end_call_phase, uncross, decide}
+use Rattle.auction_terms.specs.Day.{state_with_reply, step}
 use Rattle.day_tables.specs.TradeTable.{entered_id, auctions_of_reply}
 
 -- the next id rises by one with each order that is entered under it, and the tape grows by the reported trades

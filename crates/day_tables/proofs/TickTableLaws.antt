@@ -21,8 +21,7 @@ use Rattle.auction_terms.proofs.DemandShape.{demand_falls, supply_rises}
 use Rattle.lanes.specs.Meeting.{before}
 use Rattle.lanes.specs.RunningSums.{rising_sums, falling_sums}
 use Rattle.lanes.proofs.RunningSumLaws.{sum-cons}
-use Rattle.lanes.specs.Selection.{NoFlagIn, IsFirstFlag, IsLastFlag, IsGreatestFlagged, IsLeastFlagged}
-use Rattle.lanes.specs.Selection.{kept_if_equal}
+use Rattle.lanes.specs.Selection.{NoFlagIn, IsFirstFlag, IsLastFlag, IsGreatestFlagged, IsLeastFlagged, kept_if_equal}
 use Rattle.price_rules.specs.Candidates.{AreCandidates, AreMarked}
 use Rattle.price_rules.proofs.CurveLaws.{HasCurvesOf, curves-of_ladder}
 use Rattle.tick_ladder.specs.TickLadder.{IsLadder, IsLadderOf}

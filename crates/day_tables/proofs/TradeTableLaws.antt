@@ -1,9 +1,8 @@
 -- The trades of a day, one by one, with their auctions and members.
 use Rattle.std.proofs.Common.{◌≡◌, ℕ, zero, suc, ◌+◌, ◌-◌, ◌<◌, ◌≤◌, Bool, true, false, eqb, List, [], ◌∷◌, ◌++◌}
-use Rattle.std.proofs.Common.{length, map, find, drop, get_or, slice_get, min, Option, Some, None}
-use Rattle.std.proofs.Common.{is_some, option_map, MatchOption, ◌⊎◌, inl, inr, refl, sym, ap, ◌∙◌}
-use Rattle.std.proofs.Common.{append_assoc, add-one, drop-cons, length-append, arith}
-use Rattle.std.proofs.Common.{OnOk, Result, Ok, Err}
+use Rattle.std.proofs.Common.{length, map, find, drop, get_or, slice_get, min, Option, Some, None, is_some, option_map}
+use Rattle.std.proofs.Common.{MatchOption, ◌⊎◌, inl, inr, refl, sym, ap, ◌∙◌, append_assoc, add-one, drop-cons}
+use Rattle.std.proofs.Common.{length-append, arith, OnOk, Result, Ok, Err}
 use Rattle.std.proofs.Math.Dec.{leb}
 use Rattle.std.proofs.Math.Nat.{zero-add}
 use Rattle.std.proofs.lemmas.Bool.{eq-eqb, ne_eqb}
@@ -24,8 +23,7 @@ use Rattle.day_tables.specs.TradesRecorder.{AreReplayed, HasAllTrades, HasTrades
 use Rattle.auction_terms.specs.Day.{State, opening_state, step, state_after, replies_from, replay, call_of, calls_of}
 use Rattle.auction_terms.specs.Day.{IsLegal}
 use Rattle.day_tables.specs.TradeTable.{entered_id, has_entered_id, member_who_entered, auctions_of_reply}
-use Rattle.day_tables.specs.TradeTable.{trade_auctions}
-use Rattle.day_tables.specs.TradeTable.{trade_record, trade_records, trades_header, trades_text}
+use Rattle.day_tables.specs.TradeTable.{trade_auctions, trade_record, trade_records, trades_header, trades_text}
 use Rattle.day_tables.specs.TableMembers.{entering_members, member_of_id}
 use Rattle.day_tables.proofs.StepLaws.{step-reported}
 

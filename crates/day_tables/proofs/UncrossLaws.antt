@@ -1,7 +1,6 @@
 -- Which calls are accepted as an uncross.
-use Rattle.std.proofs.Common.{◌≡◌, ℕ, ◌==◌, ◌&&◌, nat_le, not, ok_or, if◌then◌else◌, is_some, Bool, true}
-use Rattle.std.proofs.Common.{false, length, Option, Some, None}
-use Rattle.std.proofs.Common.{Result, Ok, Err, IfOk, refl, sym, ap, arith}
+use Rattle.std.proofs.Common.{◌≡◌, ℕ, ◌==◌, ◌&&◌, nat_le, not, ok_or, if◌then◌else◌, is_some, Bool, true, false, length}
+use Rattle.std.proofs.Common.{Option, Some, None, Result, Ok, Err, IfOk, refl, sym, ap, arith}
 use Rattle.std.proofs.lemmas.Grind.{common_steps}
 use Rattle.auction_terms.specs.declared.Call.{Call}
 use Rattle.auction_terms.specs.declared.Command.{Command}
@@ -18,10 +17,9 @@ use Rattle.auction_terms.specs.Results.{◌>>=◌}
 use Rattle.auction_terms.specs.Book.{auction_orders}
 use Rattle.auction_terms.specs.AuctionPrice.{price}
 use Rattle.auction_terms.specs.Day.{State, Outcome, refuse_if, current_auction, own_order, is_bad_quantity}
-use Rattle.auction_terms.specs.Day.{is_bad_limit, is_bad_peak, is_past, loses_limit, trade_at}
-use Rattle.auction_terms.specs.Day.{enter, change, delete, order_status, indicate, read_trade, is_interrupted}
-use Rattle.auction_terms.specs.Day.{end_at_price, end_call_phase, uncross}
-use Rattle.auction_terms.specs.Day.{decide, is_uncross_reply, state_with_reply, step}
+use Rattle.auction_terms.specs.Day.{is_bad_limit, is_bad_peak, is_past, loses_limit, trade_at, enter, change, delete}
+use Rattle.auction_terms.specs.Day.{order_status, indicate, read_trade, is_interrupted, end_at_price, end_call_phase}
+use Rattle.auction_terms.specs.Day.{uncross, decide, is_uncross_reply, state_with_reply, step}
 use Rattle.day_tables.specs.AnsweredCalls.{is_uncross_command}
 
 -- an outcome that is none of an uncross

@@ -1,7 +1,6 @@
 -- The table of the day's trades.
 use Rattle.std.specs.Prelude.{ℕ, ◌+◌, ◌==◌, Bool, false, List, [], ◌∷◌, ◌++◌, Option, Some, None, find, option_map}
-use Rattle.std.specs.Prelude.{replicate}
-use Rattle.std.specs.Prelude.{codes, decimal}
+use Rattle.std.specs.Prelude.{replicate, codes, decimal}
 use Rattle.std.specs.Option.{option_map_or}
 use Rattle.std.specs.List.{flat_map}
 use Rattle.auction_terms.specs.declared.Config.{Config}

@@ -1,7 +1,6 @@
 -- The likely cause of an input's fault, by how the input begins.
 use Rattle.std.specs.Prelude.{ℕ, zero, suc, ◌-◌, ◌==◌, ◌&&◌, not, Bool, false, List, [], ◌∷◌, Option, Some, None}
-use Rattle.std.specs.Prelude.{length}
-use Rattle.std.specs.Prelude.{if◌then◌else◌, is_some, nat_lt, option_and_then}
+use Rattle.std.specs.Prelude.{length, if◌then◌else◌, is_some, nat_lt, option_and_then}
 use Rattle.csv.specs.Reading.{default_config, records, strip_bom}
 use Rattle.order_file.specs.Field.{number_of}
 use Rattle.order_file.specs.declared.fault.FileFault.{FileFault}

@@ -5,9 +5,8 @@ ghost use Rattle.std.specs.Char.{to_ascii_lowercase};
 ghost use Rattle.std.specs.Str.{bytes_eq};
 ghost use Rattle.csv.specs.Records.{fields_of};
 ghost use Rattle.input_hints.specs.RecordHints.{command_hint, field_hint, field_of, form_hint, has_names};
-ghost use Rattle.input_hints.specs.RecordHints.{hint_of_record};
-ghost use Rattle.input_hints.specs.RecordHints.{is_enter, is_header, is_lone, limit_hint, member_hint, number_hint};
-ghost use Rattle.input_hints.specs.RecordHints.{is_of_day, restriction_hint, side_hint};
+ghost use Rattle.input_hints.specs.RecordHints.{hint_of_record, is_enter, is_header, is_lone, limit_hint, member_hint};
+ghost use Rattle.input_hints.specs.RecordHints.{number_hint, is_of_day, restriction_hint, side_hint};
 
 use crate::field::{
     has_blank_edge, has_byte, has_letter_first, is_command_word, is_decimal, is_utf_16, is_whole,

@@ -1,7 +1,6 @@
 -- A session that begins on a file.
 use Rattle.std.proofs.Common.{◌≡◌, ◌≢◌, ◌<◌, ◌≤◌, ◌+◌, ◌^◌, ℕ, zero, suc, List, [], ◌∷◌, ◌++◌, Option, None, Some}
-use Rattle.std.proofs.Common.{Result, Ok, Err, length, refl}
-use Rattle.std.proofs.Common.{⊎_elim, sym, ap, subst, take, arith, ◌∙◌}
+use Rattle.std.proofs.Common.{Result, Ok, Err, length, refl, ⊎_elim, sym, ap, subst, take, arith, ◌∙◌}
 use Rattle.std.specs.Prelude.{slice_index}
 use Rattle.std.proofs.lemmas.List.{append-nil, take_at}
 use Rattle.auction_terms.specs.Auxiliary.RunningAuction.{RunningAuction}
@@ -18,9 +17,8 @@ use Rattle.journal_file.proofs.Chain.{begun_first}
 use Rattle.journal_file.proofs.Lines.{parts}
 use Rattle.journal_file.proofs.Moments.{one, started, then, weaker}
 use Rattle.journal_file.proofs.TornEnds.{torn-end-from}
-use Rattle.live_session.specs.Begun.{AddsLines, HasNotBegun, IsCause, IsLeftByBegin, IsPutAside}
-use Rattle.live_session.specs.Begun.{IsStored, LacksLines, LacksRepair}
-use Rattle.live_session.specs.Begun.{MayGoOn, opening_lines}
+use Rattle.live_session.specs.Begun.{AddsLines, HasNotBegun, IsCause, IsLeftByBegin, IsPutAside, IsStored, LacksLines}
+use Rattle.live_session.specs.Begun.{LacksRepair, MayGoOn, opening_lines}
 use Rattle.live_session.specs.declared.beginning.TheConstants.{SPARE}
 use Rattle.live_session.specs.declared.begin_fault.BeginFault.{BeginFault}
 use Rattle.live_session.specs.declared.begin_fault.BeginFault.TheVariants as begin_fault

@@ -1,7 +1,6 @@
 -- A commit.
-use Rattle.std.proofs.Common.{◌≡◌, ◌≤◌, ◌<◌, ◌+◌, ◌^◌, ◌++◌, ℕ, Bool}
-use Rattle.std.proofs.Common.{true, false, List, [], ◌∷◌, length, inl, inr, refl, ◌∙◌}
-use Rattle.std.proofs.Common.{Result, Err, ap, arith, sym, subst}
+use Rattle.std.proofs.Common.{◌≡◌, ◌≤◌, ◌<◌, ◌+◌, ◌^◌, ◌++◌, ℕ, Bool, true, false, List, [], ◌∷◌, length, inl, inr}
+use Rattle.std.proofs.Common.{refl, ◌∙◌, Result, Err, ap, arith, sym, subst}
 use Rattle.std.proofs.lemmas.List.{append-nil}
 use Rattle.auction_terms.specs.declared.Entry.{Entry}
 use Rattle.journal.specs.KeptLines.{HasEntryLines}

@@ -5,8 +5,7 @@ use Rattle.std.proofs.lemmas.List.{append-nil}
 use Rattle.std.proofs.lemmas.Slice.Eq.{bytes_eq-Decides}
 use Rattle.auction_terms.specs.declared.Entry.{Entry}
 use Rattle.auction_terms.specs.declared.Reply.{Reply}
-use Rattle.auction_terms.specs.Auxiliary.RunningAuction.{RunningAuction, auction_after_call}
-use Rattle.auction_terms.specs.Auxiliary.RunningAuction.{opened_auction}
+use Rattle.auction_terms.specs.Auxiliary.RunningAuction.{RunningAuction, auction_after_call, opened_auction}
 use Rattle.auction_terms.specs.Day.{call_of, calls_of, opening_state, replies_from, state_after, step}
 use Rattle.order_file.specs.File.{within_limit}
 use Rattle.printed_lines.specs.ReplyWords.{reply_text}
@@ -25,8 +24,7 @@ use Rattle.live_session.specs.JournaledPromises.{AreWholeLines, LawfulIsGoneOnWi
 use Rattle.live_session.specs.Replayed.{replayed}
 use Rattle.live_session.proofs.LookLaws.{after_each, after-each-is, at-behind}
 use Rattle.live_session.proofs.PrintableLineLaws.{calls-text, day-in-line, day_inside, each-in-line, first-insides}
-use Rattle.live_session.proofs.PrintableLineLaws.{in-lines, insides}
-use Rattle.live_session.proofs.PrintableLineLaws.{day-short, day-text, each-short, first-and-more}
+use Rattle.live_session.proofs.PrintableLineLaws.{in-lines, insides, day-short, day-text, each-short, first-and-more}
 use Rattle.live_session.proofs.PrintableLineLaws.{first-and-more-short, insides-both}
 
 -- ---- whole lines

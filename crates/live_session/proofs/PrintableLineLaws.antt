@@ -1,8 +1,7 @@
 -- The lines of a journal have no NUL in them, and no line end but their own.
-use Rattle.std.proofs.Common.{◌≡◌, ◌≤◌, ◌<◌, ◌+◌, ◌/◌, ◌%◌, ◌++◌, ◌∷◌, ◌∙◌}
-use Rattle.std.proofs.Common.{[], ℕ, zero, suc, List, Bool, Some, None, true}
-use Rattle.std.proofs.Common.{false, refl, sym, ap, append_assoc, arith, map, nat_le, nat_lt, rules, take, All, decimal}
-use Rattle.std.proofs.Common.{length, length-append}
+use Rattle.std.proofs.Common.{◌≡◌, ◌≤◌, ◌<◌, ◌+◌, ◌/◌, ◌%◌, ◌++◌, ◌∷◌, ◌∙◌, [], ℕ, zero, suc, List, Bool, Some, None}
+use Rattle.std.proofs.Common.{true, false, refl, sym, ap, append_assoc, arith, map, nat_le, nat_lt, rules, take, All}
+use Rattle.std.proofs.Common.{decimal, length, length-append}
 use Rattle.std.specs.Prelude.{◌==◌, Option, codes}
 use Rattle.std.specs.Fmt.{digit_glyph, digits, digits_onto}
 use Rattle.std.specs.List.{list_all, AllByRecursion}

@@ -1,7 +1,6 @@
 -- Answers to more and more lines.
-use Rattle.std.proofs.Common.{◌≡◌, ◌≢◌, ◌+◌, ℕ, List, [], ◌∷◌, ◌++◌, Option, Some, None, Bool, true, false, Result}
-use Rattle.std.proofs.Common.{Ok, Err}
-use Rattle.std.proofs.Common.{refl, ap, sym, subst, append_assoc, ◌∙◌}
+use Rattle.std.proofs.Common.{◌≡◌, ◌≢◌, ◌+◌, ℕ, List, [], ◌∷◌, ◌++◌, Option, Some, None, Bool, true, false, Result, Ok}
+use Rattle.std.proofs.Common.{Err, refl, ap, sym, subst, append_assoc, ◌∙◌}
 use Rattle.std.specs.Prelude.{OnOk}
 use Rattle.std.proofs.lemmas.List.{append-nil}
 use Rattle.auction_terms.specs.declared.Call.{Call}
@@ -15,13 +14,11 @@ use Rattle.input_hints.specs.declared.hint.Hint.{Hint}
 use Rattle.journal.specs.PrintedJournal.{call_line, call_lines}
 use Rattle.live_session.specs.Answered.{Answered, after_input_end, after_line, after_line_by, after_lines, after_record}
 use Rattle.live_session.specs.Answered.{after_records, answer_by, answer_call, answer_view, answered, answered_lines}
-use Rattle.live_session.specs.Answered.{answered_whole, cause_of, ending_of, refused_with, answered_by_view}
-use Rattle.live_session.specs.Answered.{line_fault}
+use Rattle.live_session.specs.Answered.{answered_whole, cause_of, ending_of, refused_with, answered_by_view, line_fault}
 use Rattle.live_session.specs.Answered.{live_call, nothing_yet, refused, replied}
 use Rattle.live_session.specs.Gathered.{AddsAnswers, Gathers}
 use Rattle.live_session.specs.InputLines.{Lines, is_line_end, line_ended, lines_once_read, lines_of, next_byte}
-use Rattle.live_session.specs.InputLines.{no_lines}
-use Rattle.live_session.specs.InputLines.{text_of_record}
+use Rattle.live_session.specs.InputLines.{no_lines, text_of_record}
 use Rattle.live_session.specs.declared.fault.BadRecord.{BadRecord}
 use Rattle.live_session.specs.declared.fault.BadRecord.TheVariants as bad
 use Rattle.live_session.specs.declared.fault.Ending.TheVariants.{SomeBad}

@@ -1,7 +1,6 @@
 -- An input as lines, and a line as a record.
 use Rattle.std.specs.Prelude.{◌≡◌, ◌<◌, ◌==◌, ◌||◌, ℕ, List, [], ◌∷◌, ◌++◌, length, nat_lt, slice_index, take, Bool}
-use Rattle.std.specs.Prelude.{true}
-use Rattle.std.specs.Prelude.{false, if◌then◌else◌, Option, Some, None}
+use Rattle.std.specs.Prelude.{true, false, if◌then◌else◌, Option, Some, None}
 use Rattle.csv.specs.Machine.{ends_at_end, step}
 use Rattle.csv.specs.Reading.{default_config, is_bom, strip_bom}
 use Rattle.csv.specs.declared.parser.State.{State}

@@ -5,8 +5,7 @@ ghost use Rattle.std.specs.Prelude.{IfErr, IfOk, IsTrue, ◌↔◌};
 ghost use Rattle.auction_terms.specs.Auxiliary.RunningAuction.{opened_auction};
 ghost use Rattle.journal_file.specs.Committed.{HasTornEnd, IsTextLen, IsTornOf, behind_lines, committed};
 ghost use Rattle.journal_file.specs.Settled.{IsSettled};
-ghost use Rattle.live_session.specs.Begun.{AddsLines, HasBegun, HasNotBegun, IsPutAside, LacksLines};
-ghost use Rattle.live_session.specs.Begun.{LacksRepair};
+ghost use Rattle.live_session.specs.Begun.{AddsLines, HasBegun, HasNotBegun, IsPutAside, LacksLines, LacksRepair};
 
 use crate::begin_fault::{BeginFault, CutOff, NotBegun};
 use crate::first_lines::day_lines;

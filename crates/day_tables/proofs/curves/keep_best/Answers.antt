@@ -1,7 +1,6 @@
 -- Answers of `keep_best` (src/curves.rt): what the prover left open; rt looks here.
-use Rattle.std.proofs.Common.{◌≡◌, length, arith, rules}
+use Rattle.std.proofs.Common.{◌≡◌, length, arith, rules, min}
 use Rattle.std.specs.Int.{abs_diff}
-use Rattle.std.proofs.Common.{min}
 use Rattle.lanes.specs.Selection.{kept_if_equal}
 use Rattle.price_rules.proofs.SelectedLaws.{AreEven}
 use Rattle.day_tables.specs.TableCurves.{curve_lanes}
