@@ -16,8 +16,8 @@ _PARTS = (("bid_member", TRADE, "bid"), ("ask_member", TRADE, "ask"), ("member",
 def without_codes(rows: Rows) -> tuple[Rows, str] | None:
     """The rows with members as orders have them for codes that only trades and fills have, and why;
     None where no code seems to be a member's other name. Such a code is of one member, or of those
-    alone that have no other, and in two rows at least, or there are more such codes; it is of more
-    orders than one, whose entry may be wrong.
+    alone that have no other, and at two sides of rows at least, or there are more such codes; it is
+    of more orders than one, whose entry may be wrong.
     """
     said = _said(rows)
     meant = _meant(said)
@@ -76,10 +76,12 @@ def _texts(rows: Rows, these: Ints, column: str) -> list[str]:
 
 
 def _meant(said: "pandas.DataFrame") -> "pandas.DataFrame":
-    """Members of orders with the code of their trades: in how many of these, and whether in all."""
+    """Members of orders with the code of their trades: of how many sides of these, and whether of
+    all.
+    """
     new = said[said["code"] != ""]
-    many = new.groupby(["owner", "code"])["place"].nunique().reset_index(name="many")
-    whole = said.groupby("owner")["place"].nunique()
+    many = new.groupby(["owner", "code"]).size().reset_index(name="many")
+    whole = said.groupby("owner").size()
     many["is_whole"] = many["many"] == many["owner"].map(whole)
     is_only = many.groupby("code")["owner"].transform("size") == 1
     good = many[is_only | many["is_whole"] & (many["many"] > 1)]
