@@ -10,7 +10,7 @@ from typing import Any
 
 import pytest
 from callauction.__main__ import main
-from callauction.verdict import Reading, Verdict, audit_events, shapes
+from callauction.verdict import Reading, Verdict, audit_events, audit_instruments, shapes
 from damage import ORDERS, places, timed_day
 from extracts import Extract, Rows
 from logs import FixLog
@@ -560,6 +560,49 @@ def test_a_missing_trade_is_certain_where_a_later_row_follows(tmp_path: Path) ->
         found = audit_events(path, reference=day.reference, tick_size="0.01", reading=reading)
         assert found.word == "unlawful"
     assert judged(Extract(rows, day.reference, day.range, day.lawful)).word == "unlawful"
+
+
+HELD = """new,B1,bid,20.02,500,08:10:00,,,,,
+new,B2,bid,20.01,300,08:11:00,,,,,
+new,S1,ask,20.00,600,08:12:00,,,,,
+new,S2,ask,20.01,200,08:13:00,,,,,
+uncross,,none,20.01,800,09:00:00,0,opening,3,,
+trade,,,20.01,500,09:00:00,,,,B1,S1
+trade,,,20.01,100,09:00:00,,,,B2,S1
+trade,,,20.01,200,09:00:00,,,,B2,S2
+""".splitlines()
+HEAD = "event,order,side,price,quantity,time,surplus,auction,trades,bid,ask"
+
+
+def words_by(by: str, lines: list[tuple[str, str]], folder: Path) -> dict[str, str]:
+    """The verdicts on a file of rows of instruments by their names."""
+    text = [f"{by},{HEAD}", *(f"{name},{line}" for name, line in lines)]
+    (folder / "day.csv").write_text("\n".join(text) + "\n")
+    terms = dict(reference="20", tick_size="0.01", auctions=["opening"])
+    found = audit_instruments(folder / "day.csv", by, **terms)
+    return dict(zip(found["instrument"], found["verdict"]))
+
+
+@pytest.mark.parametrize("has_times", [True, False])
+def test_the_end_of_a_file_of_days_cuts_the_last_day_alone(has_times: bool, tmp_path: Path) -> None:
+    """Times have no date: those of the next day fall behind those of the last auction."""
+    days = ("03-02", "03-03", "03-04")
+    own = HELD if has_times else [re.sub(r"0\d:\d\d:00", "", line) for line in HELD]
+    for lost in days:
+        lines = [(day, line) for day in days for line in own[: len(own) - (day == lost)]]
+        wanted = dict.fromkeys(days, "lawful")
+        wanted[lost] = "incomplete" if lost == days[-1] else "unlawful"
+        assert words_by("day", lines, tmp_path) == wanted
+
+
+def test_the_end_of_a_file_may_cut_each_instrument_of_its_last_day(tmp_path: Path) -> None:
+    """Between each other by their times, on both days."""
+    one, other = [[(it, line) for line in HELD] for it in ("A", "B")]
+    day = [each for pair in zip(one, other) for each in pair][:-2]
+    lines = [(f"{date},{name}", line) for date in ("03-02", "03-03") for name, line in day]
+    found = words_by("date,isin", lines, tmp_path)
+    assert found == {"03-02,A": "unlawful", "03-02,B": "unlawful",
+                     "03-03,A": "incomplete", "03-03,B": "incomplete"}  # fmt: skip
 
 
 def test_an_extra_trade_at_the_end_of_a_file_is_certain(tmp_path: Path) -> None:

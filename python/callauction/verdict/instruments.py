@@ -13,12 +13,14 @@ import pandas
 from callauction.course import Watch
 from callauction.prices import number_of
 from callauction.program import ProgramError
+from callauction.verdict import clocks
 from callauction.verdict.again import Gap, find_holes, gaps_of, remark_of
 from callauction.verdict.audits import before, judge_rows, rules_of, short_rows
-from callauction.verdict.cells import Codes, Ints, Source
+from callauction.verdict.cells import Codes, Ints, Mask, Source
 from callauction.verdict.columns import (
     KINDS, ColumnError, ExtractError, hint_of, refuse_unknown,
 )  # fmt: skip
+from callauction.verdict.ends import are_over
 from callauction.verdict.events import dropped_numbers, gaps_in, rows_of
 from callauction.verdict.findings import INCOMPLETE, STATUSES, Finding, Verdict
 from callauction.verdict.judged import PLURALS, Coverage, Rules
@@ -208,6 +210,14 @@ class Market:
         [numbers] = dropped_numbers(self.table, self.reading)
         return {",".join(name): numbers[codes == code] for code, name in enumerate(names)}
 
+    @functools.cached_property
+    def _are_over(self) -> Mask:
+        """Which instruments the file's end can't cut. Rows that are sorted may have any times."""
+        table, time = self.table, None
+        if "time" in table.names and not self.reading.sort:
+            time = clocks.nanoseconds(table.source.cells(table.names["time"]), table.dates)
+        return are_over(self.codes, len(self.names), time)
+
     @property
     def remarks(self) -> Mapping[str, int]:
         """What was met in the file, and how often."""
@@ -230,7 +240,7 @@ class Market:
         size = -(-len(order) // (PARTS * count))
         parts = [order[begin : begin + size] for begin in range(0, len(order), size)]
         _MARKETS.append(self)
-        _ = self._shared_gaps, self._dropped  # once for all processes
+        _ = self._shared_gaps, self._dropped, self._are_over  # once for all processes
         try:
             with multiprocessing.get_context("fork").Pool(count) as pool:
                 found = pool.imap(_part, parts)
@@ -273,6 +283,8 @@ class Market:
     def _judged(self, name: str, rows: Rows, rules: Rules) -> Verdict:
         rows.bad += short_rows(self.table, rows, self.reading)
         rows.bad += self._lost_rows(rows)
+        if rows.end is not None and self._are_over[self.names.index(name)]:
+            rows.end = None
         gaps = self._shared_gaps
         if gaps is None:
             own = self._dropped.get(name)
