@@ -12,13 +12,14 @@ HEADER = "event,order,side,price,quantity,surplus,auction,trades,bid,ask,time\n"
 
 
 def lines_of(
-    text: str, auctions: str, folder: Path, capsys: pytest.CaptureFixture[str], status: int = 4
-) -> list[str]:
+    text: str, auctions: str, folder: Path, capsys: pytest.CaptureFixture[str], status: int = 4,
+    *others: str,
+) -> list[str]:  # fmt: skip
     """What an audit of a day of HEADER's columns prints, on standard error last."""
     path = folder / "day.csv"
     path.write_text(HEADER + text)
     words = ["audit", str(path), "--reference", "10", "--tick-size", "0.01", "--quantity", "open"]
-    assert main([*words, "--auctions", auctions]) == status
+    assert main([*words, "--auctions", auctions, *others]) == status
     printed = capsys.readouterr()
     return [*printed.out.splitlines(), *printed.err.splitlines()]
 
@@ -42,6 +43,24 @@ PASSED_OVER = "".join([
     new("G", "bid", 7), uncross("closing", 19, 0, "none", 3), trade("closing", "E", "A", 12),
     trade("closing", "G", "A", 1), trade("closing", "G", "C", 6),
 ])  # fmt: skip
+
+
+@pytest.mark.parametrize("has_executed", [False, True])
+def test_an_auction_that_is_published_without_a_price(
+    has_executed: bool, tmp_path: Path, capsys: pytest.CaptureFixture[str]
+) -> None:
+    """The opening should execute 600 shares. Its engine executed none, and the next auction is that
+    of the book with them; or the price alone isn't published.
+    """
+    both = [trade("intraday", "B", "S", 600), trade("intraday", "B", "T", 300)]
+    left = [uncross("intraday", 900, 100, "bid", 2), *both]
+    if has_executed:
+        left = [uncross("intraday", 300, 100, "bid", 1), both[1]]
+    text = "".join([new("B", "bid", 1000), new("S", "ask", 600), "uncross,,,,0,0,opening,0,,,\n",
+                    new("T", "ask", 300), *left])  # fmt: skip
+    lines = lines_of(text, "opening,intraday", tmp_path, capsys, 4, "--unrestricted")
+    assert "findings 1" in lines, lines
+    assert lines[0].startswith("row 4, opening: price: recorded no price, lawful 10.00")
 
 
 def test_a_passed_over_order_that_trades_in_the_next_auction(

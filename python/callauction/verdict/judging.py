@@ -552,7 +552,8 @@ class Judge:
         self, moment: Moment, taken: Taken, result: Result
     ) -> Iterator[tuple[State, Sums]]:
         """The states after an uncross, the recorded one first: by the recorded fills and the
-        recorded price where there are any, and by the lawful ones; each with these fills.
+        recorded price where there are any, and by the lawful ones; each with these fills. Without a
+        recorded price none may be executed.
         """
         now, published = moment.path.state.reference, int(self.rows.price[moment.place])
         references = [now if result.price is None else result.price]
@@ -560,8 +561,8 @@ class Judge:
             references.insert(0, now if published == NO_PRICE else published)
         done = recorded_sums(self.rows, moment.traded, moment.filled)
         several = [result.fills]
-        if len(done.keys) and not done.agrees(result.fills):
-            several.insert(0, done)
+        if not done.agrees(result.fills) and (len(done.keys) or published == NO_PRICE):
+            several.insert(0 if len(done.keys) else 1, done)
         for fills in several:
             for reference in dict.fromkeys(references):
                 is_priced = published >= 0 or result.price is not None
