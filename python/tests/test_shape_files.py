@@ -75,6 +75,29 @@ def test_a_fault_in_a_log_of_fix_is_found(seed: int, tmp_path: Path) -> None:
     assert verdict.word == "unlawful" and any("9.31" in it for it in said)
 
 
+def test_a_result_with_the_name_of_another_auction_is_one_finding(tmp_path: Path) -> None:
+    """No other row says the auction that the result is of but its trades."""
+    count = 0
+    for seed in SEEDS:
+        extract = timed_day(seed, 20)
+        if not all(outcome.tick and not outcome.is_interrupted for outcome in extract.lawful):
+            continue
+        log = FixLog(extract, seed)
+        results = [at for at, it in enumerate(log.messages) if (268, "3") in it]
+        for place, at in enumerate(results):
+            own, other = (log.messages[it] for it in (at, results[place - 1]))
+            log.messages[at] = [(tag, dict(other)[625]) if tag == 625 else (tag, it)
+                                for tag, it in own]  # fmt: skip
+            verdict = read_as("fix", log.tagged(), extract, tmp_path / "day.log")
+            log.messages[at] = own
+            both = [*verdict.findings, *verdict.doubtful]
+            found = [(it.item, it.recorded, it.lawful) for it in both]
+            names = ("opening", "intraday", "closing")
+            assert found == [("auction", names[place - 1], names[place])], f"{seed}\n{verdict}"
+            count += len(verdict.findings)
+    assert count > 5
+
+
 def lawful_log(has_results: bool = True) -> FixLog:
     return FixLog(base_day(), 1, has_results)
 

@@ -5,7 +5,7 @@ import numpy
 
 from callauction.verdict.cells import Codes, Ints, paired_codes
 from callauction.verdict.rows import (
-    BAD, BUST, FILL, MISSING, SIDES, STOPPED, TAKEN, TRADE, UNCROSS, Doubt, Rows,
+    BAD, BUST, FILL, MISSING, OF_ORDERS, SIDES, STOPPED, TAKEN, TRADE, UNCROSS, Doubt, Rows,
 )  # fmt: skip
 
 ONE_SIDED = "trades without the row of their other side, read as fills of their orders"
@@ -125,7 +125,8 @@ def _mark(rows: Rows, place: int) -> tuple[int, ...]:
 
 def with_results(rows: Rows) -> Rows:
     """The rows of an instrument with a row `uncross` above the first trade of each auction that
-    trades name and no such row does; its price is theirs, and nothing else of it is known.
+    trades name and no such row does; its price is theirs, and nothing else of it is known. None is
+    made where the one above has a name that another has too, which is wrong then.
     """
     uncrosses = rows.of(UNCROSS)
     held = {*rows.state[uncrosses].tolist()} - {STOPPED}
@@ -137,6 +138,7 @@ def with_results(rows: Rows) -> Rows:
     for place in made.tolist():
         if int(rows.state[place]) not in held:
             firsts.setdefault(int(rows.state[place]), place)
+    firsts = {name: place for name, place in firsts.items() if not _is_misnamed(rows, place)}
     if not firsts:
         return rows
     at = numpy.array(sorted(firsts.values()), "i8")
@@ -146,6 +148,19 @@ def with_results(rows: Rows) -> Rows:
         _make_result(found, place)
     found.notes[MADE] += len(at)
     return found
+
+
+def _is_misnamed(rows: Rows, first: int) -> bool:
+    """Whether the result of an auction, whose first trade this is, seems to have another's name:
+    one is directly above it, without trades of its name, and another result has that name.
+    """
+    uncrosses, above = rows.of(UNCROSS), rows.kind[:first]
+    own = int(uncrosses[uncrosses < first].max(initial=-1))
+    if own < 0 or not 0 < rows.state[own] != STOPPED or numpy.isin(above[own:], OF_ORDERS).any():
+        return False
+    made = numpy.isin(above[own:], (TRADE, FILL)) & (rows.state[own:first] == rows.state[own])
+    is_again = numpy.count_nonzero(rows.state[uncrosses] == rows.state[own]) > 1
+    return bool(is_again and not made.any())
 
 
 def _moved(at: Ints, place: int) -> int:
