@@ -578,7 +578,7 @@ def words_by(by: str, lines: list[tuple[str, str]], folder: Path) -> dict[str, s
     """The verdicts on a file of rows of instruments by their names."""
     text = [f"{by},{HEAD}", *(f"{name},{line}" for name, line in lines)]
     (folder / "day.csv").write_text("\n".join(text) + "\n")
-    terms = dict(reference="20", tick_size="0.01", auctions=["opening"])
+    terms: dict[str, Any] = dict(reference="20", tick_size="0.01", auctions=["opening"])
     found = audit_instruments(folder / "day.csv", by, **terms)
     return dict(zip(found["instrument"], found["verdict"]))
 

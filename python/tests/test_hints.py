@@ -14,6 +14,7 @@ from damage import DAMAGES, places, timed_day
 from shapes import Written, total_quantities
 from test_desk import UNCROSS, audited, base_day, text_of
 from test_holes import rows_of
+from test_meeting_damages import rows_of as timed_rows
 from test_verdict import frame_of, judged
 
 Printed = pytest.CaptureFixture[str]
@@ -47,6 +48,30 @@ def test_total_quantities_that_are_not_said_condemn_no_day() -> None:
         assert verdict.word == word and not verdict.doubtful, str(verdict)
     wrong = frame_of(rows_of(TOTALS.replace("10.00 200 100", "10.00 250 100")))
     assert audit_events(wrong, **terms).word == "unlawful"  # type: ignore[arg-type]
+
+
+def test_a_day_that_no_quantity_makes_lawful_has_the_values_of_open_ones() -> None:
+    """T should trade at 10.00 with C and A, of which 100 are open, or 40 if 100 are all of it: 80
+    shares, with 50 bid left, or 70, with 10 asked.
+    """
+    frame = frame_of(timed_rows("""
+        new 08:50:01 A bid 100 10.00
+        new 08:50:02 S ask 60 10.00
+        uncross 09:00 10.00 60 40 bid
+        trade 09:00 A S 60 10.00
+        replace 16:00:01 A bid 100 10.00
+        new 16:00:02 C bid 30 10.02
+        new 16:00:03 T ask 80 10.00
+        new 16:00:04 V ask 50 10.02
+        uncross 17:00 10.02 30 100 ask
+        trade 17:00 C T 30 10.02
+    """))
+    reading = Reading(unrestricted=True)
+    verdict = audit_events(frame, reference="10", tick_size="0.01", auctions=HELD, reading=reading)
+    [found] = verdict.findings
+    assert (found.item, found.auction, found.lawful) == ("price", "closing", "10.00")
+    assert found.effect.endswith("and 10.00 executes 80 with 50 bid left."), found.effect
+    assert "volume: recorded 30, lawful 80" in found.moved
 
 
 def test_days_of_total_quantities_are_never_unlawful() -> None:
