@@ -2,13 +2,14 @@
 an order that is executed with more than that may have hidden ones.
 """
 import collections
+from typing import Any
 
 import pytest
-from callauction.verdict import Verdict
+from callauction.verdict import Verdict, audit_instruments
 from damage import places, timed_day
 from extracts import Extract
 from test_doubts import DAYS, SEEDS
-from test_verdict import judged
+from test_verdict import frame_of, judged
 
 
 def visible(seed: int) -> Extract | None:
@@ -75,13 +76,24 @@ def test_an_order_that_is_executed_with_more_may_have_hidden_shares() -> None:
     assert judged(day(price="9.99")).word == "unlawful"
 
 
-def test_a_column_of_peaks_says_that_quantities_are_whole() -> None:
+def test_a_peak_below_the_quantity_says_that_quantities_are_whole() -> None:
     extract = day()
-    extract.rows[0]["peak"] = "10"
+    extract.rows[2]["peak"] = "20"
     verdict = judged(extract)
     assert verdict.word == "unlawful" and "hidden" not in str(verdict)
     told = " ".join(line for it in verdict.findings for line in verdict.explain(it))
     assert "A has 10 open, and no 30." in told
+
+
+def test_peaks_that_are_all_shares_may_say_the_visible_ones() -> None:
+    """Another instrument of the file has whole quantities."""
+    one, other = day(), day()
+    one.rows[0]["peak"], other.rows[2]["peak"] = "10", "20"
+    assert judged(one).word == "incomplete" and "a column peak" not in why(judged(one))
+    both = [dict(row, isin=isin) for isin, it in (("A", one), ("B", other)) for row in it.rows]
+    terms: dict[str, Any] = dict(reference="10", tick_size="0.01")
+    found = audit_instruments(frame_of(both), "isin", **terms)
+    assert found["verdict"].tolist() == ["incomplete", "unlawful"]
 
 
 @pytest.mark.parametrize("word", ["", "-", "NULL"])

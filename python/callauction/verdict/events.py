@@ -63,9 +63,10 @@ def rows_of(
     pairs = columns.source.cells(reading.pair).codes()[0] if reading.pair else None
     join_sides(rows, pairs, lead)
     _look_at_results(rows, columns)
+    rows.is_iceberg = numpy.zeros(len(kind), bool)
     if "peak" in columns.names:
         peak = columns.wholes("peak")
-        rows.has_peaks = bool((peak != MISSING).any())
+        rows.is_iceberg = (peak > 0) & (peak < rows.quantity) & (rows.kind == NEW)
         odd = (peak <= 0) | (peak > rows.quantity) | (rows.price == MARKET)
         rows.notes[PEAKS] += int((odd & (peak != MISSING) & (rows.kind == NEW)).sum())
     unread = numpy.array([it.place for it in rows.bad], "i8")

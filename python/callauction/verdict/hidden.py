@@ -10,7 +10,8 @@ from callauction.verdict.judging import Judge
 from callauction.verdict.phases import recorded_sums
 from callauction.verdict.rows import CANCEL, MARKET, MISSING, NEW, OWN, REPLACE, Rows
 
-MORE = "row {} has {:,} shares, and {:,} are executed: are hidden ones missing? (or a column peak)"
+MORE = "row {} has {:,} shares, and {:,} are executed: are hidden ones missing?{}"
+COLUMN = " (or a column peak)"
 
 
 def lacking(found: Judgement, rows: Rows) -> tuple[Rows, str] | None:
@@ -28,8 +29,8 @@ def lacking(found: Judgement, rows: Rows) -> tuple[Rows, str] | None:
             place = _row_of(rows, key, judged.place) if shares > book.get(key, 0) else -1
             if place >= 0 and rows.only[entered[key]] in (MISSING, OWN[judged.auction]):
                 more[place] += shares - book.get(key, 0)
-                own = int(rows.quantity[place])
-                why = why or MORE.format(rows.labels[place], own, own + int(more[place]))
+                own, hint = int(rows.quantity[place]), COLUMN * ("peak" not in rows.names.theirs)
+                why = why or MORE.format(rows.labels[place], own, own + int(more[place]), hint)
     return (dataclasses.replace(rows, quantity=rows.quantity + more), why) if why else None
 
 

@@ -227,6 +227,8 @@ class Rows:
     """The number of each row in a sequence, below 0 for none."""
     is_half: Mask = dataclasses.field(default_factory=lambda: numpy.zeros(0, bool))
     """Which rows are one side of a trade whose other side has no row, as those of others have."""
+    is_iceberg: Mask = dataclasses.field(default_factory=lambda: numpy.zeros(0, bool))
+    """Which rows enter orders with more shares than their peaks."""
     spots: Ints = dataclasses.field(default_factory=lambda: numpy.zeros(0, "i8"))
     """Where each row is in the table, before any sorting."""
     is_ordered: bool = False
@@ -251,12 +253,17 @@ class Rows:
     """The ids of orders in trades and fills that don't meet the conditions."""
     is_unsaid: bool = False
     """Whether nothing says which orders are for one auction alone."""
-    has_peaks: bool = False
-    """Whether a column says which orders have hidden shares."""
     makes_results: bool = False
     """Whether auctions that trades name alone have their price."""
     end: End | None = None
     """The end of the file, where it is one, without a time where rows are sorted."""
+
+    @property
+    def has_peaks(self) -> bool:
+        """Whether a column says which orders have hidden shares; peaks that are all of an order's
+        shares don't, as these may be the visible ones.
+        """
+        return bool(self.is_iceberg.any())
 
     @property
     def is_sorted(self) -> bool:
