@@ -73,6 +73,30 @@ def of_both_sides(rows: Rows) -> Rows:
     return found
 
 
+@pytest.mark.parametrize("is_shared", [False, True])
+def test_a_side_of_a_trade_that_was_sent_again_is_read_once(is_shared: bool) -> None:
+    """Sides have numbers of their own in the sequence, or both of a trade have one."""
+    count = 0
+    for seed in SEEDS[:6]:
+        extract = timed_day(seed)
+        extract.rows[:] = of_both_sides(extract.rows)
+        rows = extract.rows
+        for number, row in enumerate(rows):
+            row["sequence"] = str(number)
+        those = places(rows, TRADE)
+        for bid, ask in zip(those[::2], those[1::2]) if is_shared else ():
+            rows[ask]["sequence"] = rows[bid]["sequence"]
+        if len(those) < 4:
+            continue
+        once = judged(extract, reading=Reading(pair="match"))
+        at = random.Random(seed).choice(those)
+        rows.insert(at + 1, dict(rows[at]))
+        verdict = judged(extract, reading=Reading(pair="match"))
+        assert verdict.coverage == once.coverage and verdict.word == once.word, f"{seed}\n{verdict}"
+        count += once.word == "lawful"
+    assert count > 1
+
+
 def test_a_lawful_day_that_lacks_one_side_of_a_trade_is_never_unlawful() -> None:
     in_doubt = 0
     for seed in SEEDS:

@@ -58,6 +58,19 @@ def drop_sent_again(rows: Rows, columns: Columns, sequence: Ints | None, lead: C
         _refuse_both(rows, columns, int(left[marks[left] == marks[place]][0]), int(place))
 
 
+def drop_sides_again(rows: Rows, columns: Columns, sequence: Ints, lead: Codes) -> None:
+    """Leaves out rows of trades that were sent again, with all cells, the sequence and the time,
+    before those of both sides are joined.
+    """
+    made = rows.of(TRADE)
+    these = made[sequence[made] >= 0]
+    if len(these) < 2:
+        return
+    marks = paired_codes(paired_codes(lead, numbered(rows.time))[these], sequence[these] + 1)
+    own = paired_codes(marks, columns.content(these))
+    _drop(rows, these[pandas.Series(own).duplicated().to_numpy()])
+
+
 def _drop_results(rows: Rows, columns: Columns, lead: Codes) -> None:
     """Leaves out later results that say what the one before of their auction says, with its name
     and its time: all but the sequence is the same.

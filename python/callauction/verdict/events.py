@@ -12,7 +12,9 @@ import numpy
 import pandas
 
 from callauction.verdict import clocks, times
-from callauction.verdict.again import Gap, drop_sent_again, find_holes, gaps_of, remark_of
+from callauction.verdict.again import (
+    Gap, drop_sent_again, drop_sides_again, find_holes, gaps_of, remark_of,
+)  # fmt: skip
 from callauction.verdict.cells import Cells, Codes, Ints, Mask, numbered, paired_codes
 from callauction.verdict.columns import EVENTS, KINDS, ExtractError
 from callauction.verdict.joining import join_sides, take_busted
@@ -61,6 +63,8 @@ def rows_of(
             rows.next_day = f"the time of row {first} has no date: is it the next day's?"
     _look_at_orders(rows, columns, is_market)
     pairs = columns.source.cells(reading.pair).codes()[0] if reading.pair else None
+    if pairs is not None and sequence is not None:
+        drop_sides_again(rows, columns, sequence, lead)
     join_sides(rows, pairs, lead)
     _look_at_results(rows, columns)
     rows.is_iceberg = numpy.zeros(len(kind), bool)
