@@ -17,6 +17,7 @@ from callauction.verdict.again import (
 )  # fmt: skip
 from callauction.verdict.cells import Cells, Codes, Ints, Mask, numbered, paired_codes
 from callauction.verdict.columns import EVENTS, KINDS, ExtractError
+from callauction.verdict.given import look_for_given
 from callauction.verdict.joining import join_sides, take_busted
 from callauction.verdict.mixed import LONGEST
 from callauction.verdict.names import below_their_entries, make_keys
@@ -84,6 +85,8 @@ def rows_of(
         rows.notes.update(remark_of(gaps))
     rows = below_their_entries(rows)
     make_keys(rows, ids_unread)
+    if "new_order" not in columns.names:
+        look_for_given(rows)
     take_busted(rows)
     if rows.is_odd.any():
         cell = rows.names.time(int(rows.is_odd.argmax()))

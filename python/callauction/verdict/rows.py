@@ -255,6 +255,8 @@ class Rows:
     """Whether nothing says which orders are for one auction alone."""
     makes_results: bool = False
     """Whether auctions that trades name alone have their price."""
+    given: str = ""
+    """Which column that isn't read has the id of a trade's order that no row enters."""
     end: End | None = None
     """The end of the file, where it is one, without a time where rows are sorted."""
 
