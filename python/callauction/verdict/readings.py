@@ -446,8 +446,10 @@ def _by_table(rows: Rows, found: Judgement) -> tuple[Callable[[Rows], Rows], str
 
 
 def standing(first: Judgement, day: Day, changes: Sequence[Change]) -> Judgement:
-    """The first judgement, with what one of these readings, which leave each row in its place,
-    hasn't in doubt: that which leaves fewest differences certain. Raises ProgramError.
+    """The judgement of the day in one of these readings, which leave each row in its place, with
+    what the first judgement shows too; all else of both is in doubt. The first one where no reading
+    has fewer certain differences, and its own values where quantities are totals. Raises
+    ProgramError.
     """
     late, best = _placed(day[0], first), first
     those: list[Change] = [*changes]
@@ -469,15 +471,32 @@ def _certain(judgement: Judgement) -> int:
 
 
 def _merged(first: Judgement, other: Judgement, rows: Rows, why: str) -> Judgement:
-    """The first judgement with what stands in the other; without uncrosses where theirs differ."""
+    """Both judgements in one, as standing has it; without uncrosses where theirs differ."""
     if [it.place for it in first.uncrosses] != [it.place for it in other.uncrosses]:
         return dataclasses.replace(other, uncrosses=())
     both = zip(first.uncrosses, other.uncrosses)
-    found = tuple(_both(one, each, rows, why) for one, each in both)
+    merged = _of_first if why == TOTALS else _both
+    found = tuple(merged(one, each, rows, why) for one, each in both)
     return dataclasses.replace(first, uncrosses=found)
 
 
 def _both(one: Judged, other: Judged, rows: Rows, why: str) -> Judged:
+    """An uncross in another reading, whose differences are certain where the first one has them, or
+    has the same orders' shares too many or too few; with those of the first in doubt.
+    """
+    signs, mark = _signs(one, rows), functools.partial(marked, rows=rows)
+    own = {*map(mark, one.certain)}
+    same = {key for key, sign in _signs(other, rows).items() if signs.get(key) == sign}
+    kept = [
+        it if mark(it) in own or _is_made(it) and same & {*it.keys} else doubted([it], why)[0]
+        for it in other.differences
+    ]
+    shown = {*map(mark, kept)}
+    rest = [it for it in doubted(one.differences, why) if mark(it) not in shown]
+    return dataclasses.replace(other, differences=(*kept, *rest))
+
+
+def _of_first(one: Judged, other: Judged, rows: Rows, why: str) -> Judged:
     """An uncross of the first reading, whose differences are certain where those of the other one
     are, or it has the same orders' shares too many or too few.
     """
