@@ -59,21 +59,42 @@ def test_a_lesson_by_the_keyboard(tmp_path: pathlib.Path) -> None:
             assert page.errors() == []
 
 
+TWO = FAST + """
+[[instrument]]
+name = "XYZ"
+[[instrument]]
+name = "NICKEL"
+"""
+HELD = """
+const held = { key: "n", repeat: true, bubbles: true };
+document.activeElement.dispatchEvent(new KeyboardEvent("keydown", held));
+"""
+"""What a browser says again and again of a key that is held."""
+
+
 def names_on(beamer: Page) -> set[str]:
     """The names of members that the screen shows."""
     return {name for name in ("Anna", "Bert") if name in beamer.find("body").text}
 
 
+def picks(beamer: Page, choice: str, words: str) -> None:
+    """Chooses from a list by the mouse."""
+    beamer.presses(f"#{choice}", 0.1)
+    options = beamer.find(f"#{choice}").find_elements("tag name", "option")
+    next(it for it in options if it.text == words).click()
+
+
 def test_the_screen_hides_names_by_a_key(tmp_path: pathlib.Path) -> None:
-    """Also where its page comes again; a letter that a choice takes hides none. What was gained is
-    shown still.
+    """Also where its page comes again, and where the key is held; a letter that a choice takes hides
+    none, but one that was made by the mouse takes none. What was gained is shown still, under its
+    head, and that names are hidden.
     """
     with contextlib.ExitStack() as stack:
-        venue = stack.enter_context(served.served(tmp_path, FAST))
+        venue = stack.enter_context(served.served(tmp_path, TWO))
         anna, bert = venue.join("Anna"), venue.join("Bert")
-        venue.do("give", values=[it | {"quantity": 20} for it in VALUES])
-        trade(venue, anna, bert, "2.00")
-        trade(venue, anna, bert, "2.10")
+        venue.do("give", values=[it | {"quantity": 20} for it in VALUES], instrument="XYZ")
+        trade(venue, anna, bert, "2.00", "XYZ")
+        trade(venue, anna, bert, "2.10", "XYZ")
         beamer = stack.enter_context(
             opened(tmp_path / "beamer", f"{venue.url}beamer#{venue.beamer}", SCREEN))
         gains = [["1", "Bert", "11.00"], ["2", "Anna", "9.00"]]
@@ -81,18 +102,23 @@ def test_the_screen_hides_names_by_a_key(tmp_path: pathlib.Path) -> None:
         beamer.waits(lambda it: it.rows("trades") == [["Anna", "Bert", "10"]])
         beamer.runs("document.querySelector('#which').focus()")
         beamer.hits("n")
-        assert names_on(beamer) == {"Anna", "Bert"}
-        beamer.runs("document.activeElement.blur()")
+        assert names_on(beamer) == {"Anna", "Bert"} and not beamer.shows("nameless")
+        picks(beamer, "which", "Opening auction")
+        picks(beamer, "which", "Intraday auction")
         for keys in ("n", "nn"):
             beamer.hits(*keys)
             beamer.waits(lambda it: not names_on(it))
+            assert beamer.runs(HELD) is None and not names_on(beamer)
             assert beamer.rows("ranking") == [[rank, "", gain] for rank, _, gain in gains]
+            assert beamer.text("ranking-head") == "Who gained most"
+            assert beamer.text("nameless") == "Names hidden (n)"
             beamer.picture("names-hidden")
             beamer.driver.refresh()
             beamer.waits(lambda it: len(it.rows("ranking")) == 2 and it.shows("placing"))
-            assert not names_on(beamer)
+            assert not names_on(beamer) and beamer.text("nameless")
         beamer.hits("N")
         beamer.waits(lambda it: names_on(it) == {"Anna", "Bert"} and it.rows("ranking") == gains)
+        assert not beamer.shows("nameless")
         beamer.picture("names-shown")
         assert beamer.errors() == []
 

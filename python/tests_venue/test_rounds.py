@@ -35,14 +35,17 @@ def value_of(venue: Served, token: str) -> Any:
     return venue.call("api/look/fills", token=token)[1]["value"]
 
 
-def trade(venue: Served, buyer: str, seller: str, price: str = "2.00") -> None:
+def trade(
+    venue: Served, buyer: str, seller: str, price: str = "2.00", instrument: str | None = None
+) -> None:
     """An auction in which one member buys 10 shares of another."""
-    venue.do("start")
+    named = {"instrument": instrument} if instrument else {}
+    venue.do("start", **named)
     with Client(venue.url, buyer) as me, Client(venue.url, seller) as other:
-        me.enter("bid", 10, price)
-        other.enter("ask", 10, price)
-        venue.do("uncross")
-        until(lambda: bool(me.look("fills")["fills"]))
+        me.enter("bid", 10, price, instrument=instrument)
+        other.enter("ask", 10, price, instrument=instrument)
+        venue.do("uncross", **named)
+        until(lambda: bool(me.look("fills", instrument)["fills"]))
 
 
 VALUES = [{"member": "Anna", "side": "bid", "price": "2.50", "quantity": 10},

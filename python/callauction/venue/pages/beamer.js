@@ -34,7 +34,7 @@ function draw() {
   hide(find("lost"), lostAt === null || !isOpen);
   if (lostAt !== null) put(find("lost"), text("away", lostAt.toLocaleTimeString(spoken())));
   document.body.classList.toggle("stale", lostAt !== null);
-  document.body.classList.toggle("nameless", hidesNames);
+  hide(find("nameless"), !hidesNames);
   const state = said.state[chosen];
   hide(find("choosing"), terms.length < 2);
   if (!state) return;
@@ -133,8 +133,7 @@ function fit(draw) {
 
 const showsRanking = () => screen.payoffs === "ranking" && ranking.length > 0;
 
-// Who gained most of all rounds, where the teacher shows that, else of this one: how many rows. Where
-// names are hidden only what was gained.
+// Who gained most of all rounds, where the teacher shows that, else of this one: how many rows.
 function drawGains(most) {
   const isRanking = showsRanking();
   const rows = (isRanking ? ranking : said.efficiency[chosen]?.gains ?? []).slice(0, most);
@@ -143,7 +142,7 @@ function drawGains(most) {
     put(node, text(isRanking ? "ranking" : "who_gained"));
   }
   fill(find("ranking"), rows, (it) => it.name, (it) => [{ number: String(it.rank) },
-    { text: it.name, classes: "name" }, { number: price(it.gain) }]);
+    { text: hidesNames ? "" : it.name, classes: "name" }, { number: price(it.gain) }]);
   return rows.length;
 }
 
@@ -160,11 +159,12 @@ function efficiencyText() {
   return text("efficiency_short", shares(found.percent), price(found.gain), money(found.most, term()));
 }
 
-// The first trades of an auction: it has `count` of them, and those before it `before`.
+// The first trades of an auction, none where names are hidden: it has `count` of them, and those before
+// it `before`.
 function drawTrades(before, count, most) {
-  const rows = (said.trades[chosen]?.trades ?? [])
+  const rows = (hidesNames ? [] : said.trades[chosen]?.trades ?? [])
     .filter((it) => it.trade > before && it.trade <= before + count).slice(0, most);
-  hide(find("trading"), !rows.length || hidesNames);
+  hide(find("trading"), !rows.length);
   put(find("more-trades"), count > rows.length ? text("more_trades", shares(count - rows.length)) : "");
   fill(find("trades"), rows, (it) => it.trade, (it) => [{ text: it.buyer ?? "", classes: "name" },
     { text: it.seller ?? "", classes: "name" }, { number: shares(it.quantity) }]);
@@ -255,9 +255,17 @@ find("which").addEventListener("change", () => {
   replay.stop();
   draw();
 });
-// The key n hides names, and shows them again; a list of choices takes letters for itself.
-document.addEventListener("keydown", ({ key, target, ctrlKey, altKey, metaKey }) => {
-  if (key.toLowerCase() !== "n" || ctrlKey || altKey || metaKey || target.matches("select")) return;
+// A list of choices takes letters for itself while it has the focus: once something was chosen by the
+// mouse, it hasn't.
+for (const list of [find("instrument"), find("which")]) {
+  let isPointed = false;
+  list.addEventListener("pointerdown", () => { isPointed = true; });
+  list.addEventListener("keydown", () => { isPointed = false; });
+  list.addEventListener("change", () => { if (isPointed) list.blur(); });
+}
+// The key n hides names, and shows them again; held, it does so once.
+document.addEventListener("keydown", ({ key, target, repeat, ctrlKey, altKey, metaKey }) => {
+  if (key.toLowerCase() !== "n" || repeat || ctrlKey || altKey || metaKey || target.matches("select")) return;
   hidesNames = !hidesNames;
   sessionStorage.setItem(NAMES, hidesNames ? "hidden" : "shown");
   draw();

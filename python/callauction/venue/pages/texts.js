@@ -4,6 +4,7 @@ export const TEXTS = {
     language: "Deutsch", join: "Join", code: "Code", name: "Name", cancel: "Cancel",
     join_help: "The code is on the screen in front. Were you here before under your name? "
       + "Then ask the teacher for a new code of your own, and enter it as the code.",
+    names_hidden: "Names hidden (n)",
     away: "No connection since {0}. What you see is from then; it goes on by itself.",
     away_join: "The venue can't be reached. Is this telephone in the right network?",
     instrument: "Instrument", seconds: "seconds", shares: "shares",
@@ -207,6 +208,7 @@ export const TEXTS = {
     language: "English", join: "Beitreten", code: "Code", name: "Name", cancel: "Abbrechen",
     join_help: "Der Code steht vorn auf der Leinwand. Waren Sie unter Ihrem Namen schon hier? "
       + "Dann bitten Sie die Lehrkraft um einen eigenen neuen Code und geben ihn als Code ein.",
+    names_hidden: "Namen verborgen (n)",
     away: "Keine Verbindung seit {0}. Was Sie sehen, ist von da; es geht von selbst weiter.",
     away_join: "Der Handelsplatz ist nicht erreichbar. Ist dieses Telefon im richtigen Netz?",
     instrument: "Wertpapier", seconds: "Sekunden", shares: "Stück",
