@@ -220,7 +220,8 @@ def test_gains_that_are_none(venue: Served) -> None:
     assert [it["values"]["XYZ"]["gain"] for it in heard["members"]["members"]] == gains
     found = [heard["efficiency"][name] for name in ("gain", "most", "percent", "gains")]
     assert found == ["-100.00", "100.00", -100, []]
-    assert heard["efficiency"]["predicted"] == {"low": "4.00", "high": "5.00", "volume": 100}
+    assert heard["efficiency"]["predicted"] == {
+        "low": "4.00", "high": "5.00", "volume": 100, "most_volume": 100}
 
 
 def test_who_gained_as_much_has_the_same_rank(venue: Served) -> None:

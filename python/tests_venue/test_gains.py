@@ -195,7 +195,7 @@ def test_efficiency_where_each_has_five_shares_to_sell() -> None:
     anna, bert, carl = Value("bid", 300, 10), Value("ask", 100, 10), Value("bid", 400, 2)
     accounts.give({"Anna": anna, "Bert": bert, "Carl": carl}, True, 0)
     assert accounts.most == 2 * (400 - 100) + 3 * (300 - 100) == 1200
-    assert accounts.predicted == Predicted(300, 300, 5)
+    assert accounts.predicted == Predicted(300, 300, 5, 5)
     accounts.fills = {"Anna": [Fill(1, 1, "bid", 5, 200)], "Bert": [Fill(1, 2, "ask", 5, 200)]}
     assert accounts.gain == 5 * (300 - 200) + 5 * (200 - 100) == 1000
     accounts.fills["Anna"].append(Fill(2, 3, "bid", 1, 200))
@@ -216,7 +216,7 @@ def test_the_value_of_who_left_counts_as_far_as_it_was_used() -> None:
     assert accounts.most == 5 * 7
     accounts.leave("Robot")
     assert accounts.most == 2 * 7
-    assert accounts.predicted == Predicted(2, 2, 2)
+    assert accounts.predicted == Predicted(2, 2, 2, 2)
     accounts.fills = {}
     assert accounts.predicted is None
     accounts.fills = fills
@@ -251,6 +251,19 @@ def test_the_predicted_prices_are_those_at_which_most_gain(values: list[Value]) 
         tick for tick in ticks if found.low <= tick <= found.high
     }
     assert clears(found.low) and clears(found.high)
+    assert found.most == max(
+        min(shares(side, tick, False) for side in ("bid", "ask"))
+        for tick in range(found.low, found.high + 1)
+    )
+
+
+def test_who_gains_nothing_may_trade_or_not() -> None:
+    """Values of 30 to 21 and costs of 18 to 27, of 50 shares each, meet at 24: six of each gain
+    there, and the seventh of each has 24 itself.
+    """
+    bids = [Value("bid", tick, 50) for tick in range(21, 31)]
+    asks = [Value("ask", tick, 50) for tick in range(18, 28)]
+    assert predicted([*bids, *asks]) == Predicted(24, 24, 6 * 50, 7 * 50)
 
 
 def test_a_hand_out_to_all_keeps_what_was_gained() -> None:

@@ -420,3 +420,23 @@ def test_a_journal_that_is_put_back(lesson: dict[str, Any]) -> None:
         page.waits(lambda it: "Halted" not in it.text("phase"))
         assert "No order" not in page.text("next")
     teacher.waits(lambda it: not it.shows("halts"))
+
+
+def test_the_screen_says_how_many_shares_the_values_predict(tmp_path: pathlib.Path) -> None:
+    """Values of 3.00 and 2.00, costs of 1.00 and 2.00, of 10 shares each, meet at 2.00: there 10
+    gain, and 20 can be traded.
+    """
+    with served.served(tmp_path, FAST) as venue:
+        tokens = [venue.join(name) for name in ("Anna", "Bert", "Carl", "Dora")]
+        venue.do("give", how="schedule", demand=["3.00", "2.00"], supply=["1.00", "2.00"],
+                 quantity=10)
+        page = opened(tmp_path / "beamer", f"{venue.url}beamer#{venue.beamer}", SCREEN)
+        with page as beamer, Client(venue.url, tokens[0]) as anna:
+            venue.do("start")
+            with Client(venue.url, tokens[1]) as bert:
+                anna.enter("bid", 10, "2.00")
+                bert.enter("ask", 10, "2.00")
+                venue.do("uncross")
+            beamer.waits(
+                lambda it: it.text("predicted") == "By the values: price 2.00, volume 10 to 20")
+            assert beamer.errors() == []

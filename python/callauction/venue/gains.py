@@ -75,12 +75,14 @@ def most_gain(values: Sequence[Value]) -> int:
 @dataclasses.dataclass(frozen=True)
 class Predicted:
     """Where demand and supply of values meet: any price from `low` to `high`, in ticks, at which
-    `volume` shares are traded.
+    `volume` shares are traded, which all gain, or up to `most` where those are too of whom both
+    gain nothing.
     """
 
     low: int
     high: int
     volume: int
+    most: int
 
 
 def predicted(values: Sequence[Value]) -> Predicted | None:
@@ -92,7 +94,9 @@ def predicted(values: Sequence[Value]) -> Predicted | None:
     bids, asks = (steps_of(values, side) for side in ("bid", "ask"))
     low = max(tick_at(asks, volume), tick_at(bids, volume + 1, 0))
     high = min(tick_at(bids, volume), tick_at(asks, volume + 1, ticks[-1]))
-    return Predicted(low, high, volume)
+    bought = max(total for tick, total in bids if tick >= high)
+    sold = max(total for tick, total in asks if tick <= low)
+    return Predicted(low, high, volume, min(bought, sold))
 
 
 def steps_of(values: Sequence[Value], side: str) -> list[tuple[int, int]]:

@@ -227,12 +227,14 @@ def gains_of(instrument: Instrument, title_of: Callable[[str], str]) -> list[Jso
 
 
 def predicted_of(instrument: Instrument) -> Json | None:
-    """The prices and the volume that the values predict, None where they predict no trade."""
+    """The prices and the volume that the values predict, the most of it too, None where they predict
+    no trade.
+    """
     found = instrument.accounts.predicted
     if found is None:
         return None
     low, high = (price_of(instrument, it) for it in (found.low, found.high))
-    return {"low": low, "high": high, "volume": found.volume}
+    return {"low": low, "high": high, "volume": found.volume, "most_volume": found.most}
 
 
 def halt_of(instrument: Instrument, why: str) -> Json:

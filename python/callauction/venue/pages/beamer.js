@@ -149,8 +149,9 @@ function drawGains(most) {
 function predictedText() {
   const found = said.efficiency[chosen]?.predicted;
   if (!found) return "";
-  const ends = found.low === found.high ? price(found.low) : text("from_to", price(found.low), price(found.high));
-  return text("predicted", ends, shares(found.volume));
+  const span = (low, high) => (low === high ? low : text("from_to", low, high));
+  const volume = span(shares(found.volume), shares(found.most_volume));
+  return text("predicted", span(price(found.low), price(found.high)), volume);
 }
 
 function efficiencyText() {
