@@ -6,6 +6,8 @@ import pytest
 import served
 from browsing import SCREEN, Page, joined, opened
 from callauction.venue import Client, VenueError
+from served import Served
+from test_robots import until
 from test_rounds import sees
 
 DAY = """
@@ -74,6 +76,35 @@ def test_a_halt_of_one_of_two_instruments(tmp_path: pathlib.Path) -> None:
 def test_a_resume_where_nothing_has_halted(tmp_path: pathlib.Path) -> None:
     with served.served(tmp_path, DAY) as venue:
         assert venue.do("resume") == {"done": "resume", "resumed": []}
+
+
+def halts_of(venue: Served) -> set[str]:
+    """The instruments that have halted."""
+    looks = {name: f"api/look/state?instrument={name}" for name in ("APPLES", "PEARS")}
+    found = {name: venue.call(look, token=venue.operator)[1] for name, look in looks.items()}
+    return {name for name, it in found.items() if it["halted"]}
+
+
+def test_a_resume_of_one_instrument(tmp_path: pathlib.Path) -> None:
+    """The one that is named is tried again alone, all where none is; one that isn't there is refused."""
+    journals = [tmp_path / f"venue/{name}.journal.csv" for name in ("APPLES", "PEARS")]
+    with served.served(tmp_path, DAY) as venue:
+        token = venue.join("Anna")
+        for name in ("APPLES", "PEARS"):
+            venue.do("start", instrument=name)
+            with Client(venue.url, token) as me:
+                me.enter("bid", 1, "2.00", instrument=name)
+        for journal in journals:
+            journal.rename(f"{journal}.moved")
+        until(lambda: halts_of(venue) == {"APPLES", "PEARS"})
+        for journal in journals:
+            pathlib.Path(f"{journal}.moved").rename(journal)
+        asked = {"do": "resume", "instrument": "NOPE"}
+        assert venue.call("api/operator", asked, venue.operator)[1]["error"] == "unknown_instrument"
+        assert venue.do("resume", instrument="PEARS")["resumed"] == ["PEARS"]
+        assert halts_of(venue) == {"APPLES"}
+        assert venue.do("resume")["resumed"] == ["APPLES"]
+        assert halts_of(venue) == set()
 
 
 def test_a_refusal_goes_once_trading_goes_on(tmp_path: pathlib.Path) -> None:

@@ -106,11 +106,16 @@ class Starts:
 
     # ---- what has halted
 
-    async def resume(self) -> list[str]:
-        """Tries again what had halted, and waits for what comes of it: what that was. Raises
-        MessageError with the reason of what has halted again.
+    async def resume(self, market: str | None = None) -> list[str]:
+        """Tries again what had halted, of the boards those of one market where it is named, and
+        waits for what comes of it: what that was. Raises MessageError with the reason of what has
+        halted again.
         """
-        halted = [it for it in self._rounds.boards.values() if self._has_halted(it)]
+        halted = [
+            it
+            for it in self._rounds.boards.values()
+            if market in (None, it.identity.market) and self._has_halted(it)
+        ]
         resumed = ["the venue"] * (self._halts.halted is not None)
         resumed += [it.identity.key for it in halted]
         self._log.retry()

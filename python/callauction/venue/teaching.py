@@ -16,8 +16,8 @@
   (member or members): answers which orders were deleted, before anything else was taken, and which
   instruments have halted, where that is done as they go on.
 - robots (count, kind: zero, truthful or shading): that many more; all are removed where count is 0.
-- resume: tries again what had halted, and answers what had (resumed); an error says what halts
-  again. reset (session): a session by FIX begins anew.
+- resume (perhaps instrument: all groups of it alone): tries again what had halted, and answers what
+  had (resumed); an error says what halts again. reset (session): a session by FIX begins anew.
 """
 import contextlib
 import dataclasses
@@ -204,8 +204,12 @@ async def show_payoffs(venue: Venue, message: dict[str, Any]) -> shown.Json:
 
 
 async def resume(venue: Venue, message: dict[str, Any]) -> shown.Json:
-    """Tries again what had halted, and says what had. Raises MessageError where it halts again."""
-    return {"resumed": await venue.starts.resume()}
+    """Tries again what had halted, of one instrument where the message names it, and says what had.
+    Raises MessageError where it halts again.
+    """
+    name = message.get("instrument")
+    market = None if name is None else venue.rounds.market_of(name)[0].identity.market
+    return {"resumed": await venue.starts.resume(market)}
 
 
 # ---- members

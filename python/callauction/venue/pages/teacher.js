@@ -228,12 +228,15 @@ async function act(body) {
   }
 }
 
-// A step of the auction; a second press before the page shows what came of the first does nothing.
+// A step of the auction, of all instruments where it tries again what has halted; a second press before the
+// page shows what came of the first does nothing.
 async function takeStep(button) {
   const state = said.state[chosen];
   if (isOff(button) || stepped === state) return;
   stepped = state;
-  if (!await act({ do: button.dataset.do, phase: state.phase })) stepped = null;
+  const step = { do: button.dataset.do, phase: state.phase };
+  if (step.do === "resume") step.instrument = undefined;
+  if (!await act(step)) stepped = null;
 }
 
 function extend(event) {
