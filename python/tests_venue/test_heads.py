@@ -98,6 +98,18 @@ def test_odd_requests(tmp_path: pathlib.Path, is_secure: bool) -> None:
         check_heads(venue, trusting)
 
 
+def test_what_is_said_to_what_is_no_request(tmp_path: pathlib.Path) -> None:
+    """Words of the venue, none of its libraries."""
+    text = "this is no request by HTTP, or a line of its head is longer than 8190 bytes"
+    with served.served(tmp_path, FAST) as venue:
+        port = int(venue.url.rpartition(":")[2].rstrip("/"))
+        for what in ("no request", "a long line", "a long field", "two lengths"):
+            with socket.create_connection(("127.0.0.1", port), timeout=SECONDS) as connection:
+                connection.sendall(ODD[what][0])
+                answer = b"".join(iter(lambda: connection.recv(1 << 16), b""))
+            assert answer.partition(b"\r\n\r\n")[2] == text.encode(), what
+
+
 @pytest.mark.asyncio
 async def test_a_connection_that_is_lost_is_no_fault(caplog: pytest.LogCaptureFixture) -> None:
     """At whatever moment."""

@@ -19,6 +19,7 @@ HEADERS = {
 }
 TLS_HEADERS = {"Strict-Transport-Security": "max-age=31536000"}
 """Where it is reached by TLS: browsers take nothing else of this name for a year."""
+NO_REQUEST = "this is no request by HTTP, or a line of its head is longer than 8190 bytes"
 GRACE = 1.0
 """How long connections that end are waited for."""
 
@@ -81,7 +82,7 @@ class Handler(web.RequestHandler):
         """
         if status < 500 and request.writer.output_size == 0:
             NOTICES.info("what came is no request of HTTP, from %s", request.remote)
-            answer: web.StreamResponse = web.Response(status=status, text=message)
+            answer: web.StreamResponse = web.Response(status=status, text=NO_REQUEST)
             answer.force_close()
         else:
             answer = super().handle_error(request, status, exc, message)
