@@ -100,6 +100,9 @@ def test_the_screen_hides_names_by_a_key(tmp_path: pathlib.Path) -> None:
         gains = [["1", "Bert", "11.00"], ["2", "Anna", "9.00"]]
         beamer.waits(lambda it: it.rows("ranking") == gains)
         beamer.waits(lambda it: it.rows("trades") == [["Anna", "Bert", "10"]])
+        for shows, head in (("ranking", "Name"), ("none", "Who gained most")):
+            venue.do("payoffs", shows=shows)
+            beamer.waits(lambda it: it.text("ranking-head") == head, 20)
         beamer.runs("document.querySelector('#which').focus()")
         beamer.hits("n")
         assert names_on(beamer) == {"Anna", "Bert"} and not beamer.shows("nameless")

@@ -138,9 +138,8 @@ function drawGains(most) {
   const isRanking = showsRanking();
   const rows = (isRanking ? ranking : said.efficiency[chosen]?.gains ?? []).slice(0, most);
   hide(find("placing"), !rows.length);
-  for (const node of [find("ranking").caption, find("ranking-head")]) {
-    put(node, text(isRanking ? "ranking" : "who_gained"));
-  }
+  put(find("ranking").caption, text(isRanking ? "ranking" : "who_gained"));
+  put(find("ranking-head"), text(isRanking ? "name" : "who_gained"));
   fill(find("ranking"), rows, (it) => it.name, (it) => [{ number: String(it.rank) },
     { text: hidesNames ? "" : it.name, classes: "name" }, { number: price(it.gain) }]);
   return rows.length;
