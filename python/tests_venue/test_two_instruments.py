@@ -115,3 +115,20 @@ def test_shares_and_money_are_of_each_instrument(lesson: tuple[served.Served, Pa
             assert me.enter("ask", 10, "1.00", instrument=name).reply == "entered 1"
             with pytest.raises(VenueError, match="at most 0 shares more"):
                 me.enter("ask", 1, "1.00", instrument=name)
+
+
+def test_which_auctions_are_going_on(tmp_path: pathlib.Path) -> None:
+    """A round that can't begin says of which boards."""
+    with served.served(tmp_path, DAY) as venue:
+        asked = "api/operator", {"do": "next", "round": 2}, venue.operator
+        venue.do("start", instrument="RICE")
+        one = venue.call(*asked)
+        venue.do("start", instrument="TEA")
+        venue.do("end", instrument="RICE")
+        two = venue.call(*asked)
+        text = "an auction is going on of {}: end its call, and uncross"
+        assert (one[0], one[1]["text"]) == (409, text.format("RICE"))
+        assert (two[0], two[1]["text"]) == (409, text.format("TEA, RICE"))
+        for name in ("TEA", "RICE"):
+            venue.do("uncross", instrument=name)
+        assert venue.call(*asked)[0] == 200

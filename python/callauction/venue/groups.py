@@ -87,8 +87,9 @@ class Groups:
             for board in before:
                 if board.engine.halted is None:
                     await board.looks.settle()
-            if not now.is_between:
-                raise PhaseError("an auction is going on: end its call, and uncross")
+            if now.going:
+                names = ", ".join(now.going)
+                raise PhaseError(f"an auction is going on of {names}: end its call, and uncross")
             if not is_anyway:
                 self._rounds.check_known()
             for board in before:

@@ -42,10 +42,12 @@ class Round:
         return any(it.auctions.has_begun for it in self.boards.values())
 
     @property
-    def is_between(self) -> bool:
-        """Whether no auction is going on."""
-        phases = {it.auctions.state.phase for it in self.boards.values()}
-        return phases <= {Phase.WAITING, Phase.OVER}
+    def going(self) -> list[str]:
+        """The boards on which an auction is going on."""
+        between = (Phase.WAITING, Phase.OVER)
+        return [
+            name for name, it in self.boards.items() if it.auctions.state.phase not in between
+        ]
 
     @property
     def is_open_book(self) -> bool:

@@ -3,8 +3,8 @@
 import { grouped } from "./numbers.js";
 
 const GERMAN = {
-  "an auction is going on: end its call, and uncross":
-    "eine Auktion läuft noch: den Aufruf beenden und den Preis ermitteln",
+  "an auction is going on of {}: end its call, and uncross":
+    "eine Auktion läuft noch von {}: den Aufruf beenden und den Preis ermitteln",
   "the round is {}": "es ist Runde {}",
   "the round has begun": "die Runde hat begonnen",
   "the phase is {} and no longer {}": "der Stand ist „{}“ und nicht mehr „{}“",
