@@ -132,3 +132,16 @@ def test_which_auctions_are_going_on(tmp_path: pathlib.Path) -> None:
         for name in ("TEA", "RICE"):
             venue.do("uncross", instrument=name)
         assert venue.call(*asked)[0] == 200
+
+
+def test_the_book_has_one_head(tmp_path: pathlib.Path) -> None:
+    """Picture and table are of one book, which the table is still named by."""
+    with served.served(tmp_path, FAST) as venue:
+        url = f"{venue.url}teacher#{venue.operator}"
+        with opened(tmp_path / "teacher", url, SCREEN) as page:
+            venue.do("start")
+            with Client(venue.url, venue.join("Anna")) as anna:
+                anna.enter("bid", 10, "2.00")
+            page.waits(lambda it: it.rows("ladder") == [["10", "2.00", ""]])
+            assert page.text("auction").splitlines().count("Book") == 1
+            assert page.find("#ladder").accessible_name == "Book"
