@@ -440,3 +440,27 @@ def test_the_screen_says_how_many_shares_the_values_predict(tmp_path: pathlib.Pa
             beamer.waits(
                 lambda it: it.text("predicted") == "By the values: price 2.00, volume 10 to 20")
             assert beamer.errors() == []
+
+
+def test_who_joins_late_lacks_a_value(tmp_path: pathlib.Path) -> None:
+    """The page says how many, and what to do, where others have one."""
+    late = "Without a value: 1. Hand out values to those who have none."
+    with served.served(tmp_path, FAST) as venue:
+        for name in ("Anna", "Bert"):
+            venue.join(name)
+        with opened(tmp_path / "it", f"{venue.url}teacher#{venue.operator}", SCREEN) as teacher:
+            teacher.clicks("#tab-class")
+            teacher.waits(lambda it: len(it.rows("members")) == 2)
+            assert not teacher.shows("lacking")
+            venue.do("give", how="chance", low="1.00", high="3.00", quantity=10)
+            venue.do("robots", count=1, kind="zero")
+            teacher.waits(lambda it: len(it.rows("members")) == 3 and row_of(it, "Bert")[3] != "")
+            venue.join("Carl")
+            teacher.waits(lambda it: it.shows("lacking") and it.text("lacking") == late)
+            venue.do("remove", member="Carl")
+            teacher.waits(lambda it: not it.shows("lacking"))
+            venue.join("Dora")
+            teacher.waits(lambda it: it.shows("lacking") and it.text("lacking") == late)
+            venue.do("give", how="chance", low="1.00", high="3.00", quantity=10, to="new")
+            teacher.waits(lambda it: not it.shows("lacking") and "no value" not in row_of(it, "Dora"))
+            assert teacher.errors() == []

@@ -79,10 +79,18 @@ export class People {
     hide(find("no-robots"), !robots.length);
     const lacks = robots.some((it) => it.robot !== "zero" && !valueOf(it, chosen).value);
     hide(find("robots-help"), !lacks || !(hasBegun || there.some((it) => valueOf(it, chosen).value)));
+    this.drawLacking(there.filter((it) => !it.robot));
     find("members").classList.toggle("one-group", there.every((it) => it.group === 1));
     fill(find("members"), this.ranked(chosen), (it) => it.name, (it) => this.cellsOf(it));
     for (const head of document.querySelectorAll("[data-sort]")) this.markSorted(head);
     this.drawCodes();
+  }
+
+  // Says how many of those who are no robots have no value, where others have one.
+  drawLacking(those) {
+    const lacking = those.filter((it) => !valueOf(it, this.chosen).value).length;
+    hide(find("lacking"), !lacking || lacking === those.length);
+    put(find("lacking"), text("lacking", shares(lacking)));
   }
 
   cellsOf(it) {
