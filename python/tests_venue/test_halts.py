@@ -86,7 +86,9 @@ def halts_of(venue: Served) -> set[str]:
 
 
 def test_a_resume_of_one_instrument(tmp_path: pathlib.Path) -> None:
-    """The one that is named is tried again alone, all where none is; one that isn't there is refused."""
+    """The one that is named is tried again alone, all where none is; one that isn't there is
+    refused.
+    """
     journals = [tmp_path / f"venue/{name}.journal.csv" for name in ("APPLES", "PEARS")]
     with served.served(tmp_path, DAY) as venue:
         token = venue.join("Anna")

@@ -462,5 +462,6 @@ def test_who_joins_late_lacks_a_value(tmp_path: pathlib.Path) -> None:
             venue.join("Dora")
             teacher.waits(lambda it: it.shows("lacking") and it.text("lacking") == late)
             venue.do("give", how="chance", low="1.00", high="3.00", quantity=10, to="new")
-            teacher.waits(lambda it: not it.shows("lacking") and "no value" not in row_of(it, "Dora"))
+            teacher.waits(lambda it: not it.shows("lacking"))
+            assert "no value" not in row_of(teacher, "Dora")
             assert teacher.errors() == []

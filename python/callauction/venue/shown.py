@@ -227,8 +227,8 @@ def gains_of(instrument: Instrument, title_of: Callable[[str], str]) -> list[Jso
 
 
 def predicted_of(instrument: Instrument) -> Json | None:
-    """The prices and the volume that the values predict, the most of it too, None where they predict
-    no trade.
+    """The prices and the volume that the values predict, the most of it too, None where they
+    predict no trade.
     """
     found = instrument.accounts.predicted
     if found is None:
