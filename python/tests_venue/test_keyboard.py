@@ -86,8 +86,8 @@ def picks(beamer: Page, choice: str, words: str) -> None:
 
 def test_the_screen_hides_names_by_a_key(tmp_path: pathlib.Path) -> None:
     """Also where its page comes again, and where the key is held; a letter that a choice takes
-    hides none, but one that was made by the mouse takes none. What was gained is shown still, under its
-    head, and that names are hidden.
+    hides none, but one that was made by the mouse takes none. What was gained is shown still, under
+    its head, and that names are hidden.
     """
     with contextlib.ExitStack() as stack:
         venue = stack.enter_context(served.served(tmp_path, TWO))
