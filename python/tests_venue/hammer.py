@@ -7,10 +7,12 @@ import pathlib
 import random
 import sys
 
-import fixing
-from callauction.fix._quickfix import Engine
-from callauction.fix.settings import settings_of
-from callauction.fix.tags import FIX44
+sys.path.insert(0, str(pathlib.Path(__file__).resolve().parent))  # also where PYTHONSAFEPATH is set
+
+import fixing  # noqa: E402
+from callauction.fix._quickfix import Engine  # noqa: E402
+from callauction.fix.settings import settings_of  # noqa: E402
+from callauction.fix.tags import FIX44  # noqa: E402
 
 SESSION = "FIX.4.4:VENUE->ALICE"
 KINDS = [*"0123456789ADFGHVWXYEjqrghxy", "AF", "AE"]
