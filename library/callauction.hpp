@@ -1013,6 +1013,19 @@ inline Result<std::string> journal(
     return text;
 }
 
+namespace detail {
+
+// An auction to which these commands were applied one by one.
+inline Result<Auction> replayed(const Config &config, Span<const callauction_command> commands) {
+    auto again = Auction::open(config);
+    if (!again) return again.error();
+    std::vector<callauction_reply> replies(commands.size());
+    if (const auto error = again->apply_many(commands, replies).second) return *error;
+    return again;
+}
+
+} // namespace detail
+
 // What the uncross of this auction did to the orders, by a board's history: its entries are applied to an auction once
 // more. There are none where the history hasn't come to it.
 inline Result<std::vector<callauction_outcome>> uncrossed_orders(
@@ -1020,10 +1033,8 @@ inline Result<std::vector<callauction_outcome>> uncrossed_orders(
     std::vector<callauction_command> commands;
     for (const auto &entry : history) {
         if (entry.reply.tag == CALLAUCTION_REPLY_UNCROSSED && entry.reply.auction == static_cast<std::uint8_t>(kind)) {
-            auto again = Auction::open(config);
+            auto again = detail::replayed(config, commands);
             if (!again) return again.error();
-            std::vector<callauction_reply> replies(commands.size());
-            if (const auto error = again->apply_many(commands, replies).second) return *error;
             auto uncrossed = again->uncross_orders();
             if (!uncrossed) return uncrossed.error();
             return std::move(uncrossed->orders);
@@ -1031,6 +1042,16 @@ inline Result<std::vector<callauction_outcome>> uncrossed_orders(
         commands.push_back(entry.command);
     }
     return std::vector<callauction_outcome>{};
+}
+
+// What is left for the next day after a board's history, with the clients of its orders, also where the board was
+// closed: its entries are applied to an auction once more.
+inline Result<CarriedOver> carried_over(const Config &config, Span<const callauction_entry> history) {
+    std::vector<callauction_command> commands;
+    for (const auto &entry : history) commands.push_back(entry.command);
+    const auto again = detail::replayed(config, commands);
+    if (!again) return again.error();
+    return again->carried_over();
 }
 
 // ---- a board
@@ -1056,6 +1077,11 @@ struct Closing {
 // The journal of a board that was closed.
 inline Result<std::string> journal(const Config &config, const Closing &closing) {
     return journal(config, closing.counts.size(), closing.entries);
+}
+
+// What is left of a board that was closed, for the next day.
+inline Result<CarriedOver> carried_over(const Config &config, const Closing &closing) {
+    return carried_over(config, Span<const callauction_entry>(closing.entries));
 }
 
 class Board;

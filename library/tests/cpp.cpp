@@ -254,6 +254,32 @@ void a_board_takes_what_is_carried_over() {
     WANT(closing->counts == (std::vector<std::uint32_t>{1, 2, 2}) && moved.enter(left).second == ca::Error::closed);
 }
 
+// What is left of a board that was closed, by its history: whose orders they were, their clients and their peaks.
+void a_closed_day_is_carried_over() {
+    const ca::Config wide{1, 1000, 500, 10, 100};
+    auto board = ca::Board::open(3, wide).value();
+    auto operating = board.member(0), one = board.member(1), two = board.member(2);
+    WANT(one.call(ca::Enter{ca::Side::bid, 50, 490, 20, ca::Restriction::none, 77}));
+    WANT(two.call(ca::Enter{ca::Side::bid, 40, 490, {}, ca::Restriction::none, 78}));
+    WANT(two.call(ca::Enter{ca::Side::bid, 30, 490, 8, ca::Restriction::none, 79}));
+    WANT(two.call(ca::Enter{ca::Side::bid, 7, 490, {}, ca::Restriction::closing_only}));
+    WANT(one.call(ca::Change{1, 60, 490}) && operating.call(ca::Enter{ca::Side::ask, 75, 490}));
+    for (int count = 0; count < 3; count++) WANT(operating.call(ca::Uncross{}));
+    const auto closing = board.close().value();
+    const auto left = ca::carried_over(wide, closing);
+    WANT(left && left->reference == 490 && left->ids == (std::vector<std::uint32_t>{1}));
+    const auto &order = left->commands.at(0);
+    WANT(order.member == 1 && order.client == 77 && order.quantity == 55 && order.peak == 20 && order.limit == 490);
+    const ca::Span<const callauction_entry> begun(closing.entries.data(), 3);
+    const auto before = ca::carried_over(wide, begun);
+    WANT(before && before->reference == 500 && before->ids == (std::vector<std::uint32_t>{1, 2, 3}));
+    WANT(before->commands.at(2).client == 79 && before->commands.at(2).peak == 8 && before->commands[2].quantity == 30);
+    auto next = ca::Board::open(2, {1, 1000, left->reference, 10, 100}).value();
+    WANT(!next.enter(*left).second && next.member(0).orders()->at(0).client == 77);
+    WANT(ca::carried_over({1, 1000, 1001}, closing).error() == ca::Error::bad_reference);
+    WANT(ca::carried_over({1, 1000, 500, 10, 3}, closing).error() == ca::Error::full);
+}
+
 // What a new day refuses of what is carried over is an error, and named by its id of the day before.
 void a_day_that_refuses_what_is_carried_over_says_so() {
     auto auction = opened(day);
@@ -533,6 +559,7 @@ int main() {
     an_uncross_says_what_it_did();
     a_day_is_carried_over();
     a_board_takes_what_is_carried_over();
+    a_closed_day_is_carried_over();
     a_day_that_refuses_what_is_carried_over_says_so();
     clients_are_given_back();
     a_reserve_is_the_operators();

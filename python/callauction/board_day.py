@@ -1,9 +1,10 @@
 """The day of a board that was closed: see BoardDay."""
 from callauction.arrays import Structs
+from callauction.carried import CarriedOver
 from callauction.day_frames import DayTables, written_day
 from callauction.program import Day
 from callauction.reading import reply_of
-from callauction.replayed import uncrossed_orders
+from callauction.replayed import carried_over, uncrossed_orders
 from callauction.words import AuctionKind, Config
 from callauction.written import command_of
 
@@ -24,6 +25,13 @@ class BoardDay(DayTables):
     def uncrossed_orders(self, kind: AuctionKind) -> Structs:
         """What the uncross of this auction did to the orders, as Member.uncrossed_orders."""
         return uncrossed_orders(self.config, self.history, kind)
+
+    def carried_over(self) -> CarriedOver:
+        """What is left of the day for the next one, with the clients of its orders, as
+        Auction.carried_over: the board's calls are applied to an auction once more. Raises
+        MemoryError.
+        """
+        return carried_over(self.config, self.history)
 
     def day(self) -> Day:
         """The history as a journal."""

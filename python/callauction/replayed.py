@@ -1,10 +1,11 @@
-"""What an uncross of a board did, by the board's history."""
+"""What an uncross of a board did, and what is left of its day, by the board's history."""
 import dataclasses
 
 import numpy
 
 from callauction.arrays import OUTCOME, Structs
 from callauction.auction import Auction
+from callauction.carried import CarriedOver
 from callauction.reading import member_of
 from callauction.words import AuctionKind, Config, ReplyTag
 
@@ -20,8 +21,21 @@ def uncrossed_orders(config: Config, history: Structs, kind: AuctionKind) -> Str
     ended = (replies["tag"] == ReplyTag.UNCROSSED) & (replies["auction"] == kind)
     if not ended.any():
         return numpy.zeros(0, OUTCOME)
-    commands = history["command"][: int(numpy.argmax(ended))].copy()
-    with Auction(**dataclasses.asdict(config)) as again:
-        again.apply_many(commands)
+    with _replayed(config, history[: int(numpy.argmax(ended))]) as again:
         _, outcomes = again.uncross_orders()
     return outcomes
+
+
+def carried_over(config: Config, history: Structs) -> CarriedOver:
+    """What is left for the next day after a history, an array of ENTRY, whose calls are applied to
+    an auction once more. Raises MemoryError.
+    """
+    with _replayed(config, history) as again:
+        return again.carried_over()
+
+
+def _replayed(config: Config, history: Structs) -> Auction:
+    """An auction to which the calls of a history were applied one by one. Raises MemoryError."""
+    again = Auction(**dataclasses.asdict(config))
+    again.apply_many(history["command"].copy())
+    return again

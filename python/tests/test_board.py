@@ -40,6 +40,7 @@ from callauction import (
     Refusal,
     Refused,
     RefusedError,
+    Restriction,
     Side,
     Uncross,
     Uncrossed,
@@ -513,6 +514,32 @@ def test_what_is_carried_over_is_entered_by_its_members() -> None:
             full.enter_carried(left)
         assert stopped.value.applied == 3 and stopped.value.replies is not None
         assert stopped.value.replies["reply"]["id"].tolist() == [1, 2, 3]
+
+
+def test_what_is_left_of_a_closed_board_is_carried_over() -> None:
+    """With the clients and the peaks of its orders, as an auction after its last call has it."""
+    board = Board(3, reference=500)
+    board[1].enter(Side.BID, 50, 490, peak=20, client=77)
+    board[2].enter(Side.BID, 40, 490, client=78)
+    board[2].enter(Side.BID, 30, 490, peak=8, client=79)
+    board[2].enter(Side.BID, 7, 490, restriction=Restriction.CLOSING_ONLY)
+    board[1].change(1, 60, 490)
+    board[0].enter(Side.ASK, 75, 490)
+    for _ in range(3):
+        board[0].uncross()
+    open_then = board[0].auction()
+    left = board.close().carried_over()
+    assert left == open_then.carried_over() and left.reference == 490
+    assert left.ids.tolist() == [1]
+    fields = left.commands[["member", "client", "quantity", "peak", "limit"]]
+    assert fields.tolist() == [(1, 77, 55, 20, 490)]
+    with Board(2, reference=left.reference) as tomorrow:
+        tomorrow.enter_carried(left)
+        assert tomorrow[0].orders()["client"].tolist() == [77]
+    with Board(2, reference=321) as empty:
+        pass
+    nothing = empty.day.carried_over()
+    assert len(nothing.commands) == 0 and nothing.reference == 321
 
 
 def test_a_member_makes_no_calls_of_another() -> None:
