@@ -605,7 +605,9 @@ struct UncrossedOrders {
 
 // What is left of a day: the open orders that are for every auction, as commands that enter them into the next day's
 // auction, whose ids there are 1, 2 and so on; their ids of this day; and the next day's reference. The commands are in
-// time order within each limit of a side and among its market orders, which is all that price-time priority asks.
+// time order within each limit of a side and among its market orders, which is all that price-time priority asks. An
+// order whose peak is above what is left of it has that for a peak, as a greater one is refused: a Change to more
+// shares shows no more of it on the next day.
 struct CarriedOver {
     std::vector<callauction_command> commands;
     std::vector<std::uint32_t> ids;

@@ -18,6 +18,9 @@ class CarriedOver:
     place behind those with its limit that were before it. `ids` is an array of uint32 of the same
     length with the orders' ids of this day: those of the next one are 1, 2 and so on. `reference`
     is the next day's reference price, a tick.
+
+    An order whose peak is above what is left of it has that for a peak, as a greater one is
+    refused: a change to more shares shows no more of it on the next day.
     """
 
     commands: Structs
