@@ -127,7 +127,7 @@ enum class Error : std::uint32_t {
     other_limits = 1010, // of copy_into
     no_tick = 1011, // of Ticks
     bad_reserve = 1012,
-    bad_range = 1013, // of a board's opening
+    bad_range = 1013, // of a board's opening and of a journal
     not_entered = 1014 // of enter
 };
 
@@ -727,7 +727,8 @@ struct BadRecord {
 class Auction {
 public:
     // An auction at its opening. Error::no_config where a number doesn't fit a struct; else the first fault of the
-    // config: Error::bad_bounds, bad_reference or bad_capacity.
+    // config: Error::bad_bounds, bad_reference or bad_capacity. A range above 1,000,000 is taken, but no journal can say
+    // it (Error::bad_range of journal).
     static Result<Auction> open(const Config &config) {
         callauction_config given{};
         if (!detail::config_fits(config, given)) return Error::no_config;
@@ -998,7 +999,8 @@ inline Result<std::string> journal_lines(
 }
 
 // The text of a journal: the day of a config for so many members, and the lines of entries. A reserve and clients
-// aren't in it. Error::no_entry where a struct is no entry that the journal can hold and be read again, as one of a
+// aren't in it. Error::bad_range where the range is above 1,000,000: an auction takes it, and no journal can say it.
+// Error::no_entry where a struct is no entry that the journal can hold and be read again, as one of a
 // member that the day hasn't, or whose quantity has more than 32 bits: which and why is in `fault`, if that is given.
 inline Result<std::string> journal(
     const Config &config, Whole members, Span<const callauction_entry> entries, BadEntry *fault = nullptr) {
@@ -1009,9 +1011,10 @@ inline Result<std::string> journal(
     std::string text(detail::piece, '\0');
     std::size_t written = 0;
     const auto answer = callauction_journal_day(&given, count, text.data(), text.size(), &written);
-    if (const auto error = detail::error_of(answer)) return *error;
+    const auto error = detail::error_of(answer);
+    if (error) return *error == Error::no_config ? Error::bad_range : *error; // all else of the config is one
     text.resize(written);
-    if (const auto error = detail::add_lines(text, entries, count, given.max_calls, fault)) return *error;
+    if (const auto bad = detail::add_lines(text, entries, count, given.max_calls, fault)) return *bad;
     return text;
 }
 

@@ -512,7 +512,10 @@ void what_no_journal_holds() {
     WANT(*ca::journal(day, 64, none) == "day,1,1000,500,64,10,100,50\n");
     for (const ca::Whole members : {0, 65, -1}) WANT(ca::journal(day, members, none).error() == ca::Error::bad_member);
     WANT(ca::journal({1, 10, 11, 1, 1, {}}, 1, none).error() == ca::Error::bad_reference);
-    WANT(ca::journal({1, 10, 5, 1, 1, 1'000'001}, 1, none).error() == ca::Error::no_config);
+    const ca::Config far{1, 10, 5, 1, 1, 1'000'001};
+    WANT(ca::Auction::open(far) && ca::journal(far, 1, none).error() == ca::Error::bad_range);
+    WANT(*ca::journal({1, 10, 5, 1, 1, 1'000'000}, 1, none) == "day,1,10,5,1,1,1,1000000\n");
+    WANT(ca::journal({1, 10, 11, 1, 1, 1'000'001}, 1, none).error() == ca::Error::bad_reference); // an opening's first
     WANT(ca::journal({1, 10, -5, 1, 1, {}}, 1, none).error() == ca::Error::no_config);
     std::vector<callauction_entry> entries(5000);
     auto auction = opened({1, 1000, 500, 10, 5000, {}});

@@ -7,8 +7,10 @@ from collections.abc import Iterable
 import pandas
 
 from callauction.course import Course, course_of, references_of
+from callauction.limits import MOST_RANGE
 from callauction.outcomes import outcomes_of
 from callauction.program import Day
+from callauction.reading import number
 from callauction.reasons import Explanation, explain
 from callauction.tables import audit_of, book_at, books_of, journal_of, trades_of
 from callauction.words import Command, Config, Reply
@@ -19,9 +21,10 @@ def written_day(
     config: Config, members: int, entries: Iterable[tuple[int, Command, Reply]]
 ) -> Day:
     """The journal of a day of `members` members, opened with this config: each entry is a member,
-    a command and its reply, in their order.
+    a command and its reply, in their order. Raises ValueError for a range above 1,000,000, which an
+    Auction takes and no journal can say.
     """
-    most = "" if config.range is None else config.range
+    most = "" if config.range is None else number("range", config.range, MOST_RANGE)
     numbers = (config.low, config.high, config.reference, members)
     head = ("day", *numbers, config.max_open, config.max_calls, most)
     lines = (

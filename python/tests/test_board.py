@@ -516,6 +516,18 @@ def test_what_is_carried_over_is_entered_by_its_members() -> None:
         assert stopped.value.replies["reply"]["id"].tolist() == [1, 2, 3]
 
 
+def test_a_range_that_no_journal_can_say_is_named(tmp_path: Path) -> None:
+    """Also of a day that no board had, as one made of an Auction's config."""
+    with Auction(range=1_000_001) as auction:
+        config = auction.config
+    day = BoardDay(config, numpy.zeros(0, ENTRY), (0, 0))
+    with pytest.raises(ValueError, match="^range must be from 0 to 1000000, not 1000001$"):
+        day.save(tmp_path / "day.csv")
+    assert not (tmp_path / "day.csv").exists()
+    widest = BoardDay(dataclasses.replace(config, range=1_000_000), day.history, day.counts)
+    assert widest.day().content == b"day,1,1000,200,2,4096,65536,1000000\n"
+
+
 def test_what_is_left_of_a_closed_board_is_carried_over() -> None:
     """With the clients and the peaks of its orders, as an auction after its last call has it."""
     board = Board(3, reference=500)
