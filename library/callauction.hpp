@@ -22,6 +22,7 @@
 #include <algorithm>
 #include <cstddef>
 #include <cstdint>
+#include <cstdio>
 #include <cstdlib>
 #include <exception>
 #include <limits>
@@ -215,19 +216,24 @@ private:
 
 namespace detail {
 
+// Ends the program, and says why on standard error.
+[[noreturn]] inline void end(const char *why) noexcept {
+    std::fprintf(stderr, "callauction: %s\n", why);
+    std::abort();
+}
+
 // Throws, or ends the program where exceptions are off.
 template <typename T, typename Exception> [[noreturn]] T fail(const Exception &exception) {
 #ifdef __cpp_exceptions
     throw exception;
 #else
-    static_cast<void>(exception);
-    std::abort();
+    end(exception.what());
 #endif
 }
 
-// What is there; where nothing is, it ends the program.
-template <typename T> T &there(T *found) noexcept {
-    if (!found) std::abort();
+// What is there of a result; where nothing is, it ends the program.
+template <typename T> T &there(T *found, const Error *error) noexcept {
+    if (!found) end(error ? text(*error) : "the result has a value, and no error");
     return *found;
 }
 
@@ -242,20 +248,20 @@ public:
     bool has_value() const noexcept { return answer_.index() == 0; }
     explicit operator bool() const noexcept { return has_value(); }
 
-    // The value. Where there is none these end the program, by std::abort.
-    T &operator*() & noexcept { return detail::there(std::get_if<0>(&answer_)); }
-    const T &operator*() const & noexcept { return detail::there(std::get_if<0>(&answer_)); }
+    // The value. Where there is none these end the program, by std::abort, and the error's text is on standard error.
+    T &operator*() & noexcept { return detail::there(std::get_if<0>(&answer_), std::get_if<1>(&answer_)); }
+    const T &operator*() const & noexcept { return detail::there(std::get_if<0>(&answer_), std::get_if<1>(&answer_)); }
     T &&operator*() && noexcept { return std::move(**this); }
     T *operator->() noexcept { return &**this; }
     const T *operator->() const noexcept { return &**this; }
 
-    // The same, but where there is none it throws BadResult, or ends the program where exceptions are off.
+    // The same, but where there is none it throws BadResult, or ends the program so where exceptions are off.
     T &value() & { return has_value() ? **this : detail::fail<T &>(BadResult(error())); }
     const T &value() const & { return has_value() ? **this : detail::fail<const T &>(BadResult(error())); }
     T value() && { return has_value() ? *std::move(*this) : detail::fail<T>(BadResult(error())); }
 
     // The error. Where there is a value it ends the program.
-    Error error() const noexcept { return detail::there(std::get_if<1>(&answer_)); }
+    Error error() const noexcept { return detail::there(std::get_if<1>(&answer_), std::get_if<1>(&answer_)); }
 
 private:
     std::variant<T, Error> answer_;
@@ -727,8 +733,8 @@ struct BadRecord {
 class Auction {
 public:
     // An auction at its opening. Error::no_config where a number doesn't fit a struct; else the first fault of the
-    // config: Error::bad_bounds, bad_reference or bad_capacity. A range above 1,000,000 is taken, but no journal can say
-    // it (Error::bad_range of journal).
+    // config: Error::bad_bounds, bad_reference or bad_capacity. A range above 1,000,000 is taken, but no journal can
+    // say it: Error::bad_range of journal.
     static Result<Auction> open(const Config &config) {
         callauction_config given{};
         if (!detail::config_fits(config, given)) return Error::no_config;
