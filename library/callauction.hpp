@@ -8,9 +8,9 @@
 // throws std::bad_alloc where memory is refused, and nothing else; Result::value throws BadResult for an error. Numbers
 // are given as a Whole, which takes integers alone, so that a price in money, a truth value or a letter doesn't compile
 // (Ticks has the tick of a price, and the price of a tick). They are checked: where one doesn't fit its field of a
-// struct, the call answers an error that names it, as Error::bad_member for the member 256, or Error::no_config, and
-// does nothing. Numbers are answered as callauction.h has them, unsigned: a difference below 0 wraps, so make a
-// std::int64_t of what is subtracted, as `std::int64_t(order.quantity) - std::int64_t(outcome.filled)`.
+// struct, the call answers an error that names it, as Error::bad_member for the member 256, and does nothing. Numbers
+// are answered as callauction.h has them, unsigned: a difference below 0 wraps, so make a std::int64_t of what is
+// subtracted, as `std::int64_t(order.quantity) - std::int64_t(outcome.filled)`.
 //
 // It wants C++17. Headers that have dynamic exception specifications, as QuickFIX's, go into one file with it under
 // clang++ -Wno-dynamic-exception-spec; under g++ they go into another file, which has callauction.h from C++11 on.
@@ -124,11 +124,11 @@ enum class Error : std::uint32_t {
     bad_id = 1006,
     bad_number = 1007,
     bad_client = 1008,
-    bad_members = 1009, // of a board's opening, as bad_reserve
+    bad_members = 1009, // of a board's opening and of a journal
     other_limits = 1010, // of copy_into
     no_tick = 1011, // of Ticks
-    bad_reserve = 1012,
-    bad_range = 1013, // of a board's opening and of a journal
+    bad_reserve = 1012, // of openings, as the next one
+    bad_range = 1013, // of a journal too
     not_entered = 1014 // of enter
 };
 
@@ -185,9 +185,10 @@ inline const char *text(Error error) noexcept {
     case Error::bad_id: return "the id is below 0, or above 4,294,967,295";
     case Error::bad_number: return "the number of the trade or the call is below 0, or above what the call takes";
     case Error::bad_client: return "the client is below 0";
-    case Error::bad_members: return "a board has 1 to 64 members";
-    case Error::bad_range: return "the range is above 1,000,000 ticks, the most that the journal of the day can say";
-    case Error::bad_reserve: return "a reserve as great as max_calls, 16 where it isn't set, leaves members no call";
+    case Error::bad_members: return "a board has 1 to 64 members, and so has a journal";
+    case Error::bad_range: return "the range is below 0, or above what the call takes: a journal says up to 1,000,000";
+    case Error::bad_reserve:
+        return "the reserve is below 0, above 4,294,967,295, or leaves members no call: it is 16 where it isn't set";
     case Error::not_entered: return "the day refused an order that was carried over";
     case Error::other_limits: return "the other auction has other bounds, max_open or max_calls";
     default: return callauction_error_text(static_cast<std::uint32_t>(error));
@@ -537,12 +538,16 @@ inline Uncrossed uncrossed_of(const callauction_reply &from) {
     return Uncrossed{static_cast<AuctionKind>(from.auction), price, from.trades};
 }
 
-inline bool config_fits(const Config &from, callauction_config &to) {
+// Fills a struct of zeros; the error of the first number that doesn't fit.
+inline std::optional<Error> filled(const Config &from, callauction_config &to) {
     to.has_range = from.range ? 1 : 0;
     to.has_reserve = from.reserve ? 1 : 0;
-    return fits(from.low, to.low) && fits(from.high, to.high) && fits(from.reference, to.reference)
-        && fits(from.max_open, to.max_open) && fits(from.max_calls, to.max_calls)
-        && (!from.range || fits(*from.range, to.range)) && (!from.reserve || fits(*from.reserve, to.reserve));
+    if (!fits(from.low, to.low) || !fits(from.high, to.high)) return Error::bad_bounds;
+    if (!fits(from.reference, to.reference)) return Error::bad_reference;
+    if (!fits(from.max_open, to.max_open) || !fits(from.max_calls, to.max_calls)) return Error::bad_capacity;
+    if (from.range && !fits(*from.range, to.range)) return Error::bad_range;
+    if (from.reserve && !fits(*from.reserve, to.reserve)) return Error::bad_reserve;
+    return std::nullopt;
 }
 
 inline Config config_of(const callauction_config &from) {
@@ -732,12 +737,12 @@ struct BadRecord {
 
 class Auction {
 public:
-    // An auction at its opening. Error::no_config where a number doesn't fit a struct; else the first fault of the
-    // config: Error::bad_bounds, bad_reference or bad_capacity. A range above 1,000,000 is taken, but no journal can
-    // say it: Error::bad_range of journal.
+    // An auction at its opening. Where a number doesn't fit a struct, Error::bad_bounds, bad_reference, bad_capacity,
+    // bad_range or bad_reserve, which names it; else the first fault of the config, one of the first three. A range
+    // above 1,000,000 is taken, but no journal can say it: Error::bad_range of journal.
     static Result<Auction> open(const Config &config) {
         callauction_config given{};
-        if (!detail::config_fits(config, given)) return Error::no_config;
+        if (const auto error = detail::filled(config, given)) return *error;
         Auction made;
         if (const auto error = detail::error_of(callauction_open(&made.handle_, &given))) return *error;
         return made;
@@ -993,11 +998,11 @@ inline std::optional<Error> add_lines(
 } // namespace detail
 
 // The lines of entries, to be added to the journal of a day for so many members: those after the lines that it has, in
-// their order. Error::no_entry where one can't be held, and which in `fault`, if that is given; Error::bad_member where
-// the members aren't 1 to 64.
+// their order. Error::no_entry where one can't be held, and which in `fault`, if that is given; Error::bad_members
+// where they aren't 1 to 64.
 inline Result<std::string> journal_lines(
     Span<const callauction_entry> entries, Whole members = 64, BadEntry *fault = nullptr) {
-    if (members < 1 || members > 64) return Error::bad_member;
+    if (members < 1 || members > 64) return Error::bad_members;
     std::string text;
     const auto count = static_cast<std::uint32_t>(std::int64_t{members});
     if (const auto error = detail::add_lines(text, entries, count, SIZE_MAX, fault)) return *error;
@@ -1005,20 +1010,23 @@ inline Result<std::string> journal_lines(
 }
 
 // The text of a journal: the day of a config for so many members, and the lines of entries. A reserve and clients
-// aren't in it. Error::bad_range where the range is above 1,000,000: an auction takes it, and no journal can say it.
-// Error::no_entry where a struct is no entry that the journal can hold and be read again, as one of a
-// member that the day hasn't, or whose quantity has more than 32 bits: which and why is in `fault`, if that is given.
+// aren't in it. Errors of the config as of Auction::open, and Error::bad_range where the range is above 1,000,000: an
+// auction takes that, and no journal can say it. Error::bad_members where they aren't 1 to 64. Error::no_entry where a
+// struct is no entry that the journal can hold and be read again, as one of a member that the day hasn't, or whose
+// quantity has more than 32 bits: which and why is in `fault`, if that is given.
 inline Result<std::string> journal(
     const Config &config, Whole members, Span<const callauction_entry> entries, BadEntry *fault = nullptr) {
     callauction_config given{};
     std::uint32_t count = 0;
-    if (!detail::config_fits(config, given)) return Error::no_config;
-    if (!detail::fits(members, count)) return Error::bad_member;
+    if (const auto unfit = detail::filled(config, given)) return *unfit;
+    if (!detail::fits(members, count)) return Error::bad_members;
     std::string text(detail::piece, '\0');
     std::size_t written = 0;
     const auto answer = callauction_journal_day(&given, count, text.data(), text.size(), &written);
     const auto error = detail::error_of(answer);
-    if (error) return *error == Error::no_config ? Error::bad_range : *error; // all else of the config is one
+    if (error == Error::no_config) return Error::bad_range; // all else of it is a config
+    if (error == Error::bad_member) return Error::bad_members;
+    if (error) return *error;
     text.resize(written);
     if (const auto bad = detail::add_lines(text, entries, count, given.max_calls, fault)) return *bad;
     return text;
@@ -1312,7 +1320,7 @@ public:
     // say it, and Error::bad_reserve where there are more than the operator, to whom the reserve leaves no call.
     static Result<Board> open(Whole members, const Config &config) {
         callauction_config given{};
-        if (!detail::config_fits(config, given)) return Error::no_config;
+        if (const auto error = detail::filled(config, given)) return *error;
         const auto asked = static_cast<std::uint64_t>(std::int64_t{members});
         const std::size_t count = asked > max_members ? max_members + 1 : asked; // one too many, as any that is greater
         Board made(count);

@@ -93,7 +93,18 @@ void numbers_are_looked_at() {
     WANT(fault(ca::ReadTrade{-1}) == ca::Error::bad_number && auction.trades(-1).error() == ca::Error::bad_number);
     WANT(std::string_view(ca::text(ca::Error::bad_limit)) == "the limit is below 0, or above 4,294,967,295");
     WANT(*auction.calls() == 0);
-    WANT(ca::Auction::open({-1, 10, 5, 1, 1, {}}).error() == ca::Error::no_config);
+    const auto none = [](const ca::Config &config) {
+        const auto error = ca::Auction::open(config).error();
+        WANT(ca::Board::open(2, config).error() == error && ca::journal(config, 2, {nullptr, 0}).error() == error);
+        return error;
+    };
+    WANT(none({-1, 10, 5, 1, 1}) == ca::Error::bad_bounds && none({1, over, 5, 1, 1}) == ca::Error::bad_bounds);
+    WANT(none({1, 10, -5, 1, 1}) == ca::Error::bad_reference && none({1, 10, over, 1, 1}) == ca::Error::bad_reference);
+    WANT(none({1, 10, 5, -1, 1}) == ca::Error::bad_capacity && none({1, 10, 5, 1, over}) == ca::Error::bad_capacity);
+    WANT(none({1, 10, 5, 1, 1, -1}) == ca::Error::bad_range && none({1, 10, 5, 1, 1, over}) == ca::Error::bad_range);
+    WANT(none({1, 10, 5, 1, 1, {}, -1}) == ca::Error::bad_reserve);
+    WANT(none({1, 10, 5, 1, 1, {}, over}) == ca::Error::bad_reserve);
+    WANT(ca::Auction::open({1, 10, 5, 1, 1, over - 1, over - 1}));
     WANT(ca::Auction::open({1, 10, 11, 1, 1, {}}).error() == ca::Error::bad_reference);
     WANT(ca::Auction::open({1, 10, 5, 1, 0, {}}).error() == ca::Error::bad_capacity);
 }
@@ -351,7 +362,7 @@ void a_reserve_is_the_operators() {
     WANT(auction.apply(1, ca::Indicate{}).error() == ca::Error::full);
     WANT(auction.clone()->apply(2, ca::Indicate{}).error() == ca::Error::full && auction.config()->reserve == 2);
     WANT(reply<ca::Uncrossed>(auction.apply(0, ca::Uncross{})).auction == ca::AuctionKind::opening);
-    WANT(ca::Auction::open({1, 1000, 500, 10, 3, {}, -1}).error() == ca::Error::no_config);
+    WANT(ca::Auction::open({1, 1000, 500, 10, 3, {}, -1}).error() == ca::Error::bad_reserve);
     auto usual = ca::Board::open(2, {1, 1000, 500, 10, 17});
     WANT(usual && usual->member(0).state()->calls_left_to_members == 1);
     WANT(usual->member(1).call(ca::Indicate{}) && usual->member(1).call(ca::Indicate{}).error() == ca::Error::full);
@@ -434,7 +445,7 @@ void a_board_is_closed() {
     WANT(board.close().error() == ca::Error::no_member); // NOLINT: a moved-from board holds none
     for (const ca::Whole members : {-1, 0, 65, 1'000'000'000})
         WANT(ca::Board::open(members, day).error() == ca::Error::bad_members);
-    WANT(std::string_view(ca::text(ca::Error::bad_members)) == "a board has 1 to 64 members");
+    WANT(std::string_view(ca::text(ca::Error::bad_members)) == "a board has 1 to 64 members, and so has a journal");
     WANT(ca::Board::open(65, {1, 10, 11, 1, 1, {}}).error() == ca::Error::bad_reference);
     for (auto none : {moved.member(2), moved.member(-1), board.member(0)}) { // NOLINT: a moved-from board
         WANT(none.call(ca::Indicate{}).error() == ca::Error::no_member);
@@ -487,7 +498,7 @@ void lines_are_added_to_a_journal() {
     WANT(added && *added == "2,delete,1,refused 5 UnknownOrder\n");
     WANT(ca::journal(day, 3, first).value() + *added == ca::journal(day, *closing).value());
     WANT(ca::journal_lines(second, 2).error() == ca::Error::no_entry);
-    for (const ca::Whole members : {0, 65}) WANT(ca::journal_lines(second, members).error() == ca::Error::bad_member);
+    for (const ca::Whole members : {0, 65}) WANT(ca::journal_lines(second, members).error() == ca::Error::bad_members);
 }
 
 // A journal of a board's day, which is gone on with; and what is none.
@@ -524,13 +535,13 @@ void a_day_is_kept_as_a_journal() {
 void what_no_journal_holds() {
     const std::vector<callauction_entry> none;
     WANT(*ca::journal(day, 64, none) == "day,1,1000,500,64,10,100,50\n");
-    for (const ca::Whole members : {0, 65, -1}) WANT(ca::journal(day, members, none).error() == ca::Error::bad_member);
+    for (const ca::Whole members : {0, 65, -1}) WANT(ca::journal(day, members, none).error() == ca::Error::bad_members);
     WANT(ca::journal({1, 10, 11, 1, 1, {}}, 1, none).error() == ca::Error::bad_reference);
     const ca::Config far{1, 10, 5, 1, 1, 1'000'001};
     WANT(ca::Auction::open(far) && ca::journal(far, 1, none).error() == ca::Error::bad_range);
     WANT(*ca::journal({1, 10, 5, 1, 1, 1'000'000}, 1, none) == "day,1,10,5,1,1,1,1000000\n");
     WANT(ca::journal({1, 10, 11, 1, 1, 1'000'001}, 1, none).error() == ca::Error::bad_reference); // an opening's first
-    WANT(ca::journal({1, 10, -5, 1, 1, {}}, 1, none).error() == ca::Error::no_config);
+    WANT(ca::journal({1, 10, -5, 1, 1, {}}, 1, none).error() == ca::Error::bad_reference);
     std::vector<callauction_entry> entries(5000);
     auto auction = opened({1, 1000, 500, 10, 5000, {}});
     for (auto &entry : entries) { // more than a piece of text holds
