@@ -321,6 +321,41 @@ def test_a_wrong_path_is_named_with_its_variable(variable: str, tmp_path: pathli
     assert ran.stderr == f"install: {variable} names no {what}: /nowhere\n"
 
 
+OTHERS = {
+    "a text": "cambridge\n",
+    "another program": "#!/bin/sh\necho some tool\n",
+    "another version": "#!/bin/sh\necho callboard 2020.1.1\n",
+    "a program that fails": "#!/bin/sh\necho callboard VERSION\nexit 1\n",
+}
+"""What is named as the program, and isn't the library's; VERSION is that of the library."""
+
+
+@pytest.mark.parametrize("what", OTHERS)
+def test_a_program_that_is_not_the_librarys_is_refused(
+    what: str, built: dict[str, str], tmp_path: pathlib.Path
+) -> None:
+    own = version.version()
+    other = tmp_path / "other"
+    other.write_text(OTHERS[what].replace("VERSION", own))
+    other.chmod(0o644 if what == "a text" else 0o755)
+    env = built | {"CALLBOARD_PROGRAM": str(other)}
+    ran = run(TOP / "install", "--without-python", tmp_path / "own", env=env)
+    assert ran.returncode == 1 and not (tmp_path / "own").exists()
+    named = f"CALLBOARD_PROGRAM names no program of the library's version, {own}"
+    assert ran.stderr == f"install: {named}: {other}\n"
+
+
+def test_the_library_alone(built: dict[str, str], tmp_path: pathlib.Path) -> None:
+    """No program is asked for or built, nor is one that is named put there."""
+    env = built | {"CALLBOARD_PROGRAM": "/nowhere"}
+    words = [TOP / "install", "--without-program", "--without-python", tmp_path]
+    done(*words, env=env)
+    of_program = ("bin/", "share/man/", "share/bash-completion/")
+    assert files_below(tmp_path) == [it for it in FILES if not it.startswith(of_program)]
+    done(TOP / "install", "--remove", tmp_path, env=env)
+    assert files_below(tmp_path) == []
+
+
 def test_a_second_run_says_what_it_takes_away(
     built: dict[str, str], tmp_path: pathlib.Path
 ) -> None:
