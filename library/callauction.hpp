@@ -177,8 +177,8 @@ enum class JournalFault : std::uint32_t {
 inline const char *text(Error error) noexcept {
     switch (error) {
     case Error::no_tick_size: return "a tick size is a decimal number above 0, with at most nine decimals";
-    case Error::no_price: return "the price is no decimal number, or lies between two ticks";
-    case Error::no_tick: return "the tick is below 0, or its price isn't below 1,000,000,000";
+    case Error::no_price: return "the price is no decimal number, lies between two ticks, or above tick 4,294,967,295";
+    case Error::no_tick: return "the tick isn't from 0 to 4,294,967,295, or its price isn't below 1,000,000,000";
     case Error::bad_quantity: return "the quantity is below 0, or above what the call takes";
     case Error::bad_limit: return "the limit is below 0, or above 4,294,967,295";
     case Error::bad_peak: return "the peak is below 0, or above what the call takes";
@@ -272,7 +272,8 @@ struct Done {};
 
 // ---- prices in money
 
-// The prices of an instrument as ticks: tick t is t times the tick size. Nothing is rounded.
+// The prices of an instrument as ticks: tick t is t times the tick size. Nothing is rounded. Python's Ticks take the
+// same texts and ticks.
 //
 //     const auto cents = callauction::Ticks::by("0.01").value();
 //     auction.apply(1, callauction::Enter{callauction::Side::bid, 500, cents.of("199.75").value()});
@@ -286,18 +287,19 @@ public:
         return Ticks(*found);
     }
 
-    // The tick of a price in money, as "199.75". Error::no_price where that is no such number, or lies between two
-    // ticks.
+    // The tick of a price in money, as "199.75". Error::no_price where that is no such number, lies between two ticks,
+    // or has a tick above 4,294,967,295.
     Result<Whole> of(std::string_view price) const {
         const auto found = units_of(price);
-        if (!found || *found % size_ != 0) return Error::no_price;
+        if (!found || *found % size_ != 0 || *found / size_ > most_tick) return Error::no_price;
         return Whole(*found / size_);
     }
 
     // The price of a tick in money, exactly, with as many decimals as the tick size needs: "199.75", and "2.00" where
-    // that is 0.01. Error::no_tick where the tick is below 0, or its price isn't below 1,000,000,000.
+    // that is 0.01. Error::no_tick where the tick isn't from 0 to 4,294,967,295, or its price not below
+    // 1,000,000,000.
     Result<std::string> price(Whole tick) const {
-        if (tick < 0 || tick > (unit * unit - 1) / size_) return Error::no_tick;
+        if (tick < 0 || tick > most_tick || tick > (unit * unit - 1) / size_) return Error::no_tick;
         const std::int64_t money = tick * size_;
         std::size_t needed = decimals;
         for (std::int64_t rest = size_; needed > 0 && rest % 10 == 0; rest /= 10) needed--;
@@ -308,6 +310,7 @@ public:
 private:
     static constexpr std::size_t decimals = 9;
     static constexpr std::int64_t unit = 1'000'000'000; // of money, in billionths
+    static constexpr std::int64_t most_tick = std::numeric_limits<std::uint32_t>::max();
 
     explicit Ticks(std::int64_t size) : size_(size) {}
 

@@ -111,15 +111,18 @@ void numbers_are_looked_at() {
 
 void prices_in_money_are_ticks() {
     const auto cents = ca::Ticks::by("0.01").value();
+    WANT(cents.of("42949672.95").value() == 4'294'967'295);
     WANT(cents.of("199.75").value() == 19975 && cents.of("7").value() == 700 && cents.of("1.150000").value() == 115);
-    for (const char *price : {"199.755", "", ".", "1.", ".5", "-1", "1e2", "1,5", "1234567890", "0.0000000001"})
+    for (const char *price : {"199.755", "", ".", "1.", ".5", "-1", "1e2", "1,5", "1234567890", "0.0000000001",
+             " 1", "1 ", "+1", "-0", "42949672.96"})
         WANT(cents.of(price).error() == ca::Error::no_price);
     WANT(cents.of("00000000019.95").value() == 1995 && cents.of("0").value() == 0 && cents.of("00").value() == 0);
     const auto eighths = ca::Ticks::by("0.125").value();
     WANT(eighths.of("100.375").value() == 803 && !eighths.of("100.3").has_value());
-    for (const char *size : {"0", "0.0", "x", "", "-0.01", "0.0000000001"})
+    for (const char *size : {"0", "0.0", "x", "", "-0.01", "0.0000000001", "1000000000", " 1", "+1"})
         WANT(ca::Ticks::by(size).error() == ca::Error::no_tick_size);
-    WANT(ca::Ticks::by("0.000000001").value().of("999999999.999999999").value() == 999999999999999999);
+    WANT(ca::Ticks::by("0.000000001").value().of("4.294967295").value() == 4'294'967'295);
+    WANT(ca::Ticks::by("999999999").value().of("999999999").value() == 1);
     auto auction = opened({1, 65000, 20000, 10, 100, {}});
     reply<ca::Entered>(auction.apply(1, ca::Enter{ca::Side::bid, 5, cents.of("199.75").value()}));
     WANT(auction.orders()->at(0).limit == 19975);
@@ -133,8 +136,10 @@ void ticks_are_prices_in_money() {
     WANT(ca::Ticks::by("0.125").value().price(803).value() == "100.375");
     WANT(ca::Ticks::by("00.0500").value().price(3).value() == "0.15"); // as many decimals as the tick size needs
     const auto least = ca::Ticks::by("0.000000001").value();
-    WANT(least.price(999999999999999999).value() == "999999999.999999999");
-    for (const auto &none : {least.price(1'000'000'000'000'000'000), cents.price(-1), cents.price(INT64_MAX)})
+    WANT(least.price(4'294'967'295).value() == "4.294967295");
+    WANT(ca::Ticks::by("0.3").value().price(3'333'333'333).value() == "999999999.9");
+    WANT(ca::Ticks::by("0.3").value().price(3'333'333'334).error() == ca::Error::no_tick);
+    for (const auto &none : {least.price(4'294'967'296), cents.price(-1), cents.price(INT64_MAX)})
         WANT(none.error() == ca::Error::no_tick);
     WANT(ca::Ticks::by("999999999").value().price(2).error() == ca::Error::no_tick);
     for (const std::int64_t tick : {1, 99, 100, 123'456'789}) WANT(cents.of(cents.price(tick).value()).value() == tick);
