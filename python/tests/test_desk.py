@@ -758,3 +758,35 @@ def test_two_jumps_are_two_findings(
 
 def test_prices_have_the_digits_of_the_model() -> None:
     assert price_of(1005) == "10.05" and len(base_day().lawful) == 3
+
+
+@pytest.mark.parametrize("command", ["audit", "report"])
+def test_no_day_has_a_verdict_without_a_program(
+    command: str, tmp_path: Path, capsys: pytest.CaptureFixture[str],
+    monkeypatch: pytest.MonkeyPatch,
+) -> None:
+    """A lawful one neither: the hash that its rows say would be of nothing."""
+    monkeypatch.setenv("CALLBOARD", "/none")
+    day, out = tmp_path / "day.csv", tmp_path / "out"
+    day.write_text(text_of([dict(row) for row in base_day().rows]))
+    words = [command, str(day), "--reference", base_day().reference, "--tick-size", "0.01"]
+    assert main([*words, "-o", str(out)]) == 3
+    printed = capsys.readouterr()
+    assert printed.err == "callauction: CALLBOARD names no program: /none\n"
+    assert not printed.out and not out.exists()
+
+
+def test_what_is_not_judged_stands_in_the_totals(
+    tmp_path: Path, capsys: pytest.CaptureFixture[str]
+) -> None:
+    day, days = tmp_path / "day.csv", tmp_path / "days.csv"
+    names = ("DE1", "DE2", "DE3")
+    day.write_text(text_of([dict(row, isin=name) for name in names for row in base_day().rows]))
+    days.write_text(f"isin,reference,tick_size\nDE1,{base_day().reference},0.01\n")
+    words = ["audit", str(day), "--by", "isin", "--days", str(days)]
+    assert main(words) == 5
+    assert capsys.readouterr().out.splitlines()[0] == "not judged 2 of 3"
+    with days.open("a") as file:
+        file.writelines(f"{name},{base_day().reference},0.01\n" for name in names[1:])
+    assert main(words) == 0
+    assert "not judged" not in capsys.readouterr().out

@@ -22,7 +22,7 @@ from callauction import finder
 from callauction.course import Watch
 from callauction.market.names import guarded
 from callauction.prices import number_of
-from callauction.program import NO_JOURNAL, BadFileError, Day
+from callauction.program import NO_JOURNAL, BadFileError, Day, program
 from callauction.statuses import DONE
 from callauction.verdict import books, shapes
 from callauction.verdict.audits import audit_events, audit_journal, short_rows
@@ -32,7 +32,8 @@ from callauction.verdict.columns import (
 from callauction.verdict.events import plain_frame, rows_of
 from callauction.verdict.findings import MOST_BAD_ROWS, STATUSES, Verdict, counts_of
 from callauction.verdict.instruments import (
-    RECORD, TERMS, Audited, Days, Market, audited, days_of, frame_of, market_of, terms_of, worst_of,
+    FAULT, RECORD, TERMS, Audited, Days, Market, audited, days_of, frame_of, market_of, terms_of,
+    worst_of,
 )  # fmt: skip
 from callauction.verdict.judged import Coverage
 from callauction.verdict.reading import GZIP, Reading, Table, read_table
@@ -222,6 +223,7 @@ def found_in(content: bytes, asked: argparse.Namespace, watch: Watch) -> list[Au
 
 def audit_auctions(files: Mapping[str, bytes], asked: argparse.Namespace, watch: Watch) -> int:
     """Prints the verdict on auctions from their books: the status. Raises as audit."""
+    program()
     found = books.found_in(files, reading_of(asked), asked, watch)
     return show(found, asked, [*files.values()])
 
@@ -244,6 +246,7 @@ def audit(content: bytes, asked: argparse.Namespace, watch: Watch = iter) -> int
         table, reading = table_of(content, asked)
         print("\n".join(understood(table, reading, asked)))
         return DONE
+    program()  # where there is none no day is judged, as findings are told by it
     return show(found_in(content, asked, watch), asked, [content])
 
 
@@ -290,6 +293,8 @@ def _named(name: str, line: str) -> str:
 def _print_end(found: list[Audited]) -> int:
     """The counts and the verdict on all instruments together: the status."""
     sums = (sum(getattr(it, name) for it in found) for name in ("bad_rows", "findings", "doubtful"))
+    if open_ones := sum(it.name != "" and it.word == FAULT for it in found):
+        print(f"not judged {open_ones:,} of {sum(it.name != '' for it in found):,}")
     print("\n".join(counts_of(*sums)))
     names = dict.fromkeys(name for each in found for name in each.coverage.counts)
     print("\n".join(Coverage({name: _sum(found, name) for name in names}).lines()))
@@ -338,16 +343,15 @@ columns of each row.
 
 
 def facts_of(contents: Iterable[bytes], asked: argparse.Namespace) -> dict[str, str]:
-    """What a verdict on files is of and by (FACTS). Raises ShapeError and OSError."""
-    try:
-        program = finder.digest()
-    except OSError:
-        program = "none"
+    """What a verdict on files is of and by (FACTS). Raises ShapeError, OSError, and ProgramError
+    where there is no program.
+    """
+    digest = finder.digest(program())
     now = datetime.datetime.now(datetime.UTC).isoformat(timespec="seconds")
     every = [*contents, *(path.read_bytes() for path in _files_of(vars(asked)))]
     files = " ".join(hashlib.sha256(content).hexdigest() for content in every)
     command = shlex.join(["python3", "-P", "-m", "callauction", *asked.words])
-    return dict(zip(FACTS, (callauction.__version__, program, files, now, command)))
+    return dict(zip(FACTS, (callauction.__version__, digest, files, now, command)))
 
 
 def _files_of(options: Mapping[str, str | None]) -> Iterator[pathlib.Path]:
