@@ -37,7 +37,8 @@ figure { margin: 1rem 0; } img { width: 100%; max-width: 36rem; height: auto; }
 .bad { border-left: .4rem solid #b03a00; padding-left: .6rem; }
 @media screen and (min-width: 80rem) { .market thead th { white-space: nowrap; } }
 @media (max-width: 36rem) { body { padding: .6rem; font-size: .95rem; }
-  th, td { padding: .2rem .35rem; font-size: .85rem; } .wide .hint { display: inline; } }
+  th, td { padding: .2rem .35rem; font-size: .85rem; } .wide .hint { display: inline; }
+  #findings, #doubtful { min-width: 54rem; } }
 @page { margin: 1.5cm; }
 @media print { body { max-width: none; padding: 0; font-size: 10pt; } nav { display: none; }
   .wide { overflow: visible; } .wide .hint { display: none; }

@@ -4,6 +4,7 @@ mixed is refused with one line that says what to do, and a fault in one is found
 import io
 import os
 import re
+import zipfile
 from collections.abc import Callable
 from pathlib import Path
 from typing import Any
@@ -664,8 +665,18 @@ def test_thousands_that_are_not_said_are_read_as_no_decimals(
     assert (hint in capsys.readouterr().err) == (status == 5)
 
 
+def zipped(name: str) -> bytes:
+    """An archive of one file."""
+    out = io.BytesIO()
+    with zipfile.ZipFile(out, "w", zipfile.ZIP_DEFLATED) as archive:
+        archive.writestr(name, text_of(base_rows()))
+    return out.getvalue()
+
+
 @pytest.mark.parametrize("begin, words, line", [
     (b"\xd0\xcf\x11\xe0\xa1\xb1\x1a\xe1", [], "this is a workbook or an archive, and no text"),
+    (zipped("day.csv"), [], "this is a zip archive: unpack it, as gzip alone is read"),
+    (zipped("[Content_Types].xml"), [], "this is a workbook or an archive, and no text: save"),
     (b'[{"event": "new"}]', [], "this is JSON, XML or HTML, and no table: save it as CSV"),
     (b'\n {"event": "new"}', [], "this is JSON, XML or HTML, and no table: save it as CSV"),
     (b'<?xml version="1.0"?>', [], "this is JSON, XML or HTML, and no table: save it as CSV"),

@@ -252,3 +252,38 @@ def test_pages_of_instruments_have_links_to_one_another(tmp_path: Path) -> None:
     assert found[0] == [up, ("A_1-2.html", "next: A/1")]
     assert found[1] == [up, ("A_1.html", "before: A 1"), ("B.html", "next: B")]
     assert found[2] == [up, ("A_1-2.html", "before: A/1")]
+
+
+def test_days_are_listed_in_time_and_named_so(tmp_path: Path) -> None:
+    days = ["01.02.2026", "01.03.2026", "02.02.2026", "26.01.2026"]
+    rows = [dict(row, day=day) for day in days for row in small_day()]
+    frame_of(rows).to_csv(tmp_path / "days.csv", index=False)
+    path = tmp_path / "market.html"
+    words = ["report", str(tmp_path / "days.csv"), "--by", "day", "--reference", "10.00"]
+    assert main([*words, "--tick-size", "0.01", "-o", str(path)]) == 0
+    text = path.read_text(encoding="utf-8")
+    names = [cells[0] for cells in cells_of(text, "instruments")]
+    assert names == ["26.01.2026", "01.02.2026", "02.02.2026", "01.03.2026"]
+    assert ">4 days: <strong>4 lawful</strong>" in text and "instruments:" not in text
+
+
+def test_a_queue_of_which_a_part_is_shown_says_so() -> None:
+    """The first of 12 bids is passed over for the second; five more are shown on each side of
+    both.
+    """
+    own = dict(event="new", price="10.00", quantity="5")
+    rows: Rows = [
+        dict(own, order=f"B{at}", side="bid", time=f"8:{at}:00") for at in range(10, 22)
+    ]
+    made = dict(price="10.00", quantity="5", auction="opening", time="9:00:00")
+    rows += [
+        dict(own, order="S", side="ask", time="8:30:00"),
+        dict(event="uncross", **made, side="bid", surplus="55", trades="1"),
+        dict(event="trade", **made, bid="B11", ask="S"),
+    ]
+    text = page.html_of(verdict_of(rows, reference="10", auctions=["opening"]), "day")
+    captions = re.findall(r"<caption><span>(The queue[^<]*)<", text)
+    assert captions == [
+        "The queue: open before the uncross, recorded and lawful shares; 7 of 12 bids are here"
+    ]
+    assert len(cells_of(text, "queue-1-table")) == 7 + 1

@@ -130,6 +130,10 @@ class Verdict:
         found = queue_of(context, difference.keys, around)
         return found[:0] if difference.auction else found
 
+    def queued(self, finding: Finding) -> dict[str, int]:
+        """How many orders are in the queue of each side, of which `queue` has those around."""
+        return {side: len(those) for side, those in finding._of[0].queues.items()}
+
     def orders(self) -> pandas.DataFrame:
         """The orders that the rules accept, with what became of each (orders.ORDERS)."""
         return orders_of(self.judgement, self.rows, self.rules)

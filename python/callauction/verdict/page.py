@@ -26,6 +26,7 @@ from callauction.verdict.instruments import FAULT, Audited, Market
 from callauction.verdict.judged import Judged, Rules
 from callauction.verdict.orders import members_of
 from callauction.verdict.rows import INTERRUPTED
+from callauction.verdict.times import seconds
 
 MOST_FIRST = 12
 """How many findings the first page shows; the others follow below."""
@@ -127,7 +128,11 @@ def _finding(verdict: Verdict, finding: Finding, others: str) -> str:
     text += f"<p>For this reason {html.escape(others)}.</p>" if others else ""
     queue = verdict.queue(finding).astype("object")
     queue["price"] = _limits(queue["price"], verdict.rules)
+    shown, queued = queue["side"].value_counts(), verdict.queued(finding)
+    more = [f"{shown.get(side, 0):,} of {counted(many, side)}" for side, many in queued.items()
+            if shown.get(side, 0) < many]  # fmt: skip
     caption = "The queue: open before the uncross, recorded and lawful shares"
+    caption += f"; {' and '.join(more)} are here" if more else ""
     name = mark_of(finding).replace("finding", "queue")
     table = html_table(queue, caption, f"{name}-table", QUEUED) if len(queue) else ""
     where = ", ".join(filter(None, [f"row {finding.row}", finding.time, finding.auction]))
@@ -278,7 +283,9 @@ def write_market(
     which are linked. `watch` is given the instruments, then the pages. Raises ProgramError and
     OSError.
     """
-    found = sorted(market.one_by_one(None, watch), key=lambda each: ORDER.index(each.word))
+    dates = market.table.dates
+    found = sorted(market.one_by_one(None, watch),
+                   key=lambda each: (ORDER.index(each.word), _in_time(each.name, dates)))
     folder, files = path.with_suffix(""), dict[str, str]()
     names = [each.name for each in found if each.word not in (LAWFUL, FAULT)]
     for name in names:
@@ -291,7 +298,13 @@ def write_market(
         text = html_of(market.verdict(name), f"{title}: {name}", iter, facts, pages)
         (folder / files[name]).write_text(text, encoding="utf-8")
     links = {name: f"{quote(folder.name)}/{file}" for name, file in files.items()}
-    path.write_text(_market_html(found, title, facts, links), encoding="utf-8")
+    path.write_text(_market_html(found, title, facts, links, dates), encoding="utf-8")
+
+
+def _in_time(name: str, dates: str) -> list[tuple[Decimal, str]]:
+    """By what names are sorted, which may have several parts: dates by time, above others."""
+    found = [(seconds(f"{part} 0:00", dates), part) for part in name.split(",")]
+    return [(Decimal("Infinity") if at is None else at, part) for at, part in found]
 
 
 def _file_name(name: str, taken: set[str]) -> str:
@@ -311,18 +324,21 @@ def _first_line(each: Audited) -> str:
 
 
 def _market_html(
-    found: list[Audited], title: str, facts: Mapping[str, str], links: Mapping[str, str]
+    found: list[Audited], title: str, facts: Mapping[str, str], links: Mapping[str, str], dates: str
 ) -> str:
-    """The page of instruments in this order."""
+    """The page of instruments, or of days alone, in this order."""
     words = [each.word for each in found]
     counts = ", ".join(f"{words.count(word):,} {word}" for word in ORDER if word in words)
     look = "good" if {*words} == {LAWFUL} else "bad"
-    text = f'<p class="{look}">{counted(len(found), "instrument")}: <strong>{counts}</strong>.</p>'
+    are_days = all(seconds(f"{each.name} 0:00", dates) is not None for each in found)
+    noun = "day" if are_days else "instrument"
+    text = f'<p class="{look}">{counted(len(found), noun)}: <strong>{counts}</strong>.</p>'
     rows = [
         (each.name or "(none)", each.word, each.findings, each.doubtful, each.bad_rows,
          "{:,} of {:,}".format(*each.coverage.total), _first_line(each))
         for each in found
     ]  # fmt: skip
-    frame = pandas.DataFrame(rows, columns=["instrument", *LISTED])
-    text += html_table(frame, "Instruments", "instruments", LISTED[1:4], links, len(rows))
+    frame = pandas.DataFrame(rows, columns=[noun, *LISTED])
+    caption = f"{noun.title()}s"
+    text += html_table(frame, caption, "instruments", LISTED[1:4], links, len(rows))
     return html_page(title, [("Verdict", text), *evidence_parts(facts)], "desk market")

@@ -39,8 +39,10 @@ NO_ROWS = "files with a header and no rows"
 LEFT_OUT = "trades, fills and results that don't meet --where"
 NO_TOTALS = "totals, which aren't read, in row {}"
 TOO_EARLY = "orders entered before the time of --where (what of them stands is in no book)"
-_BOOKS = (b"PK\3\4", b"\xd0\xcf\x11\xe0")
+_ARCHIVE, _BOOK = b"PK\3\4", b"\xd0\xcf\x11\xe0"
 """How an archive begins, as a workbook is one, and how an older workbook does."""
+_SHEETS = b"[Content_Types].xml"
+"""A file that each workbook holds, whose name isn't packed."""
 _PACKED = {b"BZh": "bzip2", b"\xfd7zXZ\x00": "xz", b"\x28\xb5\x2f\xfd": "zstd", b"7z\xbc\xaf": "7z"}
 _PICTURES = (b"%PDF-", b"\x89PNG", b"\xff\xd8\xff", b"GIF8")
 _MARK = b"\xef\xbb\xbf"
@@ -496,7 +498,9 @@ def _whole_letters(content: bytes) -> bytes:
 
 def _look_at_bytes(content: bytes) -> None:
     """Raises ExtractError for bytes that are no text, whatever their encoding."""
-    if content.startswith(_BOOKS):
+    if content.startswith(_ARCHIVE) and _SHEETS not in content:
+        raise ExtractError("this is a zip archive: unpack it, as gzip alone is read")
+    if content.startswith((_ARCHIVE, _BOOK)):
         raise ExtractError("this is a workbook or an archive, and no text: save the sheet as CSV")
     packed = next((name for sign, name in _PACKED.items() if content.startswith(sign)), "")
     if packed:
