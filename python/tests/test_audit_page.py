@@ -1,4 +1,8 @@
 """docs/AUDIT.md: its extract is the stored one, and prints what the page says."""
+import csv
+import pathlib
+import re
+
 import pytest
 from callauction.__main__ import main
 from extracts import TOP
@@ -29,3 +33,14 @@ def test_the_page_shows_the_stored_extract_and_its_verdict(
     shown = command.replace("\\\n", " ").replace("'", "").split()
     assert shown[:5] == ["python3", "-P", "-m", "callauction", "audit"]
     assert shown[5:] == ["examples/extracts/german.csv", *words]
+
+
+def test_the_columns_of_findings_are_described(tmp_path: pathlib.Path) -> None:
+    page = (TOP / "examples/README.md").read_text(encoding="utf-8")
+    table = page.partition("## Findings in a file\n")[2]
+    cells = [line.split("|")[1] for line in table.splitlines() if line.startswith("| `")]
+    words = EXTRACT.with_suffix(".args").read_text(encoding="utf-8").split()
+    found = tmp_path / "found.csv"
+    assert main(["audit", str(EXTRACT), *words, "--findings", str(found)]) == 4
+    [header, *rows] = csv.reader(found.read_text(encoding="utf-8").splitlines())
+    assert header == re.findall("`(.*?)`", "".join(cells)) and rows
