@@ -11,6 +11,7 @@ import served
 from browsing import SCREEN, Page, enters, joins, opened
 from callauction.venue import Client
 from conftest import FAST
+from test_rounds import VALUES, trade
 
 DAY = f"""
 title = "Rounds"
@@ -464,4 +465,27 @@ def test_who_joins_late_lacks_a_value(tmp_path: pathlib.Path) -> None:
             venue.do("give", how="chance", low="1.00", high="3.00", quantity=10, to="new")
             teacher.waits(lambda it: not it.shows("lacking"))
             assert "no value" not in row_of(teacher, "Dora")
+            assert teacher.errors() == []
+
+
+def places(page: Page) -> dict[str, str]:
+    """The places of the members by their gains, by name."""
+    return {row[1]: row[0] for row in page.rows("members")}
+
+
+def test_who_was_removed_has_no_place(tmp_path: pathlib.Path) -> None:
+    """The others move up, as on the screen."""
+    carl = {"member": "Carl", "side": "bid", "price": "1.00", "quantity": 10}
+    with served.served(tmp_path, FAST) as venue:
+        anna, bert = venue.join("Anna"), venue.join("Bert")
+        venue.join("Carl")
+        venue.do("give", values=[*VALUES, carl])
+        trade(venue, anna, bert, "2.10")
+        gains = {"Bert": "6.00", "Anna": "4.00", "Carl": "0.00"}
+        with opened(tmp_path / "it", f"{venue.url}teacher#{venue.operator}", SCREEN) as teacher:
+            teacher.clicks("#tab-class")
+            teacher.waits(lambda it: places(it) == {"Bert": "1", "Anna": "2", "Carl": "3"})
+            venue.do("remove", member="Bert")
+            teacher.waits(lambda it: places(it) == {"Bert": "", "Anna": "1", "Carl": "2"})
+            assert {name: row_of(teacher, name)[4] for name in gains} == gains
             assert teacher.errors() == []

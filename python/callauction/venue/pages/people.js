@@ -9,6 +9,9 @@ const KEYS = {
   value: (it) => Number(it.value?.price ?? -1), gain: (it) => Number(it.gain ?? -Infinity),
 };
 
+// Whether a row is of a member that is still in the venue, and has a gain.
+const hasPlace = (row) => !row.is_removed && row.gain != null;
+
 export class People {
   // `act` does what is asked for.
   constructor(act) {
@@ -41,14 +44,14 @@ export class People {
     put(find("arrivals"), texts.join("\n"));
   }
 
-  // The members with what they have, by their gains or as the teacher sorts them.
+  // The members with what they have, by their gains or as the teacher sorts them. Who was removed has no place.
   ranked(chosen) {
     const rows = this.members.map((it) => ({ ...it, ...valueOf(it, chosen) }));
-    const gains = rows.filter((it) => it.gain != null).map((it) => Number(it.gain));
+    const gains = rows.filter(hasPlace).map((it) => Number(it.gain));
     const isRanked = gains.some((it) => it !== gains[0]);
     for (const row of rows) {
       const before = gains.filter((it) => it > Number(row.gain)).length;
-      row.rank = isRanked && row.gain != null ? String(1 + before) : "";
+      row.rank = isRanked && hasPlace(row) ? String(1 + before) : "";
     }
     const { by, isDown } = this.sorted;
     if (!by) return rows;
