@@ -5,7 +5,7 @@ import callauction
 import pandas
 import pytest
 from callauction import RecordedAuction, Side
-from callauction.gains import GAINED, GAINS, gains_of, most_possible
+from callauction.gains import gains_of, most_possible
 from days import EXAMPLES, day_of
 from hypothesis import given, settings, strategies
 
@@ -20,10 +20,12 @@ def test_a_worked_auction() -> None:
         auction.uncross()
         found = gains_of(auction, {1: 210, 2: 195})
     # The price is 206: 100 shares and no surplus, while 200 and 203 leave 50.
-    assert found.orders.columns.tolist() == [*GAINS]
+    assert found.orders.columns.tolist() == [
+        "order", "member", "side", "value", "offered", "traded", "gain"
+    ]
     assert found.orders["value"].tolist() == [210, 195, 203]
     assert found.orders["gain"].tolist() == [400, 1100, 0]
-    assert found.members.columns.tolist() == [*GAINED]
+    assert found.members.columns.tolist() == ["member", "bought", "sold", "gain"]
     assert found.members.to_numpy().tolist() == [[1, 100, 0, 400], [2, 0, 100, 1100], [3, 0, 0, 0]]
     assert (found.total, found.possible, found.efficiency) == (1500, 1500, 1)
     assert str(found) == "gain 1,500 of 1,500 possible, efficiency 100.0%"

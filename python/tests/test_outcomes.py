@@ -4,9 +4,6 @@ import pytest
 from arrayed import array_of
 from callauction import Restriction, Side
 from callauction.outcomes import (
-    MEMBERS,
-    OUTCOMES,
-    QUEUE,
     HasDay,
     Played,
     members_of,
@@ -20,6 +17,33 @@ from hypothesis import given, settings, strategies
 from checks.model import day as model
 from checks.model.files import journal
 
+KINDS = {
+    "order": "int64",
+    "command": "int64",
+    "member": "int64",
+    "side": "object",
+    "quantity": "int64",
+    "limit": "Int64",
+    "peak": "Int64",
+    "only": "object",
+    "offered": "int64",
+    "traded": "int64",
+    "paid": "int64",
+    "better": "Int64",
+    "open": "int64",
+    "became": "object",
+}
+"""The columns of outcomes: what may be missing, as an order's limit, has a type that says so."""
+QUEUED = {
+    "order": "int64",
+    "member": "int64",
+    "side": "object",
+    "limit": "Int64",
+    "quantity": "int64",
+    "visible": "int64",
+    "executed": "int64",
+}
+"""The columns of a queue."""
 KEPT = [
     "order", "member", "side", "quantity", "offered", "traded", "paid", "better", "open", "became"
 ]  # fmt: skip
@@ -85,7 +109,9 @@ def test_restricted_orders_lapse_or_wait() -> None:
 
 def test_members_have_a_row_each() -> None:
     found = members_of(outcomes_of(day_of(next(f for f in EXAMPLES if f.stem == "day"))))
-    assert found.columns.tolist() == [*MEMBERS]
+    assert found.columns.tolist() == [
+        "member", "orders", "entered", "bought", "sold", "better"
+    ]
     assert found.to_numpy().tolist() == [[1, 2, 130, 120, 0, 400], [2, 2, 120, 0, 120, 0]]
 
 
@@ -139,8 +165,8 @@ def test_random_days_agree_with_the_rules(
         if not state.kind():
             return
         queue = queue_of(auction)
-    assert {name: str(kind) for name, kind in found.dtypes.items()} == OUTCOMES
-    assert {name: str(kind) for name, kind in queue.orders.dtypes.items()} == QUEUE
+    assert {name: str(kind) for name, kind in found.dtypes.items()} == KINDS
+    assert {name: str(kind) for name, kind in queue.orders.dtypes.items()} == QUEUED
     assert found["order"].tolist() == [*range(1, state.next_id)]
     shares = dict.fromkeys(range(1, state.next_id), 0)
     paid = dict(shares)

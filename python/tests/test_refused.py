@@ -22,8 +22,8 @@ from callauction import (
     Uncross,
     reply_of,
 )
-from callauction.refused import REFUSALS
 
+COLUMNS = {"place": "int64", "refusal": "int64", "name": "object"}
 GIVEN: list[tuple[int, Command]] = [
     (1, Enter(Side.BID, 500, 200)),
     (1, Enter(Side.BID, 500, 2000)),
@@ -38,7 +38,7 @@ def test_refused_commands_have_a_row_each() -> None:
     with Auction() as auction:
         replies = auction.apply_many(commands)
     found = callauction.refusals(replies)
-    assert {name: str(kind) for name, kind in found.dtypes.items()} == REFUSALS
+    assert {name: str(kind) for name, kind in found.dtypes.items()} == COLUMNS
     assert found.to_numpy().tolist() == [
         [1, 2, "BAD_LIMIT"], [3, 5, "UNKNOWN_ORDER"], [4, 6, "NOT_OPERATOR"]
     ]
@@ -53,7 +53,7 @@ def test_the_receipts_of_a_member_are_replies_too() -> None:
         receipts = board[1].apply_many(given)
     assert receipts.dtype == RECEIPT
     found = callauction.refusals(receipts, given)
-    assert {name: str(found[name].dtype) for name in REFUSALS} == REFUSALS
+    assert {name: str(found[name].dtype) for name in COLUMNS} == COLUMNS
     assert found.to_numpy().tolist() == [
         [1, 2, "BAD_LIMIT", 1, "ENTER"],
         [4, 6, "NOT_OPERATOR", 1, "UNCROSS"],
@@ -76,7 +76,7 @@ def test_the_receipts_before_an_error_are_replies_too() -> None:
 
 def test_a_day_without_refusals_has_an_empty_table() -> None:
     found = callauction.refusals(numpy.zeros(0, REPLY))
-    assert found.empty and found.columns.tolist() == [*REFUSALS]
+    assert found.empty and found.columns.tolist() == ["place", "refusal", "name"]
     assert callauction.refusals(numpy.zeros(0, REPLY), numpy.zeros(0, COMMAND)).empty
 
 

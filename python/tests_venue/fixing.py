@@ -19,6 +19,10 @@ AGAIN = {"D", "F", "G", "H", "V", "q", "AF", "g", "x"}
 """The types of messages that are sent again."""
 SESSION = "0124A"
 """The types of messages of the session itself that nobody has to be shown."""
+IS_REMOVED = "the operator has removed this member, whose orders are cancelled"
+"""What the last message to a member says whom the operator removes."""
+NOT_DONE = "it wasn't executed before its venue or program ended, and a gap came in its place"
+"""Why a command is refused that a client doesn't send again after a fault."""
 DAY = """
 sync = {sync}
 [phases]

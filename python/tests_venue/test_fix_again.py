@@ -9,7 +9,6 @@ import fixing
 import psutil
 import pytest
 import served
-from callauction.fix.refusals import OTHER_DAY, USED
 from callauction.fix.reports import MOST_AGE
 from fixing import Message, Pairs, Peer
 from test_fix_operator import reset
@@ -91,6 +90,9 @@ def test_a_reject_is_sent_again(tmp_path: pathlib.Path) -> None:
         assert told.items() <= again.take(lambda it: it[35] == "3").items()
 
 
+OTHER_DAY = "it was sent first before this day began: empty your store each day"
+IS_USED = "this ClOrdID was used"
+"""What is said of an order that is sent again with 97=Y, and without."""
 CANCEL: Pairs = [(41, "none"), (11, "f1"), (55, "XYZ"), (54, "1"), (60, TIME)]
 REFUSED: dict[str, tuple[str, Pairs]] = {
     "by the venue": ("D", order("a1", "1", "10", (40, "1"), (59, "3"))),
@@ -126,14 +128,14 @@ def test_what_was_refused_and_is_sent_again(tmp_path: pathlib.Path) -> None:
             day.again()
             peer.logon(fixing.token_of(folder, "ALICE"))
             assert {it: told(peer, it, (97, "Y")) for it in REFUSED} == first
-            assert {told(peer, it)[8] for it in REFUSED} == {USED}
+            assert {told(peer, it)[8] for it in REFUSED} == {IS_USED}
             peer.close()
             assert reset(day.venue, "ALICE")[0] == 200
             peer = Peer(port, "ALICE")
             peer.logon(fixing.token_of(folder, "ALICE"))
             peer.all()
         other = answer(peer, "D", order("f1", "1", "10", (40, "1")), [(97, "Y")])
-        assert picked(other, 150, 103, 58) == ("8", "6", USED)
+        assert picked(other, 150, 103, 58) == ("8", "6", IS_USED)
 
 
 class Former(Peer):

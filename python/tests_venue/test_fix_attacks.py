@@ -15,11 +15,10 @@ import fixing
 import psutil
 import pytest
 import served
-from callauction.fix.connections import REMOVED
 from callauction.fix.wires import ANSWER_SECONDS
 from callauction.venue.gates import STUCK_SECONDS
 from callauction.venue.passing import IN_VAIN_SECONDS, SLICE
-from fixing import SOH, Closed, Pairs, Peer
+from fixing import IS_REMOVED, SOH, Closed, Pairs, Peer
 from patience import TIMED
 from served import Served
 from test_operations import certificate
@@ -388,7 +387,7 @@ def test_a_wrong_sum_is_passed_over_and_asked_for_again(front: Fronted) -> None:
 def test_a_removed_member_is_off(front: Fronted) -> None:
     peer = front.peer("BOB")
     front.venue.do("remove", member="BOB")
-    assert peer.take(lambda it: it[35] == "5")[58] == REMOVED
+    assert peer.take(lambda it: it[35] == "5")[58] == IS_REMOVED
     with pytest.raises(Closed):
         peer.take(lambda it: False, 20.0)
     number = peer.number

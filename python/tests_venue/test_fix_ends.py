@@ -11,9 +11,9 @@ import fixing
 import psutil
 import pytest
 import served
-from callauction.fix.connections import LOGOUT_SECONDS, REMOVED
-from callauction.fix.resets import ENDS, LEAVE_SECONDS, RESET
-from fixing import Closed, Message, Pairs, Peer
+from callauction.fix.connections import LOGOUT_SECONDS
+from callauction.fix.resets import LEAVE_SECONDS
+from fixing import IS_REMOVED, Closed, Message, Pairs, Peer
 from patience import TIMED
 from test_fix_operator import day_with_copy, reset
 from test_fix_requests import until_logged
@@ -21,6 +21,7 @@ from test_fix_venue import on
 from test_hangs import ends_in_time
 
 ORDERS = 100
+IS_RESET = "the operator resets this session: begin at 1 with an empty store"
 
 
 def last_of(peer: Peer) -> list[Message]:
@@ -46,7 +47,9 @@ def test_the_end_of_the_venue(tmp_path: pathlib.Path) -> None:
         peers[0].take(lambda it: it.get(11) == "a1")
         venue.child.terminate()
         for peer in (copy, *peers):
-            assert [(it[35], it[58]) for it in last_of(peer)] == [("5", ENDS)]
+            assert [(it[35], it[58]) for it in last_of(peer)] == [
+                ("5", "the venue ends: what was answered stays")
+            ]
         venue.child.wait(served.SECONDS)
 
 
@@ -60,7 +63,7 @@ def test_a_removed_member_is_told_of_its_orders_first(tmp_path: pathlib.Path) ->
         venue.do("remove", member="ALICE")
         *reports, last = last_of(peer)
         assert [(it[11], it[150]) for it in reports] == [("a1", "4"), ("a2", "4")]
-        assert (last[35], last[58]) == ("5", REMOVED)
+        assert (last[35], last[58]) == ("5", IS_REMOVED)
 
 
 def test_a_logout_is_answered_after_what_was_said_before(tmp_path: pathlib.Path) -> None:
@@ -108,7 +111,7 @@ def test_a_session_that_is_reset_is_told_so(tmp_path: pathlib.Path) -> None:
     with on(tmp_path, fixing.day_of(port, "ALICE"), port, "ALICE") as (venue, [peer]):
         with concurrent.futures.ThreadPoolExecutor() as pool:
             answer = pool.submit(reset, venue, "ALICE")
-            assert last_of(peer)[-1][58] == RESET
+            assert last_of(peer)[-1][58] == IS_RESET
             peer.say("5", [])
             assert answer.result()[0] == 200
         again = Peer(port, "ALICE")
@@ -191,7 +194,7 @@ def test_an_order_of_a_removed_member_is_refused(tmp_path: pathlib.Path) -> None
     with on(tmp_path, fixing.day_of(port, "ALICE"), port, "ALICE") as (venue, [peer]):
         venue.do("start")
         venue.do("remove", member="ALICE")
-        assert last_of(peer)[-1][58] == REMOVED
+        assert last_of(peer)[-1][58] == IS_REMOVED
         peer.enter("late", "1", 10, "2.00")
         found = peer.take(lambda it: it.get(11) == "late")
         assert (found[150], found[39], found[37]) == ("8", "8", "NONE") and found[58]
@@ -205,7 +208,7 @@ def test_an_order_after_the_logout_of_a_reset(tmp_path: pathlib.Path) -> None:
         venue.do("start")
         with concurrent.futures.ThreadPoolExecutor() as pool:
             answer = pool.submit(reset, venue, "ALICE")
-            assert last_of(peer)[-1][58] == RESET
+            assert last_of(peer)[-1][58] == IS_RESET
             peer.enter("late", "1", 10, "2.00")
             assert peer.take(lambda it: it.get(11) == "late")[17] == "XYZ.1"
             peer.say("5", [])

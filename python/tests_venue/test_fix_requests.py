@@ -11,9 +11,7 @@ import fixing
 import psutil
 import pytest
 import served
-from callauction.fix.commands import GONE
-from callauction.fix.seats import NOT_DONE
-from fixing import Message, Pairs, Peer
+from fixing import NOT_DONE, Message, Pairs, Peer
 from test_fix_venue import on, reports
 
 TWO = '[[instrument]]\nname = "XYZ"\n[[instrument]]\nname = "ABC"\ntitle = "Abc Inc."\n'
@@ -437,7 +435,8 @@ def test_orders_end_with_their_connection(tmp_path: pathlib.Path) -> None:
         alice.logon(fixing.token_of(folder, "ALICE"), (8013, "Y"))
         seen = settled(alice, 3)
         cancelled = [it for it in seen if it[150] == "4"]
-        assert {(it[11], it[58]) for it in cancelled} == {(it, GONE) for it in ("a1", "a2", "a3")}
+        why = "the connection has ended, or its venue: CancelOrdersOnDisconnect (8013=Y)"
+        assert {(it[11], it[58]) for it in cancelled} == {(it, why) for it in ("a1", "a2", "a3")}
         alice.enter("a4", "1", 40, "2.00")
         alice.take(lambda it: it.get(11) == "a4")
         day.again()

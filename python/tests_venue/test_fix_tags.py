@@ -11,9 +11,8 @@ import psutil
 import pytest
 import served
 from callauction.fix.feeds import phase_of
-from callauction.fix.seats import NOT_DONE
 from callauction.venue.phases import Phase
-from fixing import Message, Pairs, Peer
+from fixing import NOT_DONE, Message, Pairs, Peer
 from test_fix_requests import ask_data, killable, rows, until_logged
 from test_fix_venue import on
 

@@ -22,7 +22,6 @@ from callauction.venue import (
 from callauction.venue.audience import MOST_CONNECTIONS
 from callauction.venue.config import DayTerms, InstrumentTerms, Plan
 from callauction.venue.gates import Gates
-from callauction.venue.halts import LATER
 from callauction.venue.http import Site
 from callauction.venue.log import ChangedByOthers, Log, SlowWrite
 from callauction.venue.members import Member, NameTakenError
@@ -31,6 +30,7 @@ from callauction.venue.metrics import Measures
 from callauction.venue.venue import Venue
 
 pytestmark = pytest.mark.asyncio
+IS_DONE_LATER = "the venue has halted; this is done once it goes on"
 
 
 @pytest_asyncio.fixture
@@ -239,7 +239,7 @@ async def test_who_joins_as_the_log_fails_is_answered(inside: Venue) -> None:
     log, other = inside.folder / "venue.log", inside.folder / "moved"
     await inside.log.written()
     log.rename(other)
-    for text in (LATER, "the venue has halted; nothing was done"):
+    for text in (IS_DONE_LATER, "the venue has halted; nothing was done"):
         with pytest.raises(MessageError) as found:
             await inside.join(code, "Anna")
         assert (found.value.code, found.value.text) == ("halted", text)
@@ -281,7 +281,7 @@ async def test_what_the_operator_wants_as_the_log_fails_is_answered(inside: Venu
     log.rename(other)
     with pytest.raises(MessageError) as found:
         await teaching.done(inside, {"do": "door", "open": False})
-    assert (found.value.code, found.value.text) == ("halted", LATER)
+    assert (found.value.code, found.value.text) == ("halted", IS_DONE_LATER)
     other.rename(log)
     await inside.starts.resume()
     assert not inside.members.codes.is_open and '"kind":"door"' in log.read_text()
@@ -296,7 +296,7 @@ async def test_who_is_let_in_as_the_log_fails_is_answered(inside: Venue) -> None
     async with asyncio.timeout(served.SECONDS):
         with pytest.raises(MessageError) as found:
             await inside.admit("Bank", "a token")
-        assert (found.value.code, found.value.text) == ("halted", LATER)
+        assert (found.value.code, found.value.text) == ("halted", IS_DONE_LATER)
         with pytest.raises(MessageError) as found:
             await inside.groups.next_round(2, inside.day.treatment(2))
         assert found.value.text == "the venue has halted; nothing was done"

@@ -10,7 +10,7 @@ from callauction.venue import recovery
 from callauction.venue.engine import Engine
 from callauction.venue.log import Log
 from callauction.venue.process import Process
-from callauction.venue.recovery import OTHER_ENTRIES, Entry, Mark
+from callauction.venue.recovery import Entry, Mark
 
 pytestmark = pytest.mark.asyncio
 COUNT = 20_000
@@ -111,5 +111,7 @@ async def test_what_others_changed_is_told_beside_the_loop(
     halts: list[Any] = []
     engine.on_change = lambda: halts.append(engine.halted)
     await engine.look()
-    assert halts == [OTHER_ENTRIES]
+    assert halts == [
+        "the journal is another one: its entries differ from the day's from the first on"
+    ]
     assert read.threads and threading.get_ident() not in read.threads

@@ -15,7 +15,13 @@ import pytest
 import served
 from callauction.venue import AsyncClient, Client
 from callauction.venue.recovery import (
-    LONGER, Entry, Mark, RecoveryError, RolledBackError, Sum, known_entries, mark_of,
+    Entry,
+    Mark,
+    RecoveryError,
+    RolledBackError,
+    Sum,
+    known_entries,
+    mark_of,
 )
 from callauction.venue.venue import LOOK_SECONDS
 from conftest import FAST
@@ -78,7 +84,10 @@ def test_a_journal_whose_entries_differ_from_the_first_on(count: int) -> None:
 
 
 @pytest.mark.parametrize("behind, said", [
-    ("1,delete,4,deleted\n1,delete,5,deleted", LONGER.format(5, 3)),
+    (
+        "1,delete,4,deleted\n1,delete,5,deleted",
+        "the journal is a longer one: it has 5 entries, and the log knows of 3",
+    ),
     ("1,delete,4,deleted\nmy notes\n", ""),  # which the program calls damaged
     ("", ""),
 ])
