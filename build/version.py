@@ -1,7 +1,8 @@
 #!/usr/bin/env python3
-"""The version: `build/version.py [--release]` prints it. It is written in one place, the source of
-the program, which prints it for --version; all else is made from there, and CHANGELOG.md is
-compared with it. With --release it has the commit, as 2026.11.26+g8026dcd.
+"""The version: `build/version.py [--release]` prints it as the source of the program has it, which
+prints it for --version; packages and pages are made from there. It is typed in the library's
+header, in callauction/__init__.py and in CHANGELOG.md too, which tests compare with that. With
+--release it has the commit, as 2026.11.26+g8026dcd.
 """
 import pathlib
 import re
