@@ -49,8 +49,8 @@ def test_a_class_behind_one_address(caplog: pytest.LogCaptureFixture) -> None:
     clock = Clock()
     found = Arrivals(40, clock)
     assert [came(found, "10.0.0.1", f"member {it}") for it in range(40)] == [True] * 40
-    assert not found.has_changed() and not came(found, "10.0.0.1")
-    assert found.has_changed() and not found.has_changed()
+    assert not found.take_change() and not came(found, "10.0.0.1")
+    assert found.take_change() and not found.take_change()
     assert found.slowed() == {"10.0.0.1": [f"member {it}" for it in range(40)]}
     assert came(found, "10.0.0.2") and came(found, "")
     clock.now += arrivals.PAUSE + 0.01
@@ -60,7 +60,7 @@ def test_a_class_behind_one_address(caplog: pytest.LogCaptureFixture) -> None:
         "joins from 10.0.0.1 are slowed: 40 members came from there, lastly member 35, "
         f"member 36, member 37, member 38, member 39; {DO}")
     clock.now += arrivals.SLOW_SECONDS
-    assert found.slowed() == {} and found.has_changed()
+    assert found.slowed() == {} and found.take_change()
     clock.now += 41 * arrivals.PAUSE
     assert [came(found, "10.0.0.1") for _ in range(41)] == [True] * 40 + [False]
     assert len(found.slowed()["10.0.0.1"]) == 40

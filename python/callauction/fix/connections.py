@@ -76,7 +76,7 @@ class Connections:
             return False
         if not seat.takes(password.decode("latin-1")):
             return False
-        if (wire := self.on.get(seat)) is not None and wire.is_to_answer():
+        if (wire := self.on.get(seat)) is not None and wire.expect_answer():
             self.outbound.send(seat, Type.TEST_REQUEST, [(Tag.TEST_REQ_ID, now())], [])
         return True
 

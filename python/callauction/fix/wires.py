@@ -140,8 +140,10 @@ class Wire(asyncio.Protocol):
         self.is_leaving = True
         self._host.leave(self, code)
 
-    def is_to_answer(self) -> bool:
-        """Whether it is to be asked if somebody is there; it ends where nothing is said in time."""
+    def expect_answer(self) -> bool:
+        """Ends it where nothing is said in time: whether it is to be asked now if somebody is
+        there, as it isn't yet.
+        """
         if self._is_asked:
             return False
         self._is_asked = True

@@ -75,8 +75,8 @@ class Arrivals:
         """Who came last from addresses that are slowed, by these."""
         return {it: found.names for it, found in self._origins.items() if self._is_slowed(found)}
 
-    def has_changed(self) -> bool:
-        """Whether other addresses are slowed than when this was asked last."""
+    def take_change(self) -> bool:
+        """Whether other addresses are slowed than when this was taken last."""
         before, self._told = self._told, [*self.slowed()]
         return before != self._told
 

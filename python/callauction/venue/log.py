@@ -233,14 +233,14 @@ class Log:
                 continue
             taken, self._waiting = self._waiting, []
             data = "".join(f"{text}\n" for text, _ in taken if text).encode("utf-8")
-            if not await self._is_written(data):
+            if not await self._write_until_closed(data):
                 return
             for _, then in taken:
                 if then is not None:
                     with going_on("what follows from a line of the log"):
                         then()
 
-    async def _is_written(self, data: bytes) -> bool:
+    async def _write_until_closed(self, data: bytes) -> bool:
         """Writes bytes, again and again where that fails, until it is closed: whether they are
         written.
         """

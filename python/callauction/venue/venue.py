@@ -161,7 +161,7 @@ class Venue:
             with going_on("the look at the clock and the disk"):
                 self.time.look()
                 self._look_at_disk()
-                if self.members.arrivals.has_changed():
+                if self.members.arrivals.take_change():
                     self.audience.show_members()
                 if self.log.length == length:
                     self.time.note(self.rounds.now.boards.values())

@@ -170,9 +170,9 @@ class Doubts:
         above = int(places[first - 1]) + 1 if first else 0
         return above, f"the {AUCTIONS[due[first]]} has no row: --auctions says which are held"
 
-    def lacks_names(self) -> bool:
-        """Whether no row says of which auction it is, which is a gap from the day's begin on where
-        one is missing, as some are of an uncross that was interrupted.
+    def doubt_all_unnamed(self) -> bool:
+        """Where no row says of which auction it is, one that is missing, as some are of an uncross
+        that was interrupted, is a gap from the day's begin on: whether that is so only now.
         """
         is_new = self.gap is None and bool((self.rows.state[self.uncrosses] <= 0).all())
         self.gap = (0, NO_NAMES) if is_new else self.gap

@@ -94,7 +94,7 @@ class Judge:
         found = self.judged_within(None, watch)
         assert found is not None
         ended = sum(each.is_ended or bool(each.beyond) for each in found.uncrosses)
-        if found.unlawful and ended < len(self.due) and self.doubts.lacks_names():
+        if found.unlawful and ended < len(self.due) and self.doubts.doubt_all_unnamed():
             found = self.judged_within(None)
             assert found is not None
         return found
