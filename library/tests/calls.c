@@ -594,7 +594,7 @@ static bool has_clients(const callauction_handle *auction, const uint64_t *wante
 
 /* An order keeps the client that it was entered with, also where it is changed; no other command gives it another. */
 static void the_clients(void) {
-    static const uint64_t both[] = {UINT64_MAX, 0, 7}, left[] = {0, 7}, again[] = {0};
+    static const uint64_t both[] = {UINT64_MAX, 0, 7}, left[] = {0, 7}, again[] = {0, 4};
     callauction_handle auction = {0}, copy = {0}, over = {0};
     callauction_command many[3] = {order_of(5, CALLAUCTION_SIDE_BID, 211, 5), order_of(7, CALLAUCTION_SIDE_ASK, 200, 9),
                                    other(1, CALLAUCTION_COMMAND_ORDER_STATUS, 1)};
@@ -630,9 +630,11 @@ static void the_clients(void) {
     WANT(has_clients(&copy, again, 1));
     WANT(callauction_close(&auction) == CALLAUCTION_DONE && callauction_close(&copy) == CALLAUCTION_DONE);
     WANT(callauction_close(&over) == CALLAUCTION_DONE);
-    opened(&auction);
+    opened(&auction); // where a table was before
     applied(&auction, order(1, CALLAUCTION_SIDE_BID, 199, 5));
-    WANT(has_clients(&auction, again, 1) && callauction_close(&auction) == CALLAUCTION_DONE);
+    WANT(has_clients(&auction, again, 1));
+    applied(&auction, order_of(4, CALLAUCTION_SIDE_BID, 199, 5));
+    WANT(has_clients(&auction, again, 2) && callauction_close(&auction) == CALLAUCTION_DONE);
 }
 
 /* A count is 0 after each error, also where another call has the handle, and where the handle holds nothing. */
