@@ -33,12 +33,8 @@ void clients_copy(const clients *from, clients *to) {
     to->last = from->last;
 }
 
-bool clients_has(const callauction_command *command) {
-    return command->client != 0 && command->tag == CALLAUCTION_COMMAND_ENTER;
-}
-
 void clients_keep(clients *table, const callauction_command *command, const callauction_reply *reply) {
-    if (!clients_has(command) || reply->tag != CALLAUCTION_REPLY_ENTERED) return;
+    if (reply->tag != CALLAUCTION_REPLY_ENTERED) return;
     for (; table->last < reply->id; table->last++) table->by_id[table->last + 1] = 0;
     table->by_id[reply->id] = command->client;
 }

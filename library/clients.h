@@ -22,9 +22,11 @@ void clients_clear(clients *table);
 void clients_copy(const clients *from, clients *to);
 
 /* Whether a command gives an order a number other than 0. */
-bool clients_has(const callauction_command *command);
+static inline bool clients_has(const callauction_command *command) {
+    return command->client != 0 && command->tag == CALLAUCTION_COMMAND_ENTER;
+}
 
-/* Keeps the number of a command that was replied to so, where it entered an order. */
+/* Keeps the number of a command that has one and was replied to so, where it entered an order. */
 void clients_keep(clients *table, const callauction_command *command, const callauction_reply *reply);
 
 /* Writes the orders' numbers into structs; in the entries of a history into those that entered an order. */

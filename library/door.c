@@ -109,7 +109,7 @@ callauction_error callauction_open(callauction_handle *handle, const callauction
 static callauction_error applies(callauction_handle *handle, const callauction_command *command,
                                  callauction_reply *reply) {
     const callauction_error answer = proved_callauction_apply(handle, command, reply);
-    if (answer == CALLAUCTION_DONE) clients_keep(handle->clients_, command, reply);
+    if (answer == CALLAUCTION_DONE && clients_has(command)) clients_keep(handle->clients_, command, reply);
     return answer;
 }
 
@@ -123,7 +123,8 @@ static callauction_error applies_many(callauction_handle *handle, const callauct
                                       size_t *applied) {
     const callauction_error answer =
         proved_callauction_apply_many(handle, commands, command_count, replies, reply_count, applied);
-    for (size_t i = 0; i < *applied; i++) clients_keep(handle->clients_, &commands[i], &replies[i]);
+    for (size_t i = 0; i < *applied; i++)
+        if (clients_has(&commands[i])) clients_keep(handle->clients_, &commands[i], &replies[i]);
     return answer;
 }
 
@@ -304,7 +305,8 @@ static callauction_error calls_board_many(callauction_member *member, const call
     if (!clients_take(table)) return CALLAUCTION_ERROR_BUSY;
     const callauction_error answer =
         proved_callauction_board_apply_many(member, commands, command_count, receipts, receipt_count, applied);
-    for (size_t i = 0; table && i < *applied; i++) clients_keep(table, &commands[i], &receipts[i].reply);
+    for (size_t i = 0; table && i < *applied; i++)
+        if (clients_has(&commands[i])) clients_keep(table, &commands[i], &receipts[i].reply);
     clients_give_back(table);
     return answer;
 }
