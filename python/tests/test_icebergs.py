@@ -42,7 +42,7 @@ def test_a_lawful_day_of_visible_shares_is_never_unlawful() -> None:
             verdict = judged(extract)
             assert verdict.word == "incomplete", f"{seed}\n{verdict}"
             assert any("are hidden ones missing?" in it.doubt for it in verdict.doubtful)
-    assert count > 5
+    assert count > DAYS // 24
 
 
 def day(at: str = "08:00:00", **cells: str) -> Extract:

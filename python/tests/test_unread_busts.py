@@ -66,7 +66,7 @@ def test_trades_that_unread_rows_may_correct_condemn_no_day(many: int) -> None:
             corrected(found[0], random.Random(seed), right)
         verdict = judged(found[0])
         assert verdict.word == "incomplete", f"{seed}\n{verdict}"
-    assert count > 5
+    assert count > DAYS // 24
 
 
 def opening(*rows: dict[str, str]) -> Verdict:

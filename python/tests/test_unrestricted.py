@@ -29,13 +29,13 @@ def with_results_alone(extract: Extract) -> Extract:
 @pytest.mark.parametrize("has_trades", [True, False])
 def test_a_lawful_day_whose_restrictions_are_not_said_is_never_unlawful(has_trades: bool) -> None:
     count = 0
-    for seed in range(DAYS // 6):
+    for seed in range(max(10, DAYS // 6)):
         extract = without_column(seed, random.Random(seed).choice([4, 8, 14]))
         extract = extract if has_trades else with_results_alone(extract)
         verdict = judged(extract)
         assert verdict.word != "unlawful", f"{seed}\n{verdict}"
         count += restricted.WHY in {it.doubt for it in verdict.doubtful}
-    assert count > 3
+    assert count > DAYS // 40
 
 
 def first_result(extract: Extract) -> dict[str, str] | None:
