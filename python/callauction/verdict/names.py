@@ -22,6 +22,8 @@ QUOTES = "ids of a bid and an ask, read as two orders"
 FOREIGN = "cancels by others than the order's member"
 _ANYONE = ("anon", "anonymous", "hidden", "masked", "unknown", "na", *UNKNOWN)
 _ONE_SIGN = re.compile(r"(.)\1\1+|\W+")
+_BETWEEN = re.compile(r"(?<=\w)[-_/.:](?=\w)")
+"""A sign between the parts of an id, as in A-17."""
 _QUOTES = "'\"`"
 """What a sheet may write before a number that is to stay a text."""
 OTHER_IDS = "no trade has an order's id: are theirs of another column, or another spelling?"
@@ -204,7 +206,8 @@ def is_placeholder(name: str) -> bool:
 def _plain(text: str) -> str:
     """A text without what another system may change of it."""
     text = re.sub(r"\s", "", text.casefold()).strip(_QUOTES).removesuffix(".0")
-    return re.sub(r"(?<!\d)0+(?=\d)", "", text.lstrip("0"))
+    text = re.sub(r"(?<!\d)0+(?=\d)", "", text.lstrip("0"))
+    return _BETWEEN.sub("", text)
 
 
 def _by_plain(texts: Iterable[tuple[int, str]]) -> dict[str, tuple[int, str]]:

@@ -30,6 +30,7 @@ from callauction.verdict.reading import End
 from callauction.verdict.rows import (
     BAD, CANCEL, FILL, INTERRUPTED, MARKET, NEW, OF_ORDERS, REPLACE, TRADE, UNCROSS, Doubt, Rows,
 )  # fmt: skip
+from callauction.verdict.spellings import in_one_spelling
 from callauction.verdict.totals import Totals
 from callauction.verdict.units import in_one_unit, in_shares, lot_of, why_two_units
 
@@ -50,27 +51,46 @@ Change = tuple[Callable[[Day], Day], str]
 def judged_day(rows: Rows, rules: Rules, whole: Rows, watch: Watch = iter) -> Judgement:
     """The judgement of a day; `whole` has the results that others correct too. What differs is in
     doubt where another reading, or several together, haven't it and bring no other certain
-    difference; so is a lawful day whose rows are in another order than their times. Raises
-    ExtractError and ProgramError.
+    difference; so is a lawful day whose rows are in another order than their times. What is certain
+    in one spelling of ids and members is so in each. Raises ExtractError and ProgramError.
     """
     judge = Judge(rows, rules)
-    found = judge.judge(watch)
-    falls, (numbers, is_rare) = _falls(rows), _numbers_fall(rows)
-    why = falls or numbers * is_rare
-    if why and not any(each.differences for each in found.uncrosses):
-        found = _beside(found, rows, _by_time(rows) if falls else _by_number(rows), rules, why)
+    found = _as_it_is(judge, watch)
     if not found.unlawful:
         return found
     refuse_parts(rows, rules.due)
     refuse_markets(whole, rules.due)
+    found = _read_otherwise(found, judge)
+    spelled = respelled(rows) if found.unlawful else None
+    if spelled is None:
+        return found
+    other = Judge(spelled[0], rules)
+    return in_one_spelling(found, _read_otherwise(_as_it_is(other), other), other.rows, spelled[1])
+
+
+def _as_it_is(judge: Judge, watch: Watch = iter) -> Judgement:
+    """The judgement of rows as they are, a lawful one beside their order by times."""
+    rows, found = judge.rows, judge.judge(watch)
+    falls, (numbers, is_rare) = _falls(rows), _numbers_fall(rows)
+    why = falls or numbers * is_rare
+    if why and not any(each.differences for each in found.uncrosses):
+        other = _by_time(rows) if falls else _by_number(rows)
+        found = _beside(found, rows, other, judge.rules, why)
+    return found
+
+
+def _read_otherwise(first: Judgement, judge: Judge) -> Judgement:
+    """The judgement with what other readings haven't in doubt."""
+    if not first.unlawful:
+        return first
+    rows, rules, found = judge.rows, judge.rules, first
     ways = [*_changes(found, judge), _orders_of_ties(judge), *_over_uncrosses(judge, found)]
-    falls, across = falls or _falls(rows, True), _across(rows)
+    falls, across = _falls(rows) or _falls(rows, True), _across(rows)
     moves = ((_by_time, falls), (lambda it: it.ordered(all_times(it)), across),
-             (_by_number, numbers), _by_table(rows, found))  # fmt: skip
+             (_by_number, _numbers_fall(rows)[0]), _by_table(rows, found))  # fmt: skip
     ways.append([_rows(move, why) for move, why in moves if why])
     combined = itertools.product(*([None, *those] for those in ways if those))
     readings = ([each for each in it if each is not None] for it in combined)
-    first = found
     for those in sorted(filter(None, readings), key=len)[:MOST_READINGS]:
         found = _without(found, first, (rows, rules), those)
     return standing(found, (rows, rules), [each for those in ways for each in those])
@@ -459,7 +479,7 @@ def standing(first: Judgement, day: Day, changes: Sequence[Change]) -> Judgement
     for change, why in those:
         rows, rules = change(day)
         if rows.labels is day[0].labels and _certain(best) > 1:
-            found = _merged(first, Judge(rows, rules).judge(), day[0], why)
+            found = _merged(first, Judge(rows, rules).judge(), (day[0], rows), why)
             if 0 < _certain(found) < _certain(best):
                 best = found
     return best
@@ -470,23 +490,24 @@ def _certain(judgement: Judgement) -> int:
     return sum(len(each.certain) for each in judgement.uncrosses)
 
 
-def _merged(first: Judgement, other: Judgement, rows: Rows, why: str) -> Judgement:
-    """Both judgements in one, as standing has it; without uncrosses where theirs differ."""
+def _merged(first: Judgement, other: Judgement, both: tuple[Rows, Rows], why: str) -> Judgement:
+    """Both judgements in one, each of its rows, as standing has it; without uncrosses where theirs
+    differ.
+    """
     if [it.place for it in first.uncrosses] != [it.place for it in other.uncrosses]:
         return dataclasses.replace(other, uncrosses=())
-    both = zip(first.uncrosses, other.uncrosses)
+    pairs = zip(first.uncrosses, other.uncrosses)
     merged = _of_first if why == TOTALS else _both
-    found = tuple(merged(one, each, rows, why) for one, each in both)
+    found = tuple(merged(one, each, both, why) for one, each in pairs)
     return dataclasses.replace(first, uncrosses=found)
 
 
-def _both(one: Judged, other: Judged, rows: Rows, why: str) -> Judged:
+def _both(one: Judged, other: Judged, both: tuple[Rows, Rows], why: str) -> Judged:
     """An uncross in another reading, whose differences are certain where the first one has them, or
     has the same orders' shares too many or too few; with those of the first in doubt.
     """
-    signs, mark = _signs(one, rows), functools.partial(marked, rows=rows)
+    mark, same = functools.partial(marked, rows=both[0]), _alike(one, other, both)
     own = {*map(mark, one.certain)}
-    same = {key for key, sign in _signs(other, rows).items() if signs.get(key) == sign}
     kept = [
         it if mark(it) in own or _is_made(it) and same & {*it.keys} else doubted([it], why)[0]
         for it in other.differences
@@ -496,18 +517,23 @@ def _both(one: Judged, other: Judged, rows: Rows, why: str) -> Judged:
     return dataclasses.replace(other, differences=(*kept, *rest))
 
 
-def _of_first(one: Judged, other: Judged, rows: Rows, why: str) -> Judged:
+def _of_first(one: Judged, other: Judged, both: tuple[Rows, Rows], why: str) -> Judged:
     """An uncross of the first reading, whose differences are certain where those of the other one
     are, or it has the same orders' shares too many or too few.
     """
-    signs, mark = _signs(one, rows), functools.partial(marked, rows=rows)
+    mark, same = functools.partial(marked, rows=both[0]), _alike(one, other, both)
     own = {*map(mark, other.certain)}
-    same = {key for key, sign in _signs(other, rows).items() if signs.get(key) == sign}
     kept = tuple(
         it if mark(it) in own or _is_made(it) and same & {*it.keys} else doubted([it], why)[0]
         for it in one.differences
     )
     return dataclasses.replace(one, differences=kept)
+
+
+def _alike(one: Judged, other: Judged, both: tuple[Rows, Rows]) -> set[int]:
+    """The orders that have too many shares in both readings of an uncross, or too few in both."""
+    signs = _signs(one, both[0])
+    return {key for key, sign in _signs(other, both[1]).items() if signs.get(key) == sign}
 
 
 def _is_made(each: Difference) -> bool:

@@ -1,0 +1,106 @@
+"""Days whose rows write ids in two ways, as 0017 and 17 or A-17 and A17: a lawful one is never
+unlawful, and beside one fault no right trade is a certain finding.
+"""
+import random
+
+import pytest
+from callauction.verdict import Verdict, audit_events
+from damage import places, timed_day
+from extracts import Rows
+from faults import FAULTS
+from test_doubts import DAYS
+from test_holes import rows_of
+from test_verdict import frame_of, judged
+
+FORMS = (("{:04}", "{}"), ("A-{}", "A{}"), ("A{:03}", "a{}"), ("7{:04}-X", "7{:04}X"))
+"""How an id is written by its number, in one way and in the other."""
+EVENTS = (("trade",), ("replace", "cancel"), ("trade", "replace", "cancel"))
+OF_IDS = ("trade of nobody", "trade of an unknown bid", "trade of an unknown ask")
+"""Faults of ids, which may be another spelling of what is right."""
+
+
+def spell_in_two_ways(chance: random.Random, rows: Rows) -> None:
+    """Writes ids in some rows of some events in another way than in all others."""
+    own, other = chance.sample(chance.choice(FORMS), 2)
+    events, share = chance.choice(EVENTS), chance.choice([0.2, 0.5, 1])
+    for row in rows:
+        is_other = row["event"] in events and chance.random() < share
+        names = (name for name in ("order", "bid", "ask") if row.get(name))
+        row |= {it: (other if is_other else own).format(int(row[it][1:])) for it in names}
+
+
+def test_a_lawful_day_of_ids_in_two_spellings_is_never_unlawful() -> None:
+    doubtful = 0
+    for seed in range(DAYS // 3):
+        day, chance = timed_day(seed), random.Random(seed)
+        spell_in_two_ways(chance, day.rows)
+        verdict = judged(day)
+        assert verdict.word != "unlawful", f"{seed}\n{verdict}"
+        doubtful += any("are written in two ways" in it.doubt for it in verdict.doubtful)
+    assert doubtful > DAYS / 40
+
+
+def test_beside_a_fault_no_right_trade_is_a_certain_finding() -> None:
+    """All that is certain is the fault itself, or nothing, where it needs one spelling of ids."""
+    certain = count = 0
+    for seed in range(DAYS // 3):
+        day, chance = timed_day(seed), random.Random(seed)
+        name = chance.choice([it for it in FAULTS if it not in OF_IDS])
+        fault = FAULTS[name](chance, day)
+        if fault is None:
+            continue
+        count += 1
+        spell_in_two_ways(chance, day.rows)
+        verdict = judged(day)
+        found = [it.rows for it in verdict.findings]
+        assert len(found) < 2 and all(fault[1] in it for it in found), f"{seed} {name}\n{verdict}"
+        certain += len(found)
+    assert certain > count / 2
+
+
+DAY = """new {own}17 bid 100 10.02
+new {own}18 bid 100 10.01
+new {own}21 ask 120 10.00
+uncross 10.01 120 80
+trade {other}17 {other}21 100 10.01
+trade {other}18 {other}21 20 10.01
+new {own}31 bid 50 10.03
+new {own}41 ask 50 10.03
+uncross 10.03 50 0
+trade {other}31 {other}41 50 10.03"""
+"""120 shares meet at 10.00 and 10.01, with 80 bids more at both, so that the highest is the price;
+at 10.03 are 50 on both sides, and the 80 shares that are left of 18 have a limit below.
+"""
+VOLUME = ("uncross 10.03 50", "uncross 10.03 51")
+BEYOND = ("trade {other}31 {other}41", "trade {own}18 {own}41")
+
+
+def verdict_on(text: str) -> Verdict:
+    """The verdict on lines of an opening and a closing."""
+    rows = rows_of(text)
+    rows[3] |= {"auction": "opening", "side": "bid"}
+    rows[8] |= {"auction": "closing", "side": "none"}
+    for place in places(rows, "trade"):
+        rows[place]["auction"] = "opening" if place < 8 else "closing"
+    terms = dict(reference="10", tick_size="0.01", auctions=["opening", "closing"])
+    return audit_events(frame_of(rows), **terms)  # type: ignore[arg-type]
+
+
+@pytest.mark.parametrize("own, other", [
+    ("00", ""), ("A-", "A"), ("a-00", "A"), ("7/", "7"), ("", "00"),
+])  # fmt: skip
+@pytest.mark.parametrize("right, wrong, finding", [
+    (*VOLUME, (8, "volume")), (*BEYOND, (9, "trade")),
+])  # fmt: skip
+def test_the_wrong_item_is_the_one_certain_finding(
+    own: str, other: str, right: str, wrong: str, finding: tuple[int, str]
+) -> None:
+    verdict = verdict_on(DAY.format(own=own, other=other))
+    assert verdict.word == "incomplete", str(verdict)
+    assert all("are written in two ways" in it.doubt for it in verdict.doubtful)
+    verdict = verdict_on(DAY.replace(right, wrong).format(own=own, other=other))
+    assert [(it.row, it.item) for it in verdict.findings] == [finding], str(verdict)
+    assert verdict.doubtful and all(it.doubt for it in verdict.doubtful)
+    verdict = verdict_on(DAY.replace(right, wrong).format(own=own, other=own))
+    assert [(it.row, it.item) for it in verdict.findings] == [finding], str(verdict)
+    assert not verdict.doubtful
