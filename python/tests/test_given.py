@@ -5,6 +5,8 @@ from typing import Any
 
 import pytest
 from callauction.verdict import Reading, Verdict, audit_events
+from callauction.verdict.instruments import Audited, days_of, market_of
+from callauction.verdict.reading import read_table
 from test_meeting_damages import rows_of
 from test_verdict import frame_of
 
@@ -88,3 +90,63 @@ def test_a_number_in_a_column_of_no_ids_names_no_order() -> None:
     text = DAY.replace(" A ", " 7 ").replace(" A2 ", " 9 ")
     assert "--columns" not in str(opening(text, {4: {"Depth": "7"}}))
     assert "replace.order=OrderRef" in str(opening(text, {4: {"OrderRef": "7"}}))
+
+
+# ---- of several instruments
+
+
+OTHER = """
+    new 08:50:01 A bid 100 10.00
+    new 08:50:02 A2 bid 100 10.00
+    new 08:50:04 S ask 200 10.00
+    uncross 09:00 10.00 200 0 none 2 opening
+    trade 09:00 A S 100 10.00 opening
+    trade 09:00 A2 S 100 10.00 opening
+"""
+
+
+Lines = tuple[str, dict[int, dict[str, str]]]
+"""Lines of a day, and other cells in some rows."""
+
+
+def each_of(days: dict[str, Lines]) -> dict[str, Audited]:
+    """The verdicts on openings of instruments in one file, which are read at once."""
+    whole = [{"ISIN": name, **row, **cells.get(place, {})} for name, (text, cells) in days.items()
+             for place, row in enumerate(rows_of(text))]  # fmt: skip
+    reading = Reading(ignore=("*",), unrestricted=True)
+    terms: dict[str, Any] = dict(reference="10", tick_size="0.01", auctions=["opening"])
+    table = read_table(frame_of(whole), reading, "ISIN")
+    market = market_of(table, reading, "ISIN", days_of(None, "ISIN"), terms)
+    return {it.name: it for it in market.part([*range(len(market.names))])}
+
+
+@pytest.mark.parametrize("names", ["XY", "YX"])
+def test_each_instrument_has_its_own_column_of_ids(names: str) -> None:
+    """The other one enters the ids that the first one's replace has, and is lawful."""
+    days: dict[str, Lines] = {"X": (DAY, BEFORE), "Y": (OTHER, {})}
+    found = each_of({name: days[name] for name in names})
+    assert found["Y"].word == "lawful" and not found["Y"].remarks, str(found["Y"])
+    assert found["X"].word == "incomplete", str(found["X"])
+    assert all(SAID in line for line in (*found["X"].lines, found["X"].remarks[0]))
+
+
+@pytest.mark.parametrize("names", ["XY", "YX"])
+def test_an_order_of_another_instrument_is_not_the_replaced_one(names: str) -> None:
+    """The first one has no row that enters it."""
+    text = DAY.replace("    new 08:50:01 A bid 100 10.01\n", "")
+    days: dict[str, Lines] = {"X": (text, {3: BEFORE[4]}), "Y": (OTHER, {})}
+    found = each_of({name: days[name] for name in names})
+    assert found["Y"].word == "lawful" and found["X"].word == "incomplete", str(found)
+    assert "is it that order" not in str(found)
+
+
+def test_each_instrument_names_its_own_replace() -> None:
+    found = each_of({"X": (DAY, AFTER), "Y": (DAY, AFTER), "Z": (OTHER, {})})
+    for name, row in (("X", 4), ("Y", 4 + len(rows_of(DAY)))):
+        said = f"Ersatz of row {row} has that id: did the replace give it?"
+        assert found[name].word == "incomplete", str(found[name])
+        assert all(said in line for line in found[name].lines), str(found[name])
+    assert found["Z"].word == "lawful", str(found["Z"])
+    late = OTHER + "    replace 10:00 A bid 1 9"
+    found = each_of({"X": (DAY, {4: {"order": "A"}}), "Y": (late, {6: AFTER[4]})})
+    assert "Ersatz" not in str(found["X"])

@@ -221,7 +221,8 @@ class Doubts:
             named += these[(at < 0) | (self.entered[keys[these]] < 0) & (at > these)][:1].tolist()
         if named:
             why = f"row {rows.labels[min(named)]} is a trade of an order that no row enters"
-            return Reason(f"{why}: {rows.given}", False) if rows.given else Reason(why, True)
+            given = next(iter(rows.given.values()), "")
+            return Reason(f"{why}: {given}", False) if given else Reason(why, True)
         place, side = self._one_sided()
         trade = f"the trade of row {rows.labels[place]}"
         why = f"the {side} of {trade} isn't said: does a row enter it?"

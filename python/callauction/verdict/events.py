@@ -86,7 +86,7 @@ def rows_of(
     rows = below_their_entries(rows)
     make_keys(rows, ids_unread)
     if "new_order" not in columns.names:
-        look_for_given(rows)
+        look_for_given(rows, lead)
     take_busted(rows)
     if rows.is_odd.any():
         cell = rows.names.time(int(rows.is_odd.argmax()))

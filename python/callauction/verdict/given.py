@@ -1,39 +1,53 @@
 """Ids that replaces give in a column that isn't read, by which rows name orders that none enters:
-which column says them.
+which column says them. Two instruments may have an id in common: each has its own orders.
 """
 import dataclasses
-from collections.abc import Container, Iterable
+from collections.abc import Container, Iterable, Mapping
 
-from callauction.verdict.cells import Ints
+import numpy
+
+from callauction.verdict.cells import Codes, Ints
 from callauction.verdict.columns import is_id
 from callauction.verdict.names import MOST_TEXTS
 from callauction.verdict.rows import FILL, NEW, REPLACE, TRADE, BadRow, Doubt, Rows
 
 BEFORE = "{} has {!r}: is it that order? (--columns replace.order={},replace.new_order={})"
 AFTER = "{} of row {} has that id: did the replace give it? (--columns new_order={})"
+Id = tuple[int, str]
+"""The number of an instrument, and an id that rows of it have."""
 
 
-def look_for_given(rows: Rows) -> None:
+def look_for_given(rows: Rows, lead: Codes) -> None:
     """Takes replaces of orders that no row enters for unread ones of that which a column that isn't
     read names, where a row enters it; and says which such column of a replace has the id of a trade
-    whose order no row enters.
+    whose order no row enters. `lead` numbers the instrument of each row.
     """
-    lost = [it for it in rows.bad if it.kind == REPLACE and it.doubt is Doubt.ORDER]
-    made = _unknown(rows)
-    own = rows.names.theirs.get("order")
+    lost = [it.place for it in rows.bad if it.kind == REPLACE and it.doubt is Doubt.ORDER]
+    made, own = _unknown(rows, lead), rows.names.theirs.get("order")
     if own is None or not (lost or made) or len(lost) + len(made) > MOST_TEXTS:
         return
-    entered = {rows.names.order(key): key for key in rows.key[rows.of(NEW)].tolist()}
+    entered = _entered(rows, lead, {*lead[lost].tolist(), *(number for number, _ in made)})
     for column in rows.names.unread:
-        told = {it.place: _before(rows, it.place, column, entered) for it in lost}
-        those = {place: text for place, text in told.items() if text}
-        rows.key[[*those]] = [entered[text] for text in those.values()]
+        told = {place: (int(lead[place]), _before(rows, place, column)) for place in lost}
+        those = {place: it for place, it in told.items() if it in entered}
+        rows.key[[*those]] = [entered[it] for it in those.values()]
         said = {place: BEFORE.format(column, text, column, own)
-                for place, text in those.items()}  # fmt: skip
+                for place, (_, text) in those.items()}  # fmt: skip
         rows.bad = [_in_doubt(it, said.get(it.place, "")) for it in rows.bad]
-        rows.given = rows.given or _after(rows, made, column)
-        if those:
-            return
+        given = _after(rows, lead, made, column) if made else {}
+        rows.given |= given
+        done = {number for number, _ in those.values()}
+        lost = [place for place in lost if lead[place] not in done]
+        done |= {*lead[[*given]].tolist()}
+        made = {it for it in made if it[0] not in done}
+
+
+def _entered(rows: Rows, lead: Codes, numbers: Iterable[int]) -> dict[Id, int]:
+    """By their ids the keys of the orders that rows of these instruments enter."""
+    news = rows.of(NEW)
+    news = news[numpy.isin(lead[news], [*numbers])]
+    keys = rows.key[news].tolist()
+    return {(number, rows.names.order(key)): key for number, key in zip(lead[news].tolist(), keys)}
 
 
 def _in_doubt(row: BadRow, why: str) -> BadRow:
@@ -43,27 +57,32 @@ def _in_doubt(row: BadRow, why: str) -> BadRow:
     return dataclasses.replace(row, why=f"{row.why}: {why}", doubt=Doubt.BOOKS, since=row.place)
 
 
-def _unknown(rows: Rows) -> set[str]:
+def _unknown(rows: Rows, lead: Codes) -> set[Id]:
     """The ids in trades and fills of orders that no row enters."""
     entered = rows.entered(len(rows.names.ids) + 1)
     parts = ((rows.bid, TRADE), (rows.ask, TRADE), (rows.key, FILL))
-    keys = {key for it, kind in parts for key in it[rows.of(kind)].tolist()}
-    return {rows.names.order(key) for key in keys if key >= 0 > entered[key]}
+    keys = {pair for it, kind in parts for these in [rows.of(kind)]
+            for pair in zip(it[these].tolist(), lead[these].tolist())}  # fmt: skip
+    return {(number, rows.names.order(key)) for key, number in keys if key >= 0 > entered[key]}
 
 
-def _before(rows: Rows, place: int, column: str, entered: Container[str]) -> str:
-    """The order of which a column of a replace has the id, if a row enters it; empty for none. A
-    number may be anything but in a column of ids.
+def _before(rows: Rows, place: int, column: str) -> str:
+    """The id that a column of a replace has; empty for none. A number may be anything but in a
+    column of ids.
     """
     text = rows.names.their_cell(place, column)
-    return text if text in entered and (is_id(column) or not text.isdigit()) else ""
+    return text if is_id(column) or not text.isdigit() else ""
 
 
-def _after(rows: Rows, made: Iterable[str], column: str) -> str:
-    """How a column of a replace has one of these ids; empty where it hasn't."""
+def _after(rows: Rows, lead: Codes, made: Container[Id], column: str) -> Mapping[int, str]:
+    """By the place of the first replace of an instrument that has one of these ids in a column, how
+    it has.
+    """
     replaces: Ints = rows.of(REPLACE)
     codes, texts = rows.names.texts(replaces, column)
-    good = {it for it in made if is_id(column) or not it.isdigit()}
-    those = [at for at, code in zip(replaces.tolist(), codes.tolist())
-             if code >= 0 and texts[code] in good]  # fmt: skip
-    return AFTER.format(column, rows.labels[those[0]], column) if those else ""
+    found = dict[int, int]()
+    for at, code, number in zip(replaces.tolist(), codes.tolist(), lead[replaces].tolist()):
+        text = texts[code] if code >= 0 else ""
+        if (number, text) in made and (is_id(column) or not text.isdigit()):
+            found.setdefault(number, at)
+    return {at: AFTER.format(column, rows.labels[at], column) for at in found.values()}

@@ -255,8 +255,10 @@ class Rows:
     """Whether nothing says which orders are for one auction alone."""
     makes_results: bool = False
     """Whether auctions that trades name alone have their price."""
-    given: str = ""
-    """Which column that isn't read has the id of a trade's order that no row enters."""
+    given: dict[int, str] = dataclasses.field(default_factory=dict)
+    """By the place of a replace which column of it that isn't read has the id of a trade's order
+    that no row enters: one of each instrument.
+    """
     end: End | None = None
     """The end of the file, where it is one, without a time where rows are sorted."""
 
@@ -342,5 +344,6 @@ class Rows:
         at = self.names.places
         places = None if at is None else at[begin:end] - begin
         names = dataclasses.replace(self.names, begin=begin, base=base, places=places)
-        notes = Counter(self.notes)
-        return dataclasses.replace(self, **parts, bad=bad, holes=[], names=names, notes=notes)
+        given = {at - begin: text for at, text in self.given.items() if begin <= at < end}
+        return dataclasses.replace(self, **parts, bad=bad, holes=[], names=names, given=given,
+                                   notes=Counter(self.notes))  # fmt: skip
