@@ -30,7 +30,7 @@ from callauction.verdict.columns import (
     EVENTS, EVENT_COLUMNS, ColumnError, ExtractError, likely,
 )  # fmt: skip
 from callauction.verdict.events import plain_frame, rows_of
-from callauction.verdict.findings import MOST_BAD_ROWS, STATUSES, Verdict, counts_of
+from callauction.verdict.findings import STATUSES, Verdict, counts_of, lines_of
 from callauction.verdict.instruments import (
     FAULT, RECORD, TERMS, Audited, Days, Market, audited, days_of, frame_of, market_of, terms_of,
     worst_of,
@@ -329,7 +329,7 @@ def understood(table: Table, reading: Reading, asked: argparse.Namespace) -> Ite
         yield f"rows {event} {int((rows.kind == number).sum())}"
     yield f"rows left out {table.left_out}"
     bad = [*rows.bad, *short_rows(table, rows, reading)]
-    yield from map(str, bad[:MOST_BAD_ROWS])
+    yield from lines_of(bad)
     yield f"bad rows {len(bad)}"
     notes = {**table.notes, **(+rows.notes)}
     yield from (f"{name}: {count}" for name, count in notes.items())

@@ -1,6 +1,7 @@
 """The verdict on what was published: its findings, and how much was compared."""
 import collections
 import dataclasses
+import itertools
 from collections.abc import Iterable, Iterator, Sequence
 
 import pandas
@@ -189,7 +190,7 @@ class Verdict:
     def remarks(self) -> list[str]:
         """What goes to standard error: the first bad rows, how many there are, and the notes."""
         holes = self.rows.holes if self.rows.lacks_rows else []
-        rows = [str(row) for row in (*self.bad_rows[:MOST_BAD_ROWS], *holes[:MOST_BAD_ROWS])]
+        rows = [*lines_of(self.bad_rows), *map(str, holes[:MOST_BAD_ROWS])]
         if self.bad_rows:
             rows.append(f"bad rows {len(self.bad_rows)}")
         return rows + [f"{name}: {count}" for name, count in self.notes.items()]
@@ -203,11 +204,26 @@ class Verdict:
 
 def others_of(findings: Sequence[Finding]) -> str:
     """How many findings these are, and their first rows; empty for none."""
-    rows = [*dict.fromkeys(str(each.row) for each in findings)]
-    more = " .." if len(rows) > MOST_NAMED else ""
-    name = "row" if len(rows) == 1 else "rows"
-    shown = f"{len(findings):,} more, in {name} {', '.join(rows[:MOST_NAMED])}{more}"
-    return shown if findings else ""
+    return _more(str(each.row) for each in findings)
+
+
+def lines_of(bad: Iterable[BadRow]) -> list[str]:
+    """A line for each of the first bad rows; those of one order that no row enters are in one."""
+    those = dict[str | int, list[BadRow]]()
+    for row in bad:
+        those.setdefault(row.why if row.is_lost else len(those), []).append(row)
+    shown = itertools.islice(those.values(), MOST_BAD_ROWS)
+    both = ((first, _more(str(row.label) for row in others)) for first, *others in shown)
+    return [f"{first} ({more})" if more else str(first) for first, more in both]
+
+
+def _more(rows: Iterable[str]) -> str:
+    """How many more there are, and the first rows that have them; empty for none."""
+    named = [*rows]
+    shown = [*dict.fromkeys(named)]
+    name, end = "row" if len(shown) == 1 else "rows", " .." * (len(shown) > MOST_NAMED)
+    text = f"{len(named):,} more, in {name} {', '.join(shown[:MOST_NAMED])}{end}"
+    return text if named else ""
 
 
 def counts_of(bad_rows: int, findings: int, doubtful: int) -> list[str]:

@@ -261,7 +261,7 @@ def _add_new_ids(rows: Rows, lost: list[BadRow], known: dict[str, tuple[int, str
 
 def lost_rows(rows: Rows) -> list[BadRow]:
     """The replaces and cancels of orders that no row enters."""
-    return [row for row in rows.bad if row.kind in (REPLACE, CANCEL) and row.doubt is Doubt.ORDER]
+    return [row for row in rows.bad if row.is_lost]
 
 
 def found_again(rows: Rows, lost: list[BadRow]) -> Rows:

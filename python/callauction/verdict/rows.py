@@ -85,6 +85,11 @@ class BadRow:
         return self.doubt is Doubt.BUST or self.doubt is Doubt.ANY and self.place >= 0
 
     @property
+    def is_lost(self) -> bool:
+        """Whether it changes or cancels an order that no row enters."""
+        return self.doubt is Doubt.ORDER and self.kind in (REPLACE, CANCEL)
+
+    @property
     def unknown(self) -> str:
         """That it isn't known what the row does."""
         return f"it isn't known what {self} does"
