@@ -228,6 +228,8 @@ PLURALS = {it: f"{it}{'es' if it == 'surplus' else 's'}" for it in (*ITEMS, "tra
 """The names of items in a coverage."""
 OF_PRICES = ("volume", "surplus", "side")
 """Items that the rules give where there is a price."""
+PRICE_ITEMS = ("price", *OF_PRICES)
+"""The items that fix the sums of both sides at the price."""
 PAIRINGS = "pairings"
 """The name of how many trades pair the orders that ours do, where some don't and each order has its
 lawful shares: who trades with whom is chosen, and no law.

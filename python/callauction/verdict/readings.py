@@ -16,8 +16,8 @@ from callauction.verdict.comparing import Difference, Fill, Trade, doubted
 from callauction.verdict.doubts import MOST_FALLS
 from callauction.verdict.early import Early
 from callauction.verdict.hidden import lacking, with_rests
-from callauction.verdict.judged import Judged, Judgement, Rules
-from callauction.verdict.judging import SUMS, Judge, Mark, marked
+from callauction.verdict.judged import PRICE_ITEMS, Judged, Judgement, Rules
+from callauction.verdict.judging import Judge
 from callauction.verdict.mixed import (
     corrected, doubled, has_more, namings, refuse_markets, refuse_parts, with_names,
 )  # fmt: skip
@@ -32,6 +32,7 @@ from callauction.verdict.rows import (
 )  # fmt: skip
 from callauction.verdict.spellings import in_one_spelling
 from callauction.verdict.totals import Totals
+from callauction.verdict.uncross_doubts import Mark, marked
 from callauction.verdict.units import in_one_unit, in_shares, lot_of, why_two_units
 
 TWICE = "each trade has two rows: is there one for each side?"
@@ -135,7 +136,7 @@ def _without(found: Judgement, first: Judgement, day: Day, those: list[Change]) 
         marks = {marked(it, day[0]) for it in each.certain}
         if marks - {marked(it, rows) for it in (above.certain if above else ())}:
             return found
-        left[spot] = judge.left_in(each)
+        left[spot] = judge.reasons.left_in(each)
     return _cleared(found, rows, left, "; ".join(why for _, why in those))
 
 
@@ -257,7 +258,7 @@ def _may_correct(found: Judgement, rows: Rows, rules: Rules) -> bool:
     firsts = [it for own in groups for it in by_place.get(int(own[0]), ()) if not it.doubt]
     is_stop = any(it.item == "auction" and it.lawful == INTERRUPTED for it in firsts)
     others = [by_place.get(place, ()) for own in groups for place in own[:-1].tolist()]
-    is_wrong = all(any(it.item in SUMS for it in those) for those in others)
+    is_wrong = all(any(it.item in PRICE_ITEMS for it in those) for those in others)
     return bool(groups) and not is_stop and (has_more(rows, rules.due) or is_wrong)
 
 

@@ -13,8 +13,8 @@ from callauction.verdict.cells import Ints, Mask
 from callauction.verdict.certain import RULES, with_certain
 from callauction.verdict.comparing import PRIORITY, Difference, Fill, Trade, doubted
 from callauction.verdict.doubts import has_lawful_orders
-from callauction.verdict.judged import Judged, Judgement
-from callauction.verdict.judging import SUMS, Judge
+from callauction.verdict.judged import PRICE_ITEMS, Judged, Judgement
+from callauction.verdict.judging import Judge
 from callauction.verdict.phases import recorded_sums
 from callauction.verdict.rows import INTERRUPTED, MARKET, MISSING, NO_PRICE, SIDES
 from callauction.words import AUCTIONS
@@ -73,7 +73,7 @@ class _Unsaid:
         a side too, as fewer orders can't have a surplus on the other one.
         """
         wrong = {it.item for it in judged.differences}
-        return judged.items.issuperset({*SUMS} - {"side"}) and wrong.isdisjoint(SUMS)
+        return judged.items.issuperset({*PRICE_ITEMS} - {"side"}) and wrong.isdisjoint(PRICE_ITEMS)
 
     def explains(self, number: int, each: Difference) -> bool:
         """Whether such orders may explain a difference of an uncross."""
@@ -89,7 +89,7 @@ class _Unsaid:
             return True
         if self._is_fixed(judged):
             return False
-        if each.item in SUMS:
+        if each.item in PRICE_ITEMS:
             return each.item in _Sums(self, number).possible()
         if isinstance(each.recorded, str):  # all trades are at another price
             return _Sums(self, number).may_be(int(self.rows.price[each.places[0]]))
@@ -181,8 +181,8 @@ class _Sums:
         may be beside these, the price first.
         """
         wrong = {it.item for it in self.judged.differences}
-        found = {*SUMS} - wrong
-        for item in SUMS:
+        found = {*PRICE_ITEMS} - wrong
+        for item in PRICE_ITEMS:
             found |= {item} if self.are_possible(found | {item}) else set()
         return found
 

@@ -5,8 +5,8 @@ import dataclasses
 
 from callauction.verdict.comparing import Difference, doubted
 from callauction.verdict.judged import Judged, Judgement
-from callauction.verdict.judging import marked
 from callauction.verdict.rows import Rows
+from callauction.verdict.uncross_doubts import marked
 
 
 def in_one_spelling(first: Judgement, other: Judgement, rows: Rows, why: str) -> Judgement:

@@ -3,8 +3,7 @@ import numpy
 
 from callauction.verdict import clocks
 from callauction.verdict.doubts import Doubts
-from callauction.verdict.judged import Judged, Judgement
-from callauction.verdict.judging import SUMS
+from callauction.verdict.judged import PRICE_ITEMS, Judged, Judgement
 from callauction.verdict.phases import recorded_sums
 from callauction.verdict.rows import REPLACE, Rows
 
@@ -40,7 +39,7 @@ class Totals:
         key, rows = int(self.rows.key[place]), self.found.bad_rows
         above = [it for it in zip(self.found.uncrosses, self.executed) if it[0].place < place]
         those = [each for judged, _ in above for each in judged.differences]
-        is_open = any(key in each.keys or each.item in SUMS for each in those)
+        is_open = any(key in each.keys or each.item in PRICE_ITEMS for each in those)
         is_behind = all(self._is_later(it.place, place) for it, keys in above if key in keys)
         return is_behind and not is_open and self.doubts.above(place, rows) is None
 
