@@ -215,48 +215,95 @@ def read_table(
     a missing column, ConditionError for a condition that is none, ExtractError for a file that is
     none of this form, and OSError.
     """
+    table, columns = _opened(source, reading)
+    table, conditions = _named(table, columns, reading, by)
+    met = _meeting(table.source, conditions, reading)
+    is_early = _early(table.source, conditions, table.names, reading, met)
+    found, names = _with_kinds(table.source, table.names, reading)
+    _refuse_empty(found, names, reading, table.short)
+    table = dataclasses.replace(table, source=found, names=names)
+    table, met = _without_last_totals(table, met, reading)
+    table = _parted(_timed(table, reading), met)
+    if by is None:
+        _refuse_several(table.source, columns, reading.format == "fix")
+    return _noted(table, is_early, reading)
+
+
+def _opened(
+    source: pandas.DataFrame | str | os.PathLike[str] | BinaryIO, reading: Reading
+) -> tuple[Table, list[str]]:
+    """The whole table of a frame or of a file, and the names of its columns. Raises ColumnError for
+    a double one, ExtractError and OSError.
+    """
     if isinstance(source, pandas.DataFrame):
         table, columns = Table(frame_source(source)), [*map(str, source.columns)]
     else:
         table = file_of(source, reading)
         columns = [*table.source.names]
-    found = table.source
     twice = next((name for name in columns if name and columns.count(name) > 1), None)
     if twice is not None:
         raise ColumnError(f"the table has the column {twice!r} twice")
+    return table, columns
+
+
+def _named(
+    table: Table, columns: list[str], reading: Reading, by: str | None
+) -> tuple[Table, "list[_Condition]"]:
+    """The table with columns that are joined and by our names its own, and the conditions that its
+    rows are to meet. Raises ColumnError and ConditionError.
+    """
     joins = joins_of(reading.columns, columns)
-    found = joined(found, joins)
+    found = joined(table.source, joins)
     keys = columns_of(by, columns)
     conditions = [_condition(text, columns) for text in reading.where]
     used = {condition.name for condition in conditions} | {*keys, *filter(None, [reading.pair])}
     parts = {part for those in joins.values() for part in those}
     names = _names(found, reading, used | parts, parts)
-    met = _meeting(found, conditions, reading)
-    is_early = _early(found, conditions, names, reading, met)
-    found, names = _with_kinds(found, names, reading)
-    _refuse_empty(found, names, reading, table.short)
-    if table.totals is not None and len(found) and table.totals == found.labels[-1]:
-        if _kinds(found.take(numpy.array([len(found) - 1])), names["event"], reading)[0] < 0:
-            table, keep = _without_totals(table, table.totals), numpy.arange(len(found) - 1)
-            found, met = found.take(keep), met[keep]
+    return dataclasses.replace(table, source=found, names=names), conditions
+
+
+def _without_last_totals(table: Table, met: Mask, reading: Reading) -> tuple[Table, Mask]:
+    """The table, and which of its rows meet all conditions, without a last row of totals, which has
+    none of our events.
+    """
+    found, last = table.source, len(table.source) - 1
+    if table.totals is None or last < 0 or table.totals != found.labels[last]:
+        return table, met
+    if _kinds(found.take(numpy.array([last])), table.names["event"], reading)[0] >= 0:
+        return table, met
+    keep = numpy.arange(last)
+    table = dataclasses.replace(_without_totals(table, table.totals), source=found.take(keep))
+    return table, met[keep]
+
+
+def _timed(table: Table, reading: Reading) -> Table:
+    """The table with what its dates are, and the time of its end."""
+    found, theirs = table.source, table.names.get("time")
     dates: str = reading.dates
-    if "time" in names and not dates:
-        dates = clocks.dates_of(found.cells(names["time"]))
+    if theirs is not None and not dates:
+        dates = clocks.dates_of(found.cells(theirs))
     end = table.end
-    if end is not None and "time" in names and len(found):
-        end = end._replace(time=found.cells(names["time"]).text(len(found) - 1))
-    dropped = None if met.all() else found.take(numpy.flatnonzero(~met))
-    kept = found if dropped is None else found.take(numpy.flatnonzero(met))
-    if by is None:
-        _refuse_several(kept, columns, reading.format == "fix")
+    if end is not None and theirs is not None and len(found):
+        end = end._replace(time=found.cells(theirs).text(len(found) - 1))
+    return dataclasses.replace(table, dates=dates, end=end)
+
+
+def _parted(table: Table, met: Mask) -> Table:
+    """The table, whose rows that don't meet all conditions are dropped."""
+    if met.all():
+        return table
+    kept, dropped = (table.source.take(numpy.flatnonzero(it)) for it in (met, ~met))
+    return dataclasses.replace(table, source=kept, dropped=dropped)
+
+
+def _noted(table: Table, is_early: Mask, reading: Reading) -> Table:
+    """The table with notes on the rows that are dropped, of which some are just too early."""
     notes = Counter(table.notes)
-    if dropped is not None:
-        kinds = _kinds(dropped, names["event"], reading)
+    if table.dropped is not None:
+        kinds = _kinds(table.dropped, table.names["event"], reading)
         notes[LEFT_OUT] = int((kinds >= UNCROSS).sum())
         notes[TOO_EARLY] = int((kinds[is_early] == NEW).sum())
-    return dataclasses.replace(
-        table, source=kept, dropped=dropped, names=names, end=end, notes=+notes, dates=dates
-    )
+    return dataclasses.replace(table, notes=+notes)
 
 
 def _refuse_several(source: Source, columns: Collection[str], has_tags: bool) -> None:
@@ -342,8 +389,8 @@ def _refuse_empty(
 
 
 def _with_kinds(
-    source: Source, names: dict[str, str], reading: Reading
-) -> tuple[Source, dict[str, str]]:
+    source: Source, names: Mapping[str, str], reading: Reading
+) -> tuple[Source, Mapping[str, str]]:
     """The rows with a column for each of ours that is another one for some kinds of rows."""
     of_kinds = kinds_of(reading.columns)
     if not of_kinds:
