@@ -48,6 +48,10 @@ def rows_of(
 ) -> Rows:
     """The rows of a table. `given` are prices beside those of the rows; `instrument` numbers the
     instrument of each row, in whose order the rows are then. Raises ExtractError.
+
+    The order of the steps matters: the two sides of a trade are joined before trades are read,
+    which need both; bad rows are those of the table before what was sent again is left out, and
+    holes are looked for then; ids become keys of orders before anything is looked up by its order.
     """
     columns, order, time = _ordered(table, reading, instrument)
     lead = numpy.zeros(len(order), "i4") if instrument is None else instrument[order]
@@ -55,44 +59,78 @@ def rows_of(
     rows, is_market = _read(columns, table, given, time, _groups(time, sequence, lead), lead)
     rows.spots = order
     rows.is_unsaid = "restriction" not in table.names and not reading.unrestricted
-    kind = rows.kind.copy()
+    kind = rows.kind.copy()  # by their words alone, whatever is wrong with them
     if reading.sort and "time" in columns.names:
-        rows.slack = _slack(columns, kind)
-        later = numpy.flatnonzero((time >= clocks.DAY) & (time < clocks.DATED))
-        if len(later) and sequence is None:
-            first = columns.source.labels[later[0]]
-            rows.next_day = f"the time of row {first} has no date: is it the next day's?"
+        _look_at_times(rows, columns, kind, sequence is not None)
     _look_at_orders(rows, columns, is_market)
-    pairs = columns.source.cells(reading.pair).codes()[0] if reading.pair else None
+    _join_two_sides(rows, columns, sequence, lead)
+    _look_at_results(rows, columns)
+    _look_at_peaks(rows, columns)
+    unread = _unread_ids(rows, kind)
+    drop_sent_again(rows, columns, sequence, lead)
+    rows.number = columns.row_numbers()
+    if instrument is None and table.is_whole:
+        _look_for_holes(rows, table, reading)
+    rows = below_their_entries(rows)
+    make_keys(rows, unread)
+    if "new_order" not in columns.names:
+        look_for_given(rows, lead)
+    take_busted(rows)
+    _note_odd_times(rows)
+    return rows
+
+
+def _look_at_times(rows: Rows, columns: Columns, kind: Bytes, has_sequence: bool) -> None:
+    """Sets the step of the times of results where that of orders is finer, and says of times
+    without a date that they may be the next day's.
+    """
+    rows.slack = _slack(columns, kind)
+    later = numpy.flatnonzero((rows.time >= clocks.DAY) & (rows.time < clocks.DATED))
+    if len(later) and not has_sequence:
+        first = columns.source.labels[later[0]]
+        rows.next_day = f"the time of row {first} has no date: is it the next day's?"
+
+
+def _join_two_sides(rows: Rows, columns: Columns, sequence: Ints | None, lead: Codes) -> None:
+    """Joins the two rows that a trade has, by a column that pairs them where one is named."""
+    pair = columns.reading.pair
+    pairs = columns.source.cells(pair).codes()[0] if pair else None
     if pairs is not None and sequence is not None:
         drop_sides_again(rows, columns, sequence, lead)
     join_sides(rows, pairs, lead)
-    _look_at_results(rows, columns)
-    rows.is_iceberg = numpy.zeros(len(kind), bool)
+
+
+def _look_at_peaks(rows: Rows, columns: Columns) -> None:
+    """Sets which orders are icebergs, and notes the peaks that the rules would refuse."""
+    rows.is_iceberg = numpy.zeros(len(rows.kind), bool)
     if "peak" in columns.names:
         peak = columns.wholes("peak")
         rows.is_iceberg = (peak > 0) & (peak < rows.quantity) & (rows.kind == NEW)
         odd = (peak <= 0) | (peak > rows.quantity) | (rows.price == MARKET)
         rows.notes[PEAKS] += int((odd & (peak != MISSING) & (rows.kind == NEW)).sum())
+
+
+def _unread_ids(rows: Rows, kind: Bytes) -> Codes:
+    """The ids in bad rows that may enter an order: of this kind, or of none that is known."""
     unread = numpy.array([it.place for it in rows.bad], "i8")
     is_new = (kind[unread] < 0) | (kind[unread] == NEW)
-    ids_unread = numpy.concatenate([rows.key[unread[is_new]], rows.new_id[unread]])
-    drop_sent_again(rows, columns, sequence, lead)
-    rows.number = columns.row_numbers()
-    if instrument is None and table.is_whole:
-        gaps = gaps_in(table, reading, rows.number)
-        find_holes(rows, gaps)
-        rows.notes.update(remark_of(gaps))
-    rows = below_their_entries(rows)
-    make_keys(rows, ids_unread)
-    if "new_order" not in columns.names:
-        look_for_given(rows, lead)
-    take_busted(rows)
+    found: Codes = numpy.concatenate([rows.key[unread[is_new]], rows.new_id[unread]])
+    return found
+
+
+def _look_for_holes(rows: Rows, table: Table, reading: Reading) -> None:
+    """Finds which numbers of a table's rows are missing, and notes it."""
+    gaps = gaps_in(table, reading, rows.number)
+    find_holes(rows, gaps)
+    rows.notes.update(remark_of(gaps))
+
+
+def _note_odd_times(rows: Rows) -> None:
+    """Notes the times that can't be read."""
     if rows.is_odd.any():
         cell = rows.names.time(int(rows.is_odd.argmax()))
         rows.notes[f"{NO_TIME}, such as {cell!r}"] += int(rows.is_odd.sum())
         rows.notes[STROKES] += times.is_stroked(times.date_text(cell))
-    return rows
 
 
 def dropped_numbers(table: Table, reading: Reading) -> list[Ints]:
