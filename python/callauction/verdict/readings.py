@@ -85,7 +85,8 @@ def _read_otherwise(first: Judgement, judge: Judge) -> Judgement:
     if not first.unlawful:
         return first
     rows, rules, found = judge.rows, judge.rules, first
-    ways = [*_changes(found, judge), _orders_of_ties(judge), *_over_uncrosses(judge, found)]
+    ways = [*_Otherwise(found, judge).lists(), _orders_of_ties(judge)]
+    ways += _over_uncrosses(judge, found)
     falls, across = _falls(rows) or _falls(rows, True), _across(rows)
     moves = ((_by_time, falls), (lambda it: it.ordered(all_times(it)), across),
              (_by_number, _numbers_fall(rows)[0]), _by_table(rows, found))  # fmt: skip
@@ -161,69 +162,142 @@ def _with_differences(found: Judgement, those: Mapping[int, Sequence[Difference]
     return dataclasses.replace(found, uncrosses=uncrosses)
 
 
-def _changes(found: Judgement, judge: Judge) -> Iterator[list[Change]]:
-    """What may be read otherwise in rows of this order."""
-    rows, rules = judge.rows, judge.rules
-    again = second_trades(rows)
-    if len(again):
-        yield [_without_rows(rows, again, TWICE)]
-    if _may_correct(found, rows, rules):
-        yield [_rows(functools.partial(corrected, due=rules.due), CORRECTED)]
-    ways = [functools.partial(with_names, due=rules.due, way=it)
-            for it in namings(found, rows, rules)]  # fmt: skip
-    yield [_rows(way, UNNAMED) for way in ways]
-    yield [
-        _without_rows(rows, each, f"row {rows.labels[each[0]]} is there twice: is it one?")
-        for each in _copies(found, judge, again)
-    ]
-    earlier, why = amended(rows)
-    if len(earlier):
-        yield [_without_rows(rows, earlier, why)]
-    if rows.end is not None and rows.end.is_cut:
-        why = f"the file ends within a line, and row {rows.end.label} may be cut"
-        yield [_rows(functools.partial(_cut_off, rows.end), why)]
-    spelled = respelled(rows) or renamed(rows, found) or misentered(rows, found)
-    if spelled is not None:
-        yield [_rows(functools.partial(_respelled, spelled[0]), spelled[1])]
-    elif have_other_ids(rows, found, numpy.union1d(copies(rows, found), earlier)):
-        yield [_without_rows(rows, rows.of(TRADE, FILL), OTHER_IDS)]
-    plain = rows if spelled is None else spelled[0]
-    members = ((_with_owners, Owners(plain).told()), (_without_codes, without_codes(plain)))
-    yield from ([_rows(change, told[1])] for change, told in members if told is not None)
-    price = _filled_prices(rows)
-    if price is not None:
-        unchanged = functools.partial(_priced, price)
-        yield [_rows(unchanged, UNCHANGED), _rows(_without_prices, UNCHANGED)]
-    if rules.range is not None and rules.range.whole is None and rules.reference:
-        span = dataclasses.replace(rules.range, whole=rules.reference)
-        yield [(lambda day: (day[0], dataclasses.replace(day[1], range=span)), PERCENT)]
-    if rules.may_have_totals and Totals(found, rows, judge.doubts).may_be():
-        yield [(lambda day: (day[0], dataclasses.replace(day[1], has_totals=True)), TOTALS)]
-    shown = lacking(found, rows)
-    if shown is not None:
-        more, why = shown[0].quantity - rows.quantity, shown[1]
-        whole = _rows(lambda it: _with({"quantity": it.quantity + more}, it), why)
-        yield [whole, (lambda day: with_rests(whole[0](day)), why)]
-    lots = ((dict(quantity=it.quantity, surplus=it.surplus), why)
-            for it, why in in_shares(rows, lot_of(found)))  # fmt: skip
-    yield [_rows(functools.partial(_with, those), why) for those, why in lots]
-    why = why_two_units(rows, rules.reference)
-    if why:  # the last, as prices have other numbers then
-        yield [_rows(functools.partial(in_one_unit, reference=rules.reference), why)]
-
-
-def _copies(found: Judgement, judge: Judge, again: Ints) -> list[Ints]:
-    """Rows that may be copies, but for those that are second ones of each trade: first those that
-    are too many of their orders, then all, then one alone.
+class _Otherwise:
+    """What may be read otherwise in rows of this order: a list for each cause, of whose readings no
+    two go together, while those of several causes do.
     """
-    those = copies(judge.rows, found)
-    extra = _too_many(found, judge, those)
-    is_second = numpy.isin(those, again)
-    those = those[numpy.argsort(is_second, kind="stable")]
-    single = [those[at : at + 1] for at in range(len(those))] if len(those) > 1 else []
-    has_others = not is_second.all()
-    is_part = 0 < len(extra) < len(those)
-    return [extra] * is_part + ([those] * has_others + single)[:5]
+
+    def __init__(self, found: Judgement, judge: Judge) -> None:
+        self.found, self.judge, self.rows, self.rules = found, judge, judge.rows, judge.rules
+        self.again = second_trades(self.rows)
+        self.earlier, self.why_earlier = amended(self.rows)
+        self.spelled = (
+            respelled(self.rows) or renamed(self.rows, found) or misentered(self.rows, found)
+        )
+
+    def lists(self) -> list[list[Change]]:
+        """The readings by their causes."""
+        return [
+            self._one_side(), self._corrections(), self._names(), self._copies(), self._amended(),
+            self._cut(), self._spellings(), self._owners(), self._codes(), self._unchanged(),
+            self._percent(), self._totals(), self._lacking(), self._lots(),
+            self._units(),  # the last, as prices have other numbers then
+        ]  # fmt: skip
+
+    def _one_side(self) -> list[Change]:
+        """Each trade has two rows, one for each side."""
+        return [_without_rows(self.rows, self.again, TWICE)] if len(self.again) else []
+
+    def _corrections(self) -> list[Change]:
+        """A later result corrects another."""
+        if not _may_correct(self.found, self.rows, self.rules):
+            return []
+        return [_rows(functools.partial(corrected, due=self.rules.due), CORRECTED)]
+
+    def _names(self) -> list[Change]:
+        """Results are of other auctions."""
+        due = self.rules.due
+        ways = namings(self.found, self.rows, self.rules)
+        return [_rows(functools.partial(with_names, due=due, way=it), UNNAMED) for it in ways]
+
+    def _copies(self) -> list[Change]:
+        """Rows are there twice: but for those that are second ones of each trade, first those that
+        are too many of their orders, then all, then one alone.
+        """
+        those = copies(self.rows, self.found)
+        extra = _too_many(self.found, self.judge, those)
+        is_second = numpy.isin(those, self.again)
+        those = those[numpy.argsort(is_second, kind="stable")]
+        single = [those[at : at + 1] for at in range(len(those))] if len(those) > 1 else []
+        has_others = not is_second.all()
+        is_part = 0 < len(extra) < len(those)
+        labels = self.rows.labels
+        return [
+            _without_rows(self.rows, each, f"row {labels[each[0]]} is there twice: is it one?")
+            for each in [extra] * is_part + ([those] * has_others + single)[:5]
+        ]
+
+    def _amended(self) -> list[Change]:
+        """Rows are amended by later ones."""
+        if not len(self.earlier):
+            return []
+        return [_without_rows(self.rows, self.earlier, self.why_earlier)]
+
+    def _cut(self) -> list[Change]:
+        """The file's last row is cut."""
+        end = self.rows.end
+        if end is None or not end.is_cut:
+            return []
+        why = f"the file ends within a line, and row {end.label} may be cut"
+        return [_rows(functools.partial(_cut_off, end), why)]
+
+    def _spellings(self) -> list[Change]:
+        """Ids are spelled otherwise, or trades have others than orders."""
+        rows, found = self.rows, self.found
+        if self.spelled is not None:
+            return [_rows(functools.partial(_respelled, self.spelled[0]), self.spelled[1])]
+        if have_other_ids(rows, found, numpy.union1d(copies(rows, found), self.earlier)):
+            return [_without_rows(rows, rows.of(TRADE, FILL), OTHER_IDS)]
+        return []
+
+    @property
+    def _plain(self) -> Rows:
+        """The rows in one spelling."""
+        return self.rows if self.spelled is None else self.spelled[0]
+
+    def _owners(self) -> list[Change]:
+        """The entry of an order has a wrong member."""
+        told = Owners(self._plain).told()
+        return [] if told is None else [_rows(_with_owners, told[1])]
+
+    def _codes(self) -> list[Change]:
+        """Members have other codes in trades than in orders."""
+        told = without_codes(self._plain)
+        return [] if told is None else [_rows(_without_codes, told[1])]
+
+    def _unchanged(self) -> list[Change]:
+        """Replaces without a price leave it as it is."""
+        price = _filled_prices(self.rows)
+        if price is None:
+            return []
+        unchanged = functools.partial(_priced, price)
+        return [_rows(unchanged, UNCHANGED), _rows(_without_prices, UNCHANGED)]
+
+    def _percent(self) -> list[Change]:
+        """The range is a percentage."""
+        span, reference = self.rules.range, self.rules.reference
+        if span is None or span.whole is not None or not reference:
+            return []
+        of_it = dataclasses.replace(span, whole=reference)
+        return [(lambda day: (day[0], dataclasses.replace(day[1], range=of_it)), PERCENT)]
+
+    def _totals(self) -> list[Change]:
+        """Replaces say the total of an order."""
+        if not self.rules.may_have_totals:
+            return []
+        if not Totals(self.found, self.rows, self.judge.doubts).may_be():
+            return []
+        return [(lambda day: (day[0], dataclasses.replace(day[1], has_totals=True)), TOTALS)]
+
+    def _lacking(self) -> list[Change]:
+        """Orders show a part of their shares alone."""
+        shown = lacking(self.found, self.rows)
+        if shown is None:
+            return []
+        more, why = shown[0].quantity - self.rows.quantity, shown[1]
+        whole = _rows(lambda it: _with({"quantity": it.quantity + more}, it), why)
+        return [whole, (lambda day: with_rests(whole[0](day)), why)]
+
+    def _lots(self) -> list[Change]:
+        """Quantities are lots of shares."""
+        ways = in_shares(self.rows, lot_of(self.found))
+        lots = ((dict(quantity=it.quantity, surplus=it.surplus), why) for it, why in ways)
+        return [_rows(functools.partial(_with, those), why) for those, why in lots]
+
+    def _units(self) -> list[Change]:
+        """Prices are in two units."""
+        why, reference = why_two_units(self.rows, self.rules.reference), self.rules.reference
+        return [_rows(functools.partial(in_one_unit, reference=reference), why)] if why else []
 
 
 def _too_many(found: Judgement, judge: Judge, those: Ints) -> Ints:
