@@ -75,6 +75,17 @@ class Difference:
         """How many shares more were recorded in a trade or a fill than are lawful."""
         return _shares(self.recorded) - _shares(self.lawful)
 
+    @property
+    def is_of_shares(self) -> bool:
+        """Whether it is of a trade or a fill, by what is recorded, or else by what is lawful."""
+        return isinstance(self.recorded or self.lawful, Trade | Fill)
+
+    @property
+    def is_of_shares_alone(self) -> bool:
+        """Whether it is of a trade or a fill, and not of which auction that is."""
+        values = (self.recorded, self.lawful)
+        return all(it is None or isinstance(it, Trade | Fill) for it in values)
+
 
 def _shares(value: Value) -> int:
     return value.quantity if isinstance(value, Trade | Fill) else 0

@@ -30,23 +30,18 @@ def grouped(context: Context, differences: Sequence[Difference]) -> list[list[Di
 
 def _by_jump(context: Context, differences: Sequence[Difference]) -> list[list[Difference]]:
     """The differences, those of one jump being one group."""
-    movable = [it for it in differences if _is_made(it)]
+    movable = [it for it in differences if it.is_of_shares]
     if len(movable) < 2 or context.judged.result is None:
         return [[each] for each in differences]
     jump_of = {key: number for number, keys in enumerate(_jumps(context)) for key in keys}
     groups: dict[tuple[object, ...], list[Difference]] = {}
     for place, each in enumerate(differences):
         jump = next((jump_of[key] for key in each.keys if key in jump_of), None)
-        is_moved = jump is not None and _is_made(each)
+        is_moved = jump is not None and each.is_of_shares
         mark = (jump, each.doubt) if is_moved else (None, place)
         groups.setdefault(mark, []).append(each)
     found = [sorted(those, key=_shares, reverse=True) for those in groups.values()]
-    return sorted(found, key=lambda those: (_is_made(those[0]), -_shares(those[0])))
-
-
-def _is_made(each: Difference) -> bool:
-    """Whether a difference is of a trade or a fill."""
-    return isinstance(each.recorded or each.lawful, Trade | Fill)
+    return sorted(found, key=lambda those: (those[0].is_of_shares, -_shares(those[0])))
 
 
 def _jumps(context: Context) -> Iterator[list[int]]:
@@ -219,7 +214,7 @@ def _of_price(context: Context, differences: Sequence[Difference], at: int) -> I
     due = {"volume": volume, "surplus": max(sums) - volume, "side": side}
     is_lawful = _shares_at(context, at, volume) == context.recorded
     for each in differences:
-        follows = is_lawful and (_is_made(each) or each.item == "count")
+        follows = is_lawful and (each.is_of_shares or each.item == "count")
         if due.get(each.item) == each.recorded is not None or follows:
             yield each
 

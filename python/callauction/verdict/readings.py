@@ -12,7 +12,7 @@ from callauction.verdict import clocks
 from callauction.verdict.again import amended, copies, second_trades, too_many
 from callauction.verdict.cells import Codes, Ints
 from callauction.verdict.codes import without_codes
-from callauction.verdict.comparing import Difference, Fill, Trade, doubted
+from callauction.verdict.comparing import Difference, doubted
 from callauction.verdict.doubts import MOST_FALLS
 from callauction.verdict.early import Early
 from callauction.verdict.hidden import lacking, with_rests
@@ -45,8 +45,16 @@ MOST_READINGS = 64
 """How many readings are tried."""
 LATE = "trades without a time or an auction may be of any"
 Day = tuple[Rows, Rules]
-Change = tuple[Callable[[Day], Day], str]
-"""What is read otherwise, and why."""
+
+
+@dataclasses.dataclass(frozen=True)
+class Change:
+    """A reading of a day: what is read otherwise, and why."""
+
+    apply: Callable[[Day], Day]
+    why: str
+    keeps_values: bool = False
+    """Whether what stands in both readings is shown with the first one's values."""
 
 
 def judged_day(rows: Rows, rules: Rules, whole: Rows, watch: Watch = iter) -> Judgement:
@@ -122,8 +130,8 @@ def _without(found: Judgement, first: Judgement, day: Day, those: list[Change]) 
     if not found.unlawful:
         return found
     rows = day[0]
-    for change, _ in those:
-        day = change(day)
+    for change in those:
+        day = change.apply(day)
     judge, spots = Judge(*day), rows.spots
     unlawful = numpy.flatnonzero(numpy.isin(day[0].spots, spots[[*first.unlawful]]))
     other = judge.judged_within({*unlawful.tolist()})
@@ -138,7 +146,7 @@ def _without(found: Judgement, first: Judgement, day: Day, those: list[Change]) 
         if marks - {marked(it, rows) for it in (above.certain if above else ())}:
             return found
         left[spot] = judge.reasons.left_in(each)
-    return _cleared(found, rows, left, "; ".join(why for _, why in those))
+    return _cleared(found, rows, left, "; ".join(it.why for it in those))
 
 
 def _cleared(found: Judgement, rows: Rows, left: dict[int, set[Mark]], why: str) -> Judgement:
@@ -269,7 +277,7 @@ class _Otherwise:
         if span is None or span.whole is not None or not reference:
             return []
         of_it = dataclasses.replace(span, whole=reference)
-        return [(lambda day: (day[0], dataclasses.replace(day[1], range=of_it)), PERCENT)]
+        return [Change(lambda day: (day[0], dataclasses.replace(day[1], range=of_it)), PERCENT)]
 
     def _totals(self) -> list[Change]:
         """Replaces say the total of an order."""
@@ -277,7 +285,12 @@ class _Otherwise:
             return []
         if not Totals(self.found, self.rows, self.judge.doubts).may_be():
             return []
-        return [(lambda day: (day[0], dataclasses.replace(day[1], has_totals=True)), TOTALS)]
+        return [
+            Change(
+                lambda day: (day[0], dataclasses.replace(day[1], has_totals=True)), TOTALS,
+                keeps_values=True,
+            )
+        ]  # fmt: skip
 
     def _lacking(self) -> list[Change]:
         """Orders show a part of their shares alone."""
@@ -286,7 +299,7 @@ class _Otherwise:
             return []
         more, why = shown[0].quantity - self.rows.quantity, shown[1]
         whole = _rows(lambda it: _with({"quantity": it.quantity + more}, it), why)
-        return [whole, (lambda day: with_rests(whole[0](day)), why)]
+        return [whole, Change(lambda day: with_rests(whole.apply(day)), why)]
 
     def _lots(self) -> list[Change]:
         """Quantities are lots of shares."""
@@ -306,14 +319,14 @@ def _too_many(found: Judgement, judge: Judge, those: Ints) -> Ints:
     cancels = those[rows.kind[those] == CANCEL]
     if not 0 < len(cancels) < len(those):
         return too_many(rows, found, those)
-    rows, rules = _without_rows(rows, cancels, "")[0]((rows, rules))
+    rows, rules = _without_rows(rows, cancels, "").apply((rows, rules))
     extra = too_many(rows, Judge(rows, rules).judge(), those)
     return numpy.concatenate([cancels, extra])
 
 
 def _rows(change: Callable[[Rows], Rows], why: str) -> Change:
     """What changes the rows of a day alone."""
-    return (lambda day: (change(day[0]), day[1])), why
+    return Change(lambda day: (change(day[0]), day[1]), why)
 
 
 def _without_rows(rows: Rows, these: Ints, why: str) -> Change:
@@ -543,18 +556,17 @@ def _by_table(rows: Rows, found: Judgement) -> tuple[Callable[[Rows], Rows], str
 def standing(first: Judgement, day: Day, changes: Sequence[Change]) -> Judgement:
     """The judgement of the day in one of these readings, which leave each row in its place, with
     what the first judgement shows too; all else of both is in doubt. The first one where no reading
-    has fewer certain differences, and its own values where quantities are totals. Raises
-    ProgramError.
+    has fewer certain differences. Raises ProgramError.
     """
     late, best = _placed(day[0], first), first
     those: list[Change] = [*changes]
     if late is not None:
         placed: Rows = late
         those.append(_rows(lambda _: placed, LATE))
-    for change, why in those:
-        rows, rules = change(day)
+    for change in those:
+        rows, rules = change.apply(day)
         if rows.labels is day[0].labels and _certain(best) > 1:
-            found = _merged(first, Judge(rows, rules).judge(), (day[0], rows), why)
+            found = _merged(first, Judge(rows, rules).judge(), (day[0], rows), change)
             if 0 < _certain(found) < _certain(best):
                 best = found
     return best
@@ -565,56 +577,53 @@ def _certain(judgement: Judgement) -> int:
     return sum(len(each.certain) for each in judgement.uncrosses)
 
 
-def _merged(first: Judgement, other: Judgement, both: tuple[Rows, Rows], why: str) -> Judgement:
+def _merged(
+    first: Judgement, other: Judgement, both: tuple[Rows, Rows], change: Change
+) -> Judgement:
     """Both judgements in one, each of its rows, as standing has it; without uncrosses where theirs
     differ.
     """
     if [it.place for it in first.uncrosses] != [it.place for it in other.uncrosses]:
         return dataclasses.replace(other, uncrosses=())
     pairs = zip(first.uncrosses, other.uncrosses)
-    merged = _of_first if why == TOTALS else _both
-    found = tuple(merged(one, each, both, why) for one, each in pairs)
+    merged = _in_own_values if change.keeps_values else _both
+    found = tuple(merged(one, each, both, change.why) for one, each in pairs)
     return dataclasses.replace(first, uncrosses=found)
 
 
 def _both(one: Judged, other: Judged, both: tuple[Rows, Rows], why: str) -> Judged:
-    """An uncross in another reading, whose differences are certain where the first one has them, or
-    has the same orders' shares too many or too few; with those of the first in doubt.
+    """An uncross in another reading, with what that shows of the first one and with the differences
+    of the first one in doubt.
     """
-    mark, same = functools.partial(marked, rows=both[0]), _alike(one, other, both)
-    own = {*map(mark, one.certain)}
-    kept = [
-        it if mark(it) in own or _is_made(it) and same & {*it.keys} else doubted([it], why)[0]
-        for it in other.differences
-    ]
-    shown = {*map(mark, kept)}
-    rest = [it for it in doubted(one.differences, why) if mark(it) not in shown]
+    kept = _agreeing(other, one, both[0], _alike(one, other, both), why)
+    shown = {marked(it, both[0]) for it in kept}
+    rest = [it for it in doubted(one.differences, why) if marked(it, both[0]) not in shown]
     return dataclasses.replace(other, differences=(*kept, *rest))
 
 
-def _of_first(one: Judged, other: Judged, both: tuple[Rows, Rows], why: str) -> Judged:
-    """An uncross of the first reading, whose differences are certain where those of the other one
-    are, or it has the same orders' shares too many or too few.
-    """
-    mark, same = functools.partial(marked, rows=both[0]), _alike(one, other, both)
-    own = {*map(mark, other.certain)}
-    kept = tuple(
-        it if mark(it) in own or _is_made(it) and same & {*it.keys} else doubted([it], why)[0]
-        for it in one.differences
-    )
+def _in_own_values(one: Judged, other: Judged, both: tuple[Rows, Rows], why: str) -> Judged:
+    """An uncross of the first reading, with what that shows of another one."""
+    kept = _agreeing(one, other, both[0], _alike(one, other, both), why)
     return dataclasses.replace(one, differences=kept)
+
+
+def _agreeing(
+    shown: Judged, by: Judged, rows: Rows, same: set[int], why: str
+) -> tuple[Difference, ...]:
+    """The differences of an uncross in one reading: certain where those by another one are, or of
+    the shares of the same orders; else in doubt.
+    """
+    certain = {marked(it, rows) for it in by.certain}
+    return tuple(
+        it if marked(it, rows) in certain or it.is_of_shares_alone and same & {*it.keys}
+        else doubted([it], why)[0] for it in shown.differences
+    )  # fmt: skip
 
 
 def _alike(one: Judged, other: Judged, both: tuple[Rows, Rows]) -> set[int]:
     """The orders that have too many shares in both readings of an uncross, or too few in both."""
     signs = _signs(one, both[0])
     return {key for key, sign in _signs(other, both[1]).items() if signs.get(key) == sign}
-
-
-def _is_made(each: Difference) -> bool:
-    """Whether a difference is of a trade or a fill, and not of which auction it is."""
-    values = (each.recorded, each.lawful)
-    return all(it is None or isinstance(it, Trade | Fill) for it in values)
 
 
 def _signs(judged: Judged, rows: Rows) -> dict[int, int]:
