@@ -75,7 +75,7 @@ def _drop_results(rows: Rows, columns: Columns, lead: Codes) -> None:
     """Leaves out later results that say what the one before of their auction says, with its name
     and its time: all but the sequence is the same.
     """
-    is_named = (rows.kind == UNCROSS) & (rows.state > 0) & (rows.time != clocks.NONE)
+    is_named = (rows.kind == UNCROSS) & (rows.state > 0) & (rows.time != clocks.NO_TIME)
     these = numpy.flatnonzero(is_named)
     if len(these) > 1:
         own = paired_codes(lead[these], columns.content(these, "sequence"))
@@ -139,7 +139,7 @@ def _drop(rows: Rows, again: Ints) -> None:
 def _repeatable(rows: Rows) -> Ints:
     """Rows of which one more changes nothing: at one time, an entry or a named result at any."""
     kind = rows.kind
-    named = (kind == UNCROSS) & (rows.state > 0) & (rows.time != clocks.NONE)
+    named = (kind == UNCROSS) & (rows.state > 0) & (rows.time != clocks.NO_TIME)
     whole = (kind == REPLACE) | (kind == UNCROSS) & ~named | (kind == CANCEL) & (rows.quantity <= 0)
     tied = numpy.flatnonzero(whole & (numpy.bincount(rows.group)[rows.group] > 1))
     marks = paired_codes(rows.group[tied] * 8 + kind[tied], rows.key[tied] + 1)

@@ -6,7 +6,7 @@ import numpy
 from callauction.verdict import times
 from callauction.verdict.cells import Bytes, Cells, Ints
 
-NONE = numpy.iinfo("i8").min
+NO_TIME = numpy.iinfo("i8").min
 """The number of a time that isn't there or can't be read."""
 SECOND = 10**9
 DAY = times.DAY_SECONDS * SECOND
@@ -31,24 +31,24 @@ def dates_of(cells: Cells) -> str:
 
 
 def nanoseconds(cells: Cells, dates: str = "") -> Ints:
-    """Each cell's time in nanoseconds, as verdict.times has it in seconds; NONE for none."""
-    found = numpy.full(len(cells), NONE, "i8")
+    """Each cell's time in nanoseconds, as verdict.times has it in seconds; NO_TIME for none."""
+    found = numpy.full(len(cells), NO_TIME, "i8")
     for length in numpy.unique(cells.length[cells.length > 0]):
         rows = numpy.flatnonzero(cells.length == length)
         for begin in range(0, len(rows), _AT_ONCE):
             _read(cells, rows[begin : begin + _AT_ONCE], int(length), found, dates)
-    left = numpy.flatnonzero((found == NONE) & (cells.length > 0))
+    left = numpy.flatnonzero((found == NO_TIME) & (cells.length > 0))
     if len(left):
         codes, texts = cells.take(left).texts()
-        found[left] = numpy.array([*(nanosecond(it, dates) for it in texts), NONE], "i8")[codes]
+        found[left] = numpy.array([*(nanosecond(it, dates) for it in texts), NO_TIME], "i8")[codes]
     return found
 
 
 def nanosecond(text: str, dates: str = "") -> int:
-    """The nanoseconds of one time, NONE where it is none or isn't whole in them."""
+    """The nanoseconds of one time, NO_TIME where it is none or isn't whole in them."""
     value = times.seconds(text, dates)
     scaled = None if value is None else value * SECOND
-    return NONE if scaled is None or scaled != int(scaled) or scaled >= 2**62 else int(scaled)
+    return NO_TIME if scaled is None or scaled != int(scaled) or scaled >= 2**62 else int(scaled)
 
 
 def _read(cells: Cells, rows: Ints, length: int, found: Ints, dates: str) -> None:

@@ -86,7 +86,7 @@ class Doubts:
         first = numpy.full(len(at), len(rows.kind))
         for end in self.uncrosses[::-1].tolist():
             is_above = rows.group[at] == rows.group[end]
-            for values, least in ((rows.time, clocks.NONE + 1), (rows.number, 0)):
+            for values, least in ((rows.time, clocks.NO_TIME + 1), (rows.number, 0)):
                 is_above |= (values[at] < values[end]) & (values[at] >= least)
             first[is_above] = end
         first[rows.is_odd[at]] = 0
@@ -98,7 +98,7 @@ class Doubts:
 
     def _falls(self) -> int:
         """How many times of orders are before that of the row above. Raises ExtractError."""
-        timed = self.orders[self.rows.time[self.orders] != clocks.NONE]
+        timed = self.orders[self.rows.time[self.orders] != clocks.NO_TIME]
         at = self.rows.time[timed]
         falls = numpy.flatnonzero(at[1:] < at[:-1])
         if len(falls) > max(MOST_FALLS, len(at) // 10):
@@ -385,7 +385,7 @@ class Doubts:
             return ""
         last = int(numpy.flatnonzero(rows.kind >= NEW)[-1])
         ends = clocks.nanosecond(end.time, rows.names.dates)
-        is_timed = clocks.NONE not in (ends, rows.time[last])
+        is_timed = clocks.NO_TIME not in (ends, rows.time[last])
         if is_timed and abs(ends - int(rows.time[last])) > clocks.SECOND:
             return ""
         published = int(rows.quantity[place])

@@ -44,7 +44,7 @@ class Early:
             return False
         orders = self.rows.of(*OF_ORDERS)
         at = self.time[orders[numpy.argsort(self.rows.spots[orders])]]
-        at = at[at != clocks.NONE]
+        at = at[at != clocks.NO_TIME]
         return bool(10 * (at[1:] < at[:-1]).sum() > len(at))
 
     def step(self, place: int) -> int:
@@ -59,7 +59,7 @@ class Early:
         written; 0 where it isn't.
         """
         own, due, day = self.time[those], self.time[others], clocks.DAY
-        is_early = (clocks.NONE < own) & (own < due) & ((own < day) == (due < day))
+        is_early = (clocks.NO_TIME < own) & (own < due) & ((own < day) == (due < day))
         found = numpy.zeros(len(those), "i8")
         for at in numpy.flatnonzero(is_early & (others >= 0)).tolist():
             last = int(due[at])

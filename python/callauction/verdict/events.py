@@ -169,7 +169,7 @@ def _read(
         columns.words("kept", _KEPT), columns.words("auction", _STATE),
         columns.wholes("surplus"), columns.wholes("trades"), ids.get("bid", none),
         ids.get("ask", none), bid_member, ask_member, member, groups, prices, names,
-        bool(reading.market), (time == clocks.NONE) & _has(columns, "time"),
+        bool(reading.market), (time == clocks.NO_TIME) & _has(columns, "time"),
         dropped=_dropped(table, columns.names, reading),
         makes_results=reading.results == "trades", end=end,
     )  # fmt: skip
@@ -218,7 +218,7 @@ def _ordered(
     if reading.sort:
         _refuse_unread(columns, time)
         _refuse_forms(columns, lead[order])
-        known = numpy.where(time != clocks.NONE, numpy.arange(len(time)), 0)
+        known = numpy.where(time != clocks.NO_TIME, numpy.arange(len(time)), 0)
         sequence = columns.sequence()
         time = over_midnight(time, sequence, lead[order])
         keys = (time[numpy.maximum.accumulate(known)], lead[order])
@@ -227,7 +227,7 @@ def _ordered(
             _refuse_untimed(columns, time)
         order, time = order[again], time[again]
         columns, _ = _timed(table, order, reading)
-    elif "sequence" in table.names and (numpy.diff(time[time != clocks.NONE]) < -LONGEST).any():
+    elif "sequence" in table.names and (numpy.diff(time[time != clocks.NO_TIME]) < -LONGEST).any():
         time = over_midnight(time, columns.sequence(), lead[order])
     return columns, order, time
 
@@ -237,7 +237,7 @@ def over_midnight(time: Ints, sequence: Ints | None, lead: Codes) -> Ints:
     behind one that is later by more than LONGEST: once, as a session goes on over midnight. Dates
     say it themselves.
     """
-    timed = numpy.flatnonzero(time != clocks.NONE)
+    timed = numpy.flatnonzero(time != clocks.NO_TIME)
     is_known = sequence is None or (sequence[timed] >= 0).all()
     if (time[timed] >= clocks.DAY).any() or not is_known:
         return time
@@ -255,7 +255,7 @@ def over_midnight(time: Ints, sequence: Ints | None, lead: Codes) -> Ints:
 
 def _refuse_unread(columns: Columns, time: Ints) -> None:
     """Raises ExtractError where times can't be read by which rows are sorted."""
-    is_unread = (time == clocks.NONE) & _has(columns, "time")
+    is_unread = (time == clocks.NO_TIME) & _has(columns, "time")
     kinds = columns.words("event", KINDS)
     unread = numpy.flatnonzero(is_unread & (_has(columns, "order") | (kinds > CANCEL)))
     if len(unread):
@@ -273,7 +273,8 @@ def _refuse_untimed(columns: Columns, time: Ints) -> None:
     kinds = columns.words("event", KINDS)
     is_order = (kinds >= NEW) & (kinds <= CANCEL) & _has(columns, "order")
     is_trade = ((kinds == TRADE) | (kinds == FILL)) & ~_has(columns, "auction")
-    untimed = numpy.flatnonzero((time == clocks.NONE) & (is_order | is_trade | (kinds == UNCROSS)))
+    is_due = is_order | is_trade | (kinds == UNCROSS)
+    untimed = numpy.flatnonzero((time == clocks.NO_TIME) & is_due)
     if len(untimed):
         label = columns.source.labels[untimed[0]]
         raise ExtractError(
@@ -328,7 +329,7 @@ def _timed(table: Table, order: Ints, reading: Reading) -> tuple[Columns, Ints]:
     source = table.source if is_whole else table.source.take(order)
     columns = Columns(source, table.names, reading)
     if "time" not in table.names:
-        return columns, numpy.full(len(order), clocks.NONE, "i8")
+        return columns, numpy.full(len(order), clocks.NO_TIME, "i8")
     return columns, clocks.nanoseconds(columns.cells("time"), table.dates)
 
 
@@ -369,7 +370,7 @@ def _groups(time: Ints, sequence: Ints | None, lead: Codes) -> Ints:
         is_unknown = (sequence[two] < sequence[one]) | (sequence[one] < 0)
         falls = found[one[(found[one] == found[two]) & is_unknown]]
         found = paired_codes(found, numpy.where(numpy.isin(found, falls), 0, sequence + 1))
-    own = time == clocks.NONE
+    own = time == clocks.NO_TIME
     found[own] = len(time) + numpy.flatnonzero(own)
     return numbered(found)
 

@@ -36,8 +36,8 @@ class Executions:
         at = rows.time[uncrosses]
         if len(done):
             by = done[numpy.maximum(numpy.searchsorted(uncrosses[done], these) - 1, 0)]
-        if len(done) and len(these) and (at != clocks.NONE).all():
-            timed = rows.time[these] != clocks.NONE
+        if len(done) and len(these) and (at != clocks.NO_TIME).all():
+            timed = rows.time[these] != clocks.NO_TIME
             own = numpy.where(timed, rows.time[these], 0)[:, None]
             by = numpy.where(timed, done[numpy.abs(own - at[done]).argmin(1)], by)
             self.stamps[these] = numpy.where(timed, numpy.abs(own - at).argmin(1), MISSING)

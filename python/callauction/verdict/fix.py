@@ -399,7 +399,7 @@ def _is_of_one_session(source: Source) -> bool:
     is_report = kinds != (words.index(RESULT) if RESULT in words else len(words))
     number = numpy.array([*numbers, -1], "i8")[codes][is_report]
     time = clocks.nanoseconds(source.cells("TransactTime"))[is_report][numpy.argsort(number)]
-    time = time[time != clocks.NONE]
+    time = time[time != clocks.NO_TIME]
     is_own = len(numpy.unique(number)) == len(number) and number.min(initial=0) >= 0
     return is_own and not (time[1:] < time[:-1]).any()
 

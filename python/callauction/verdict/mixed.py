@@ -34,7 +34,7 @@ def _results(rows: Rows) -> Ints:
 
 def is_one_session(rows: Rows) -> bool:
     """Whether rows of two dates are of one session: within LONGEST, its auctions in their order."""
-    at = rows.time[(rows.kind != BAD) & (rows.time != clocks.NONE)]
+    at = rows.time[(rows.kind != BAD) & (rows.time != clocks.NO_TIME)]
     names = rows.state[_results(rows)]
     return bool(
         len(at) and at.max() - at.min() < LONGEST and (names > 0).all()
@@ -61,7 +61,7 @@ def refuse_days(rows: Rows) -> None:
             time, own = rows.time[other], rows.kind[one:other] == NEW
             if is_single and time == rows.time[one]:  # a correction with the time of the auction
                 continue
-            if time != clocks.NONE and (rows.time[one:other][own] > time).any():
+            if time != clocks.NO_TIME and (rows.time[one:other][own] > time).any():
                 what = f"results of one auction, the {AUCTIONS[number]}, of two days or markets"
                 _refuse(rows, (one, other), what, "--where")
 
@@ -139,8 +139,8 @@ def refuse_parts(rows: Rows, due: Sequence[int]) -> None:
     names = rows.state[ends] - 1
     if len(names) > 1 and names.tolist() == [*due][::-1]:
         raise ExtractError("results are in reverse order (is the newest row first?): say --sort")
-    timed = orders[rows.time[orders] != clocks.NONE]
-    is_timed = len(timed) > 0 and len(ends) > 0 and (rows.time[ends] != clocks.NONE).all()
+    timed = orders[rows.time[orders] != clocks.NO_TIME]
+    is_timed = len(timed) > 0 and len(ends) > 0 and (rows.time[ends] != clocks.NO_TIME).all()
     falls = numpy.flatnonzero(rows.time[ends[1:]] < rows.time[ends[:-1]])
     if is_timed and len(falls):
         one, other = rows.labels[ends[falls[0] : falls[0] + 2]]
@@ -213,7 +213,7 @@ def with_late_results(rows: Rows, due: Sequence[int]) -> Rows | None:
     is_more, last = has_more(rows, due), rows.of(*OF_ORDERS).max(initial=-1)
     for place in results[results > last].tolist():
         above, time = results[results < place], rows.time[place]
-        if clocks.NONE < time < rows.time[above].max(initial=clocks.NONE):
+        if clocks.NO_TIME < time < rows.time[above].max(initial=clocks.NO_TIME):
             key[place] = numpy.flatnonzero(rows.time > time)[0] - 0.5
         elif is_more and rows.state[place] <= 0 and time not in rows.time[above]:
             own = above[:-1][others_said(rows, above[:-1], place) == 1]

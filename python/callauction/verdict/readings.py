@@ -467,8 +467,8 @@ def _order_of_times(rows: Rows, has_late: bool = False) -> tuple[Ints, Ints, Int
     ends = rows.of(UNCROSS)
     phase = numpy.searchsorted(ends, orders)
     at = rows.time[orders]
-    end = numpy.concatenate([rows.time[ends], [clocks.NONE]])[phase]
-    timed = (at != clocks.NONE) & ((end == clocks.NONE) | (at <= end) | has_late)
+    end = numpy.concatenate([rows.time[ends], [clocks.NO_TIME]])[phase]
+    timed = (at != clocks.NO_TIME) & ((end == clocks.NO_TIME) | (at <= end) | has_late)
     orders, phase = orders[timed], phase[timed]
     return orders, phase, numpy.lexsort((at[timed], phase))
 
@@ -498,7 +498,7 @@ def _numbers_fall(rows: Rows) -> tuple[str, bool]:
     """
     known = numpy.flatnonzero((rows.kind != BAD) & (rows.number >= 0))
     falls = numpy.flatnonzero(numpy.diff(rows.number[known]) < 0)
-    if not len(falls) or (rows.time != clocks.NONE).any() or rows.is_odd.any():
+    if not len(falls) or (rows.time != clocks.NO_TIME).any() or rows.is_odd.any():
         return "", False
     one, other = rows.labels[known[falls[0] : falls[0] + 2]]
     why = f"rows {one} and {other} are in another order than their sequence: say --sort"
@@ -516,11 +516,11 @@ def all_times(rows: Rows, step: int = 1) -> Ints:
     """The places of all rows by time, of the day where only some have a date, and where times of
     one step in nanoseconds are one; one without a time stays below the one above it.
     """
-    is_timed = rows.time != clocks.NONE
+    is_timed = rows.time != clocks.NO_TIME
     is_dated = rows.time[is_timed] >= clocks.DATED
     at = rows.time
     if is_dated.any() and not is_dated.all():
-        at = numpy.where(is_timed, at % clocks.DAY, clocks.NONE)
+        at = numpy.where(is_timed, at % clocks.DAY, clocks.NO_TIME)
     known = numpy.where(is_timed, numpy.arange(len(at)), 0)
     return numpy.argsort(at[numpy.maximum.accumulate(known)] // step, kind="stable")
 
@@ -644,7 +644,7 @@ def _placed(rows: Rows, found: Judgement) -> Rows | None:
     without any, or with one auction.
     """
     ended = [it for it in found.uncrosses if it.is_ended and it.result is not None]
-    is_late = (rows.kind == TRADE) & (rows.time == clocks.NONE) & (rows.state <= 0)
+    is_late = (rows.kind == TRADE) & (rows.time == clocks.NO_TIME) & (rows.state <= 0)
     if len(ended) < 2 or not is_late.any():
         return None
     state, entered = rows.state.copy(), rows.entered(len(rows.names.ids) + 1)

@@ -293,7 +293,7 @@ class Rows:
     def are_behind(self, those: Ints, places: Ints | int) -> Mask:
         """Which of these rows are below others and not timed before them."""
         own, due = self.time[those], self.time[places]
-        is_early = (clocks.NONE < own) & (own < due)
+        is_early = (clocks.NO_TIME < own) & (own < due)
         found: Mask = (those > places) & ~is_early
         return found
 

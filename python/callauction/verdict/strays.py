@@ -21,7 +21,7 @@ class Strays:
         made = ((kind == TRADE) | (kind == FILL)) & (rows.state <= 0)
         self.made: Ints = numpy.flatnonzero(made)
         parts = (self.made, orders, uncrosses)
-        self.is_timed = all((rows.time[these] != clocks.NONE).all() for these in parts)
+        self.is_timed = all((rows.time[these] != clocks.NO_TIME).all() for these in parts)
         self.at, self.spots = self._by(self.made), numpy.sort(self._by(orders))
 
     def _by(self, these: Ints) -> Ints:
@@ -34,7 +34,7 @@ class Strays:
         """
         stops, spots, at = numpy.sort(self._by(ends)), self.spots, self.at
         count = numpy.searchsorted(stops, at, "right")
-        before = numpy.concatenate([[clocks.NONE], stops])[count]
+        before = numpy.concatenate([[clocks.NO_TIME], stops])[count]
         after = numpy.concatenate([stops, [numpy.iinfo("i8").max]])[count]
         began = numpy.searchsorted(spots, at) > numpy.searchsorted(spots, before, "right")
         goes_on = numpy.searchsorted(spots, after) > numpy.searchsorted(spots, at, "right")
@@ -88,7 +88,7 @@ class Strays:
         by how many results are before them or are they; results have these names, -1 for none.
         """
         known = {number: due.index(name) for number, name in enumerate(names, 1) if name in due}
-        last_entry = self._by(self.rows.of(NEW, REPLACE)).max(initial=clocks.NONE)
+        last_entry = self._by(self.rows.of(NEW, REPLACE)).max(initial=clocks.NO_TIME)
         for place, (number, block) in enumerate(held):
             if block < 0 <= names[number - 1]:
                 yield (AUCTIONS[names[number - 1]],)

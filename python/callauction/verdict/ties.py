@@ -6,7 +6,7 @@ from collections.abc import Iterator
 import numpy
 
 from callauction.verdict.cells import Ints, Mask
-from callauction.verdict.clocks import NONE
+from callauction.verdict.clocks import NO_TIME
 from callauction.verdict.phases import Book, Result, sums
 from callauction.verdict.rows import CANCEL, REPLACE, Rows
 
@@ -41,8 +41,8 @@ class Ties:
         """Which rows of orders may be of an uncross's moment."""
         rows, at = self.rows, self.rows.time[self.orders]
         same: Mask = rows.group[self.orders] == rows.group[place]
-        if rows.slack and rows.time[place] != NONE:
-            same |= (numpy.abs(at - rows.time[place]) < rows.slack) & (at != NONE)
+        if rows.slack and rows.time[place] != NO_TIME:
+            same |= (numpy.abs(at - rows.time[place]) < rows.slack) & (at != NO_TIME)
         return same
 
     def untried(self, place: int) -> str:

@@ -63,4 +63,4 @@ class Totals:
         if rows.group[one] == rows.group[other]:
             return False
         both = int(rows.time[one]), int(rows.time[other])
-        return clocks.NONE in both or both[1] - both[0] >= rows.slack
+        return clocks.NO_TIME in both or both[1] - both[0] >= rows.slack
