@@ -9,7 +9,7 @@ import numpy
 import pandas
 
 from callauction.verdict import clocks
-from callauction.verdict.cells import Codes, Ints, Mask, numbered, paired_codes
+from callauction.verdict.cells import NO_ROWS, Codes, Ints, Mask, numbered, paired_codes
 from callauction.verdict.columns import is_id, is_trade_id, is_unknown, look_of
 from callauction.verdict.judged import Judgement
 from callauction.verdict.phases import recorded_sums
@@ -154,9 +154,6 @@ def _repeatable(rows: Rows) -> Ints:
 # ---- rows of trades that may be there twice
 
 
-NONE = numpy.zeros(0, "i8")
-
-
 def second_trades(rows: Rows) -> Ints:
     """The second row of each of several trades, busted, unread and continuous ones too, where each
     has two; else none.
@@ -170,7 +167,7 @@ def second_trades(rows: Rows) -> Ints:
     is_even = len(order) > 3 and len(order) % 2 == 0
     one, two = order[: len(order) & -2 : 2], order[1::2]
     if not is_even or any(not numpy.array_equal(it[one], it[two]) for it in keys):
-        return NONE
+        return NO_ROWS
     found: Ints = trades[order[1::2]]
     return found
 
@@ -295,7 +292,7 @@ def amended(rows: Rows) -> tuple[Ints, str]:
             both = "rows {} and {}".format(*rows.labels[made[first]])
             those = both if len(groups) == 1 else f"rows, such as {both},"
             return made[again], f"{those} have one {name}: is the later right?"
-    return NONE, ""
+    return NO_ROWS, ""
 
 
 def _are_of_two(frame: "pandas.DataFrame") -> Mask:

@@ -21,6 +21,7 @@ Bytes = NDArray[numpy.uint8]
 Ints = NDArray[numpy.int64]
 Codes = NDArray[numpy.int32]
 Mask = NDArray[numpy.bool_]
+NO_ROWS: Ints = numpy.zeros(0, "i8")
 _PAD = 64
 """Bytes behind the text, so that eight can be read from each place of it."""
 _RETURN = 13

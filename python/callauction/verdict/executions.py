@@ -4,13 +4,13 @@ import dataclasses
 import numpy
 
 from callauction.verdict import clocks
-from callauction.verdict.cells import Ints
+from callauction.verdict.cells import NO_ROWS, Ints
 from callauction.verdict.comparing import (
     NAMED, Compared, Difference, compared_fills, compared_trades,
 )  # fmt: skip
 from callauction.verdict.day_rows import DayRows
 from callauction.verdict.doubts import Doubts
-from callauction.verdict.judged import NONE, Moment
+from callauction.verdict.judged import Moment
 from callauction.verdict.phases import NOTHING, Book, Result
 from callauction.verdict.rows import MISSING, NO_PRICE, STOPPED
 
@@ -49,7 +49,7 @@ class Executions:
 
     def of(self, number: int) -> tuple[Ints, Ints]:
         """The trades and the fills of an uncross, or of a named auction."""
-        return self.traded.get(number, NONE), self.filled.get(number, NONE)
+        return self.traded.get(number, NO_ROWS), self.filled.get(number, NO_ROWS)
 
     def with_named(self, moment: Moment) -> Moment:
         """A moment with the trades and fills that name its auction too."""

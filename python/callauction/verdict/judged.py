@@ -8,7 +8,7 @@ from fractions import Fraction
 import numpy
 
 from callauction.prices import argument
-from callauction.verdict.cells import Ints
+from callauction.verdict.cells import NO_ROWS, Ints
 from callauction.verdict.comparing import FILL, Difference, Fill, Trade
 from callauction.verdict.phases import Book, Result, Sums, empty
 from callauction.verdict.rows import MISSING, STOPPED, BadRow, Rows
@@ -60,9 +60,6 @@ def range_of(name: str, value: object) -> Range | None:
     if width < 0:
         raise ValueError(f"{name} {value} is below 0")
     return Range(width, Decimal(100) if is_percent else None)
-
-
-NONE = numpy.zeros(0, "i8")
 
 
 @dataclasses.dataclass(frozen=True)
@@ -139,13 +136,13 @@ class Judged:
     """Whether the auction was interrupted before."""
     is_interrupted: bool = False
     items: frozenset[str] = frozenset()
-    traded: Ints = dataclasses.field(default_factory=lambda: NONE)
-    filled: Ints = dataclasses.field(default_factory=lambda: NONE)
+    traded: Ints = dataclasses.field(default_factory=lambda: NO_ROWS)
+    filled: Ints = dataclasses.field(default_factory=lambda: NO_ROWS)
     pairs: int = 0
     """How many lawful pairs of orders were recorded as they are."""
     is_ended: bool = False
     """Whether the auction is over after the uncross."""
-    fills: Sums = Sums(NONE, NONE)
+    fills: Sums = Sums(NO_ROWS, NO_ROWS)
     """The shares by which the day goes on."""
     taken: int = 0
     """How many rows of orders are before it."""
@@ -192,9 +189,9 @@ class Path:
     judged: tuple[Judged, ...]
     state: State
     taken: int = 0
-    waiting: tuple[Ints, Ints] = (NONE, NONE)
+    waiting: tuple[Ints, Ints] = (NO_ROWS, NO_ROWS)
     refused: tuple[BadRow, ...] = ()
-    closed: Ints = dataclasses.field(default_factory=lambda: NONE)
+    closed: Ints = dataclasses.field(default_factory=lambda: NO_ROWS)
     doubt: str = ""
 
     def longer(self, judged: Judged) -> "Path":

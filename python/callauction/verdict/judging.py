@@ -10,7 +10,7 @@ from collections.abc import Iterator
 import numpy
 
 from callauction.course import Watch
-from callauction.verdict.cells import Ints
+from callauction.verdict.cells import NO_ROWS, Ints
 from callauction.verdict.certain import Certain, with_certain
 from callauction.verdict.comparing import (
     NAMED, PRIORITY, Difference, compared_items, doubted,
@@ -19,7 +19,7 @@ from callauction.verdict.day_rows import DayRows
 from callauction.verdict.doubts import Doubts
 from callauction.verdict.endings import Ending, count_of
 from callauction.verdict.executions import Executions
-from callauction.verdict.judged import NONE, Judged, Judgement, Moment, Path, Rules, State
+from callauction.verdict.judged import Judged, Judgement, Moment, Path, Rules, State
 from callauction.verdict.moments import Moments
 from callauction.verdict.orderings import Orderings
 from callauction.verdict.phases import (
@@ -205,7 +205,9 @@ class Judge:
         self.reasons.doubt_stop(items, self.reasons.unsaid_stop)
         state = dataclasses.replace(moment.path.state, book=taken.book, is_extended=True)
         judged = self._judged(moment, taken, result, items, [])
-        judged = dataclasses.replace(judged, is_interrupted=is_lawful, traded=NONE, filled=NONE)
+        judged = dataclasses.replace(
+            judged, is_interrupted=is_lawful, traded=NO_ROWS, filled=NO_ROWS
+        )
         path = self._path(moment, judged, taken, state)
         return dataclasses.replace(path, waiting=(moment.traded, moment.filled))
 
