@@ -40,7 +40,7 @@ UNCHANGED = "replaces have no price: is it unchanged? --market says the word for
 TOTALS = "replaces may say an order's whole quantity, and not what is open: --quantity says which"
 PERCENT = "the range may be a percentage"
 CORRECTED = "an auction has two results: the later one may correct the other"
-UNNAMED = "a result may be missing or correct another, and none says which auction it is of"
+MAY_BE_MISSING = "a result may be missing or correct another, and none says which auction it is of"
 MOST_READINGS = 64
 """How many readings are tried."""
 LATE = "trades without a time or an auction may be of any"
@@ -206,7 +206,8 @@ class _Otherwise:
         """Results are of other auctions."""
         due = self.rules.due
         ways = namings(self.found, self.rows, self.rules)
-        return [_rows(functools.partial(with_names, due=due, way=it), UNNAMED) for it in ways]
+        named = (functools.partial(with_names, due=due, way=it) for it in ways)
+        return [_rows(change, MAY_BE_MISSING) for change in named]
 
     def _copies(self) -> list[Change]:
         """Rows are there twice: but for those that are second ones of each trade, first those that
