@@ -13,7 +13,7 @@ from callauction.course import Watch
 from callauction.prices import argument, tick_size_of
 from callauction.program import Day
 from callauction.verdict import restricted
-from callauction.verdict.early import Early, in_doubt
+from callauction.verdict.early import Early, doubt_times
 from callauction.verdict.events import read_zeros, refuse_limits, rows_of
 from callauction.verdict.findings import (
     INCOMPLETE, LAWFUL, STATUSES, UNLAWFUL, Verdict, verdict_of,
@@ -102,8 +102,8 @@ def judge_rows(rows: Rows, rules: Rules, watch: Watch = iter) -> Verdict:
         refuse_sums(whole, rules.due)
         if rows.is_unsaid and len(rules.due) > 1:
             found.notes[UNRESTRICTED] += len(rows.of(NEW))
-            found = restricted.in_doubt(found, Judge(rows, rules))
-    found = in_doubt(found, early, functools.partial(_is_lawful, rows, rules))
+            found = restricted.doubt_restrictions(found, Judge(rows, rules))
+    found = doubt_times(found, early, functools.partial(_is_lawful, rows, rules))
     return verdict_of(found, rows, rules)
 
 

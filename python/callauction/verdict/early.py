@@ -21,7 +21,7 @@ TOLD = (
     "rows and times disagree: row {} is below row {}{}, and timed {:f} s before it: do clocks "
     "differ?"
 )
-BEFORE = "An auction executes orders that were entered before it."
+ENTERED_BEFORE = "An auction executes orders that were entered before it."
 
 
 def _seconds(gap: int) -> Decimal:
@@ -124,10 +124,11 @@ class Early:
         """The doubtful difference of a row that is timed before another; none without a reason."""
         time, key = self.rows.names.legible_time, int(self.rows.key[other])
         both = time(one), f"{time(other)} or later"
-        return [Difference("time", *both, (one, other), (key,), doubt=why, rule=BEFORE)] * bool(why)
+        found = Difference("time", *both, (one, other), (key,), doubt=why, rule=ENTERED_BEFORE)
+        return [found] * bool(why)
 
 
-def in_doubt(found: Judgement, early: Early, is_lawful: Callable[[int], bool]) -> Judgement:
+def doubt_times(found: Judgement, early: Early, is_lawful: Callable[[int], bool]) -> Judgement:
     """The judgement with a doubtful difference for each auction whose row, or a trade of which, is
     timed before an order that it executed; or before a row of an order above it, where the day
     isn't lawful by its times, which `is_lawful` says of times of so many nanoseconds.

@@ -20,13 +20,13 @@ from callauction.verdict.rows import INTERRUPTED, MARKET, MISSING, NO_PRICE, SID
 from callauction.words import AUCTIONS
 
 WHY = "no column restriction says which orders are for one auction alone (--unrestricted: none is)"
-MOST_SHARES, MOST_ORDERS = 1_000_000, 2000
+MOST_SHARES, MOST_UNSAID = 1_000_000, 2000
 """Up to how many shares and orders it is looked at whether some have a number of them together."""
 BID, ASK = SIDES.index("bid"), SIDES.index("ask")
 OPENING, INTRADAY, CLOSING = range(len(AUCTIONS))
 
 
-def in_doubt(found: Judgement, judge: Judge) -> Judgement:
+def doubt_restrictions(found: Judgement, judge: Judge) -> Judgement:
     """The judgement with what orders for one auction alone may explain in doubt."""
     unsaid, uncrosses = _Unsaid(found, judge), list[Judged]()
     for number, each in enumerate(found.uncrosses):
@@ -228,7 +228,7 @@ class _Sums:
         own, sums = self._trading(price, side, self.may_be_out).tolist(), 1
         if shares < 0 or shares > sum(own):
             return False
-        if sum(own) > MOST_SHARES or len(own) > MOST_ORDERS:
+        if sum(own) > MOST_SHARES or len(own) > MOST_UNSAID:
             return True
         for each in own:
             sums |= sums << each
