@@ -27,10 +27,12 @@ from callauction.venue.recovery import (
 from callauction.venue.venue import LOG
 
 TOKEN = ".token"
-SUMS = "SHA256SUMS"
+SUMS_FILE = "SHA256SUMS"
 SUM = re.compile(r"([0-9a-f]{64})  ([^\x00-\x1f\x7f]{1,255})")
-"""A line of SUMS: the sum, and the name of its file."""
-LEFT_OUT = re.compile(rf".*\.new|.*\.cut-\d+|lost\+found|{SUMS}|.*{NAMES_FILE}|{RESULTS_FILE}")
+"""A line of SUMS_FILE: the sum, and the name of its file."""
+LEFT_OUT = re.compile(
+    rf".*\.new|.*\.cut-\d+|lost\+found|{SUMS_FILE}|.*{NAMES_FILE}|{RESULTS_FILE}"
+)
 """What no copy has: what was begun, or put aside; what a disk has of its own; sums of a copy; what
 the end of a day leaves, which may be of an earlier moment, and is made anew by the next one.
 """
@@ -172,7 +174,7 @@ def difference(files: Files, sums: bytes) -> str:
         if hashlib.sha256(files[name]).hexdigest() != known[name]:
             found.append(f"{name} differs")
     if not sums or end or None in rows or not found:
-        others = f"its {SUMS} {'was changed' if sums else 'is missing'}"
+        others = f"its {SUMS_FILE} {'was changed' if sums else 'is missing'}"
         return "" if sums == sums_of(files) else others
     return found[0] + (f", and {len(found) - 1} more" if found[1:] else "")
 
@@ -215,7 +217,7 @@ def backup(folder: pathlib.Path, copy: pathlib.Path) -> Files:
         raise CopyError(f"{copy} is in the folder of the day itself")
     check_new(copy)
     files = consistent(*read_day(folder))
-    write_day(files | {SUMS: sums_of(files)}, copy)
+    write_day(files | {SUMS_FILE: sums_of(files)}, copy)
     return files
 
 
@@ -229,7 +231,7 @@ def restore(copy: pathlib.Path, folder: pathlib.Path, program: str) -> Files:
     for it in copy.iterdir():
         owned.check_copy(it)
     files = {it.name: read_file(it) for it in sorted(copy.iterdir())}
-    sums = files.pop(SUMS, b"")
+    sums = files.pop(SUMS_FILE, b"")
     if why := difference(files, sums):
         raise CopyError(f"{copy} isn't the copy that was made: {why}")
     if LOG not in files:

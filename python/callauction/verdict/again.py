@@ -14,13 +14,13 @@ from callauction.verdict.columns import is_id, is_trade_id, is_unknown, look_of
 from callauction.verdict.judged import Judgement
 from callauction.verdict.phases import recorded_sums
 from callauction.verdict.rows import (
-    BAD, CANCEL, FILL, MISSING, NEW, OF_ORDERS, OUTSIDE, REPLACE, SAID, STOPPED, TAKEN, TRADE,
-    UNCROSS, BadRow, Doubt, Hole, Rows,
+    BAD, CANCEL, CONTINUOUS_STATE, FILL, MISSING, NEW, OF_ORDERS, REPLACE, SAID, STOPPED, TAKEN,
+    TRADE, UNCROSS, BadRow, Doubt, Hole, Rows,
 )  # fmt: skip
 from callauction.verdict.worded import Columns
 
 _NO_RESULT = -100
-AGAIN = "rows that were sent again, read once"
+ROWS_AGAIN = "rows that were sent again, read once"
 GAPS = "numbers of the sequence that no row has (are rows missing?)"
 BEGINS = "the sequence begins above 1 (are rows cut off?), with"
 RARE = 20
@@ -133,7 +133,7 @@ def _with_ids(rows: Rows, columns: Columns) -> Ints:
 
 def _drop(rows: Rows, again: Ints) -> None:
     rows.kind[again] = BAD
-    rows.notes[AGAIN] += len(again)
+    rows.notes[ROWS_AGAIN] += len(again)
 
 
 def _repeatable(rows: Rows) -> Ints:
@@ -159,7 +159,7 @@ def second_trades(rows: Rows) -> Ints:
     has two; else none.
     """
     unread = [it.place for it in rows.bad if it.doubt is Doubt.TRADES and it.place >= 0]
-    is_other = (rows.kind == BAD) & (rows.state == OUTSIDE) & (rows.bid >= 0)
+    is_other = (rows.kind == BAD) & (rows.state == CONTINUOUS_STATE) & (rows.bid >= 0)
     trades = numpy.union1d(rows.of(TRADE, TAKEN), numpy.flatnonzero(is_other))
     trades = numpy.union1d(trades, numpy.array(unread, "i8"))
     keys = [rows.quantity[trades], *(side[trades].astype("i8") for side in (rows.ask, rows.bid))]

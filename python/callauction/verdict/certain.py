@@ -14,12 +14,12 @@ from callauction.verdict.rows import (
 from callauction.words import AUCTIONS
 
 ONE_PRICE = "All trades of an auction are at its one price."
-PUBLISHED = "All trades of an auction are at its published price."
-SUMS = "The shares of each side's executed orders add up to the volume."
-LIMIT = "No order is executed beyond its limit."
+PRICE_RULE = "All trades of an auction are at its published price."
+SUM_RULE = "The shares of each side's executed orders add up to the volume."
+LIMIT_RULE = "No order is executed beyond its limit."
 STOPS = "An uncross that is interrupted has a price, and executes nothing."
 
-RULES = (ONE_PRICE, PUBLISHED, SUMS, LIMIT, STOPS)
+RULES = (ONE_PRICE, PRICE_RULE, SUM_RULE, LIMIT_RULE, STOPS)
 
 
 def with_certain(
@@ -29,7 +29,7 @@ def with_certain(
     of the same item and rows. Trades beside a price that is wrong are no more than that.
     """
     if any(it.item == "price" and not it.doubt for it in differences):
-        found = [it for it in found if it.rule != PUBLISHED]
+        found = [it for it in found if it.rule != PRICE_RULE]
     kept = [
         each for each in differences
         if not any(it.item == each.item and {*it.places} & {*each.places} for it in found)
@@ -90,7 +90,7 @@ class Certain:
             yield Difference("trade", text, "at one price", first, rule=ONE_PRICE)
         elif len(prices) and published not in (MISSING, NO_PRICE) and not is_open[published]:
             due = f"at the published {rows.prices[published]}"
-            yield Difference("trade", text, due, first, rule=PUBLISHED)
+            yield Difference("trade", text, due, first, rule=PRICE_RULE)
 
     def _volume(self, place: int, traded: Ints, filled: Ints) -> Iterator[Difference]:
         """Shares that don't add up to the published volume."""
@@ -109,7 +109,7 @@ class Certain:
             added = int(rows.quantity[those].sum())
             least = added - self.busts.most(those)
             if least > volume or added < volume and not excused:
-                yield Difference("volume", volume, added, (place,), rule=SUMS)
+                yield Difference("volume", volume, added, (place,), rule=SUM_RULE)
                 return
 
     def _limits(self, place: int, traded: Ints) -> Iterator[Difference]:
@@ -129,7 +129,7 @@ class Certain:
                 row = int(traded[at])
                 pair = int(rows.bid[row]), int(rows.ask[row])
                 one = Trade(*pair, int(rows.quantity[row]), int(price[at]))
-                yield Difference("trade", one, None, (row,), (int(key[at]),), rule=LIMIT)
+                yield Difference("trade", one, None, (row,), (int(key[at]),), rule=LIMIT_RULE)
 
     def _worst(self, side: int) -> tuple[Ints, Mask]:
         """By key the worst limit of a side's orders, and whether all rows are read and have one."""

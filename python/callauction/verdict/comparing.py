@@ -10,7 +10,7 @@ from callauction.verdict.phases import Result, Sums, sums
 from callauction.verdict.rows import MISSING, NO_PRICE, SIDES, STATES, STOPPED, Rows
 from callauction.words import AUCTIONS
 
-FILL = "fill"
+FILL_ITEM = "fill"
 """The item of an order's shares."""
 PRIORITY = "priority"
 """The item of an extract that says whether a replace kept its place."""
@@ -310,7 +310,7 @@ def compared_fills(
         if key not in named:
             shares = int(rows.quantity[place])
             one, due = Fill(key, shares, int(rows.price[place])), Fill(key, shares, price)
-            found.append(Difference(FILL, one, due, (place,), (key,)))
+            found.append(Difference(FILL_ITEM, one, due, (place,), (key,)))
     return paired(stamped(found, stamps))
 
 
@@ -341,7 +341,7 @@ def compared_shares(
             at = _recorded_price(rows, spots, price)
             one = Fill(key, done[each], at) if each in done else None
             other = Fill(key, due[each], price) if each in due else None
-            found.append(Difference(FILL, one, other, spots, (key,)))
+            found.append(Difference(FILL_ITEM, one, other, spots, (key,)))
     return found
 
 
@@ -378,7 +378,7 @@ def paired(differences: Iterable[Difference]) -> list[Difference]:
 def _marks(value: Value) -> tuple[object, ...]:
     """By what a missing trade or fill is found to be the other of an extra one."""
     if isinstance(value, Fill):
-        return ((FILL, value.quantity),)
+        return ((FILL_ITEM, value.quantity),)
     if isinstance(value, Trade):
         both = (*sorted((value.bid, value.ask)), value.quantity)
         return (both, ("bid", value.bid, value.quantity), ("ask", value.ask, value.quantity))

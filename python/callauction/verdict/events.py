@@ -23,8 +23,8 @@ from callauction.verdict.mixed import LONGEST
 from callauction.verdict.names import below_their_entries, make_keys
 from callauction.verdict.reading import Reading, Table
 from callauction.verdict.rows import (
-    BAD, BUST, CANCEL, CONTINUOUS, FILL, MARKET, MISSING, NEW, NO_PRICE, OUTSIDE, REPLACE,
-    RESTRICTIONS, SIDES, STATES, STOPPED, TRADE, UNCROSS, BadRow, Bytes, Doubt, Names, Rows,
+    BAD, BUST, CANCEL, CONTINUOUS, CONTINUOUS_STATE, FILL, MARKET, MISSING, NEW, NO_PRICE, REPLACE,
+    RESTRICTIONS, SIDES, STATES, STOPPED, TRADE, UNCROSS, BadRow, Doubt, Int8s, Names, Rows,
 )  # fmt: skip
 from callauction.verdict.worded import EMPTY_PRICE, Columns
 
@@ -37,8 +37,10 @@ _NUMBERS = ("price", "quantity", "peak", "surplus", "trades", "volume")
 WORDS = ("event", "side", "auction", "restriction")
 IDS = ("order", "new_order", "bid", "ask")
 NO_AUCTION = "a trade of continuous trading (audit-auction judges auctions of such days)"
-NO_TIME = "times that can't be read"
-STROKES = "dates of which it isn't known which number is the month (--dates dmy or mdy says it)"
+UNREAD_TIMES = "times that can't be read"
+UNSURE_DATES = (
+    "dates of which it isn't known which number is the month (--dates dmy or mdy says it)"
+)
 PEAKS = "peaks that the rules would refuse, left out: they decide nothing"
 ZEROS = "orders at the price 0, read as market orders (--low 0 reads limits)"
 
@@ -80,7 +82,7 @@ def rows_of(
     return rows
 
 
-def _look_at_times(rows: Rows, columns: Columns, kind: Bytes, has_sequence: bool) -> None:
+def _look_at_times(rows: Rows, columns: Columns, kind: Int8s, has_sequence: bool) -> None:
     """Sets the step of the times of results where that of orders is finer, and says of times
     without a date that they may be the next day's.
     """
@@ -110,7 +112,7 @@ def _look_at_peaks(rows: Rows, columns: Columns) -> None:
         rows.notes[PEAKS] += int((odd & (peak != MISSING) & (rows.kind == NEW)).sum())
 
 
-def _unread_ids(rows: Rows, kind: Bytes) -> Codes:
+def _unread_ids(rows: Rows, kind: Int8s) -> Codes:
     """The ids in bad rows that may enter an order: of this kind, or of none that is known."""
     unread = numpy.array([it.place for it in rows.bad], "i8")
     is_new = (kind[unread] < 0) | (kind[unread] == NEW)
@@ -129,8 +131,8 @@ def _note_odd_times(rows: Rows) -> None:
     """Notes the times that can't be read."""
     if rows.is_odd.any():
         cell = rows.names.time(int(rows.is_odd.argmax()))
-        rows.notes[f"{NO_TIME}, such as {cell!r}"] += int(rows.is_odd.sum())
-        rows.notes[STROKES] += times.is_stroked(times.date_text(cell))
+        rows.notes[f"{UNREAD_TIMES}, such as {cell!r}"] += int(rows.is_odd.sum())
+        rows.notes[UNSURE_DATES] += times.is_stroked(times.date_text(cell))
 
 
 def dropped_numbers(table: Table, reading: Reading) -> list[Ints]:
@@ -176,7 +178,7 @@ def _read(
     return rows, is_market
 
 
-def said_in(table: Table, reading: Reading) -> tuple[Bytes, Bytes, Bytes]:
+def said_in(table: Table, reading: Reading) -> tuple[Int8s, Int8s, Int8s]:
     """The number of each row's event, below 0 for none, of the auction that it names, and of the
     one that its order is for alone.
     """
@@ -310,7 +312,7 @@ def _refuse_forms(columns: Columns, lead: Codes) -> None:
             )
 
 
-def _slack(columns: Columns, kind: Bytes) -> int:
+def _slack(columns: Columns, kind: Int8s) -> int:
     """The step of the times of results where those of orders have a finer one, else 0."""
     cells = columns.cells("time")
     codes, first = cells.layouts()
@@ -470,8 +472,8 @@ def _look_at_results(rows: Rows, columns: Columns) -> None:
     is_alone = (kind == BUST) & (rows.key >= 0) & (rows.bid < 0) & (rows.ask < 0)
     is_trade, is_fill = (kind == TRADE) | (kind == BUST) & ~is_alone, (kind == FILL) | is_alone
     both = is_trade | is_fill
-    rows.state[(kind == UNCROSS) & (rows.state == OUTSIDE)] = BAD
-    for place in numpy.flatnonzero(both & (rows.state == OUTSIDE)):
+    rows.state[(kind == UNCROSS) & (rows.state == CONTINUOUS_STATE)] = BAD
+    for place in numpy.flatnonzero(both & (rows.state == CONTINUOUS_STATE)):
         rows.refuse(place, NO_AUCTION, Doubt.BOOKS)
     _refuse(rows, columns, is_fill & (rows.key < 0), "order", "")
     _refuse(rows, columns, is_trade & (rows.bid < 0), "bid", "")

@@ -4,7 +4,7 @@ and in the extract's ids, members, times and prices. The first sentence says mos
 from collections.abc import Iterator
 
 from callauction.reasons import explain as explain_book
-from callauction.verdict.comparing import FILL, PRIORITY, Difference, Fill, Trade, keys_of
+from callauction.verdict.comparing import FILL_ITEM, PRIORITY, Difference, Fill, Trade, keys_of
 from callauction.verdict.context import Context, RestingOrder
 from callauction.verdict.rows import (
     CANCEL, INTERRUPTED, MISSING, OWN, RESTRICTIONS, SIDES,
@@ -37,7 +37,7 @@ def _sentences(context: Context, difference: Difference) -> Iterator[str]:
         yield from _of_price(context)
     elif difference.item == PRIORITY:
         yield KEPT
-    elif difference.item in ("trade", FILL):
+    elif difference.item in ("trade", FILL_ITEM):
         yield from _of_trade(context, difference)
     else:
         if difference.item == "count":

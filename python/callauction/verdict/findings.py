@@ -27,9 +27,9 @@ MOST_BAD_ROWS = 20
 """How many bad rows are printed."""
 MOST_NAMED = 5
 """How many rows are named of findings that have the reason of another one."""
-COLUMNS = ("row", "time", "auction", "item", "recorded", "lawful", "rule")
+FINDING_COLUMNS = ("row", "time", "auction", "item", "recorded", "lawful", "rule")
 """The columns of a frame of findings."""
-NOTHING = {"trade": "no such trade", "fill": "no such fill", "price": "no price"}
+NO_SUCH = {"trade": "no such trade", "fill": "no such fill", "price": "no price"}
 
 
 @dataclasses.dataclass(frozen=True)
@@ -144,7 +144,7 @@ class Verdict:
         return Explanation(book_sentences(Context(judged, self.rows, self.rules)))
 
     def frame(self) -> pandas.DataFrame:
-        """The findings as a frame (COLUMNS), under their numbers from 1."""
+        """The findings as a frame (FINDING_COLUMNS), under their numbers from 1."""
         return frame_of(self.findings)
 
     def reasons(self) -> dict[str, list[Finding]]:
@@ -233,10 +233,12 @@ def counts_of(bad_rows: int, findings: int, doubtful: int) -> list[str]:
 
 
 def frame_of(findings: Iterable[Finding]) -> pandas.DataFrame:
-    """Findings as a frame (COLUMNS), numbered from 1; the rule of a doubtful one is its reason."""
-    rows = [[getattr(finding, name) for name in COLUMNS] for finding in findings]
+    """Findings as a frame (FINDING_COLUMNS), numbered from 1; the rule of a doubtful one is its
+    reason.
+    """
+    rows = [[getattr(finding, name) for name in FINDING_COLUMNS] for finding in findings]
     index = pandas.RangeIndex(1, len(rows) + 1, name="finding")
-    return pandas.DataFrame(rows, index, [*COLUMNS])
+    return pandas.DataFrame(rows, index, [*FINDING_COLUMNS])
 
 
 def verdict_of(judgement: Judgement, rows: Rows, rules: Rules) -> Verdict:
@@ -299,7 +301,7 @@ def _both(context: Context, difference: Difference) -> tuple[str, str]:
 def _shown(context: Context, difference: Difference, value: Value) -> str:
     """A recorded or a lawful value of an item."""
     if value is None:
-        return NOTHING.get(difference.item, "none")
+        return NO_SUCH.get(difference.item, "none")
     if isinstance(value, Trade):
         return _trade(context, value, difference)
     if isinstance(value, Fill):

@@ -44,7 +44,7 @@ NUMBER = "MsgSeqNum"
 HEADER = (*NAMES.values(), IMBALANCE)
 OTHERS = "messages of other types than execution reports and results"
 NO_MESSAGE = "lines without a FIX message"
-AGAIN = "messages that were sent again, read once"
+MESSAGES_AGAIN = "messages that were sent again, read once"
 NO_TRADE = "trade cancels whose ExecRefID (19) no trade has as its ExecID (17)"
 INDICATIONS = "prices in market data that have no trades next to them: indications"
 _BEGIN = re.compile(r"8=FIXT?\.\d\.\d(?:SP\d)?(?P<sign>\D{1,6}?)9=")
@@ -63,7 +63,7 @@ _RESTATED = ("D", "Restated", "RESTATED")
 _ENTRIES = ("0", "New", "NEW")
 _REPLACED = ("5", "Replaced", "REPLACED", *_RESTATED)
 _AT_MARKET, _LIMITED = ("1", "Market", "MARKET"), ("2", "Limit", "LIMIT", "")
-MARKET = "MARKET"
+MARKET_WORD = "MARKET"
 """The price of a market order."""
 _EXECUTING_FIRM = "1"
 _AUCTIONS, _CONTINUOUS = ("2", "4", "6"), "3"
@@ -253,7 +253,7 @@ class _Log:
         order, kind = get("OrderID", ""), get("ExecType", "")
         mark = get("ExecID", ""), order, kind, _instrument(message)
         if mark[0] not in ("", "0") and mark in self.seen:
-            self.notes[AGAIN] += 1
+            self.notes[MESSAGES_AGAIN] += 1
             return
         self.seen.add(mark)
         self.sessions.add((get("SenderCompID", ""), get("TargetCompID", "")))
@@ -287,7 +287,7 @@ class _Log:
             return
         type_ = message.get("OrdType", "")
         if type_ in _AT_MARKET:
-            message["Price"] = MARKET
+            message["Price"] = MARKET_WORD
         elif type_ not in _LIMITED:
             message["ExecType"] = f"OrdType {type_}"
 

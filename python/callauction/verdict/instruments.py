@@ -39,7 +39,7 @@ NO_TICK_SIZE = "none"
 FAULT = "fault"
 """The verdict of an instrument that can't be judged."""
 _COUNTS = (f"{name}{end}" for name in PLURALS.values() for end in ("", "_due"))
-COLUMNS = (
+INSTRUMENT_COLUMNS = (
     "instrument", "verdict", "findings", *_COUNTS, "bad_rows", "first_finding", "fault", "doubtful",
 )  # fmt: skip
 """The columns of the rows: of each item how many were compared and how many the rules give; the
@@ -56,7 +56,7 @@ the rule, or why a finding is doubtful, `effect` and `moved` (parted by semicolo
 `why` where it can't be judged, or the first row that isn't read.
 """
 NO_FINDING = "none"
-PARTS = 4
+PARTS_A_WORKER = 4
 """How many parts of the instruments each worker is given, one after the other."""
 FEW = 20_000
 """Rows that aren't worth another process."""
@@ -124,7 +124,7 @@ class Audited:
         return [{**it, "verdict": self.word} for it in self.found or (none,)]
 
     def row(self) -> dict[str, object]:
-        """Its row (COLUMNS)."""
+        """Its row (INSTRUMENT_COLUMNS)."""
         row: dict[str, object] = {"instrument": self.name, "verdict": self.word}
         if self.fault:
             return {**row, "fault": self.fault}
@@ -237,7 +237,7 @@ class Market:
             for number in watch(order):
                 yield from self.part([number])
             return
-        size = -(-len(order) // (PARTS * count))
+        size = -(-len(order) // (PARTS_A_WORKER * count))
         parts = [order[begin : begin + size] for begin in range(0, len(order), size)]
         _MARKETS.append(self)
         _ = self._shared_gaps, self._dropped, self._are_over  # once for all processes
@@ -437,10 +437,10 @@ def audit_instruments(
     workers: int | None = None,
     **terms: object,
 ) -> pandas.DataFrame:
-    """The verdicts on an extract of many instruments: a row for each (COLUMNS), in the order of
-    their names. `by` is the column of the instruments, or several that are parted by commas,
-    `days` a table with a row for each, of that column and those of TERMS; `terms` are those of
-    all that the days don't have. An instrument that can't be judged is a row with its fault.
+    """The verdicts on an extract of many instruments: a row for each (INSTRUMENT_COLUMNS), in the
+    order of their names. `by` is the column of the instruments, or several that are parted by
+    commas, `days` a table with a row for each, of that column and those of TERMS; `terms` are those
+    of all that the days don't have. An instrument that can't be judged is a row with its fault.
     `workers` is how many are judged at a time, as many as there are processors where it is None.
     Raises ColumnError and ExtractError for a table of another form, and OSError.
     """
@@ -453,10 +453,11 @@ def audit_instruments(
 
 
 def frame_of(rows: Iterable[dict[str, object]]) -> pandas.DataFrame:
-    """Rows as a frame (COLUMNS)."""
-    found = pandas.DataFrame([*rows], columns=[*COLUMNS])
+    """Rows as a frame (INSTRUMENT_COLUMNS)."""
+    found = pandas.DataFrame([*rows], columns=[*INSTRUMENT_COLUMNS])
     texts = ("instrument", "verdict", "first_finding", "fault")
-    return found.astype({name: "object" if name in texts else "Int64" for name in COLUMNS})
+    kinds = {name: "object" if name in texts else "Int64" for name in INSTRUMENT_COLUMNS}
+    return found.astype(kinds)
 
 
 def worst_of(words: Iterable[str]) -> str:

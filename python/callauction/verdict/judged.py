@@ -5,11 +5,9 @@ from collections import Counter
 from decimal import Decimal
 from fractions import Fraction
 
-import numpy
-
 from callauction.prices import argument
 from callauction.verdict.cells import NO_ROWS, Ints
-from callauction.verdict.comparing import FILL, Difference, Fill, Trade
+from callauction.verdict.comparing import FILL_ITEM, Difference, Fill, Trade
 from callauction.verdict.phases import Book, Result, Sums, empty
 from callauction.verdict.rows import MISSING, STOPPED, BadRow, Rows
 from callauction.words import AUCTIONS
@@ -221,7 +219,7 @@ class Moment:
 
 
 ITEMS = ("price", "volume", "surplus", "side", "auction", "count")
-PLURALS = {it: f"{it}{'es' if it == 'surplus' else 's'}" for it in (*ITEMS, "trade", FILL)}
+PLURALS = {it: f"{it}{'es' if it == 'surplus' else 's'}" for it in (*ITEMS, "trade", FILL_ITEM)}
 """The names of items in a coverage."""
 OF_PRICES = ("volume", "surplus", "side")
 """Items that the rules give where there is a price."""
@@ -275,7 +273,7 @@ def coverage_of(judgement: Judgement, rows: Rows) -> Coverage:
     trades = sum(map(_trades, recorded)) if judgement.has_trades else 0
     counts[PLURALS["trade"]] = trades, sum(map(_trades, executed))
     if judgement.has_fills:
-        counts[PLURALS[FILL]] = sum(map(_fills, recorded)), sum(map(_fills, executed))
+        counts[PLURALS[FILL_ITEM]] = sum(map(_fills, recorded)), sum(map(_fills, executed))
     if judgement.has_trades and any(_is_paired_otherwise(each) for each in recorded):
         counts[PAIRINGS] = sum(each.pairs for each in recorded), trades
     return Coverage(counts)

@@ -92,7 +92,7 @@ class Moments:
             time, name = rows.names.legible_time(cancel), rows.names.order(key)
             rule = CANCELLED.format(name, labels[cancel], f", {time}" * bool(time), labels[at],
                                     labels[place], above)  # fmt: skip
-            item = "trade" if bid >= 0 else comparing.FILL
+            item = "trade" if bid >= 0 else comparing.FILL_ITEM
             return Difference(item, one, None, (at,), (key,), rule=rule)
         return None
 

@@ -12,7 +12,7 @@ from callauction.verdict.rows import (
     BAD, CANCEL, FILL, MISSING, NEW, REPLACE, TRADE, BadRow, Rows,
 )  # fmt: skip
 
-RARE = 20
+ENTRIES_A_FAULT = 20
 """Of so many entries one may be wrong at most, or one of less."""
 WRONG = "row {} says that order {!r} is {}'s, and {} that it is {}'s: is the first wrong?"
 
@@ -45,7 +45,7 @@ class Owners:
         """
         those = self._wrong()
         entries = int((self.owner >= 0).sum())
-        if not 0 < len(those) <= max(1, entries // RARE):
+        if not 0 < len(those) <= max(1, entries // ENTRIES_A_FAULT):
             return None
         return self._with_owners(those), self._why(next(iter(those.values())))
 

@@ -15,7 +15,7 @@ from callauction.limits import MOST_CALLS, MOST_OPEN, MOST_QUANTITY, MOST_TICKS
 from callauction.verdict import engine
 from callauction.verdict.cells import Array, Codes, Ints, Mask
 from callauction.verdict.rows import (
-    CANCEL, MARKET, MISSING, NEW, OWN, REPLACE, SIDES, BadRow, Bytes, Doubt, Rows,
+    CANCEL, MARKET, MISSING, NEW, OWN, REPLACE, SIDES, BadRow, Doubt, Int8s, Rows,
 )  # fmt: skip
 from callauction.words import AUCTIONS, CommandTag, Refusal, ReplyTag
 
@@ -33,10 +33,10 @@ class Book:
     """The open orders in order of time; `since` is the row from which a place in time is."""
 
     key: Codes
-    side: Bytes
+    side: Int8s
     price: Codes
     quantity: Ints
-    only: Bytes
+    only: Int8s
     since: Ints
 
     def take(self, rows: Array) -> "Book":

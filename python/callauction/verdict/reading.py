@@ -27,7 +27,7 @@ from callauction.verdict.columns import (
 GZIP = b"\x1f\x8b"
 ROW = "row"
 """The name of the index: a row of a file is named by its line, one of a frame by its label."""
-NEW, UNCROSS = EVENTS.index("new"), EVENTS.index("uncross")
+_NEW, _UNCROSS = EVENTS.index("new"), EVENTS.index("uncross")
 """The event that enters an order, and the first one that isn't of an order."""
 _OF_ORDERS, _LONGEST_WORD = {"order", "side"}, max(map(len, EMPTY))
 """Needed columns that results may lack, and how long a word for an empty cell is."""
@@ -35,7 +35,7 @@ _IN_ONE_FILE = (
     "the rows of orders, new, replace and cancel, have it: they must be in the file of the trades "
     "and results"
 )
-NO_ROWS = "files with a header and no rows"
+HEADER_ALONE = "files with a header and no rows"
 LEFT_OUT = "trades, fills and results that don't meet --where"
 NO_TOTALS = "totals, which aren't read, in row {}"
 TOO_EARLY = "orders entered before the time of --where (what of them stands is in no book)"
@@ -301,8 +301,8 @@ def _noted(table: Table, is_early: Mask, reading: Reading) -> Table:
     notes = Counter(table.notes)
     if table.dropped is not None:
         kinds = _kinds(table.dropped, table.names["event"], reading)
-        notes[LEFT_OUT] = int((kinds >= UNCROSS).sum())
-        notes[TOO_EARLY] = int((kinds[is_early] == NEW).sum())
+        notes[LEFT_OUT] = int((kinds >= _UNCROSS).sum())
+        notes[TOO_EARLY] = int((kinds[is_early] == _NEW).sum())
     return dataclasses.replace(table, notes=+notes)
 
 
@@ -377,7 +377,7 @@ def _refuse_empty(
     cells = {name: source.cells(names[name]) for name in NEEDED}
     those = (name for name, it in cells.items() if it.length.max(initial=0) <= _LONGEST_WORD)
     empty = [name for name in those if {it.casefold() for it in cells[name].texts()[1]} <= {*EMPTY}]
-    if empty and (_kinds(source, names["event"], reading) > UNCROSS).any():
+    if empty and (_kinds(source, names["event"], reading) > _UNCROSS).any():
         if short:
             row, why = short[0]
             raise ExtractError(
@@ -459,7 +459,7 @@ def file_of(source: str | os.PathLike[str] | BinaryIO, reading: Reading) -> Tabl
     except csv.Error as fault:
         raise ExtractError(f"the file is no CSV file: {fault}") from None
     _look_at_lines(content, reading.separator, found, short)
-    notes = {} if len(found) or short else {NO_ROWS: 1}
+    notes = {} if len(found) or short else {HEADER_ALONE: 1}
     end = _end(found, not content.endswith((b"\n", b"\r")))
     last = max([*found.labels[-1:].tolist(), *(line for line, _ in short[-1:])], default=None)
     totals = last if _has_totals(content, reading.separator, found) else None

@@ -16,7 +16,7 @@ from callauction.verdict.columns import EMPTY
 from callauction.verdict.reading import End
 from callauction.words import AUCTIONS
 
-Bytes = NDArray[numpy.int8]
+Int8s = NDArray[numpy.int8]
 NEW, REPLACE, CANCEL, UNCROSS, TRADE, FILL, BUST = range(7)
 OF_ORDERS = (NEW, REPLACE, CANCEL)
 """The kinds of rows of orders."""
@@ -33,7 +33,7 @@ STATES = ("", *AUCTIONS, INTERRUPTED)
 STOPPED = STATES.index(INTERRUPTED)
 SAID = ("price", "quantity", "surplus", "side", "count")
 """What a result says beside its auction: names of the arrays of rows."""
-CONTINUOUS, OUTSIDE = "continuous", len(STATES)
+CONTINUOUS, CONTINUOUS_STATE = "continuous", len(STATES)
 """The word of `auction` for a trade outside of the auctions, and its number."""
 RESTRICTIONS = ("opening", "closing")
 OWN = (1, MISSING, 2)
@@ -203,16 +203,16 @@ class Rows:
     """
 
     labels: Array
-    kind: Bytes
+    kind: Int8s
     time: Ints
     key: Codes
     new_id: Codes
-    side: Bytes
+    side: Int8s
     price: Codes
     quantity: Ints
-    only: Bytes
-    kept: Bytes
-    state: Bytes
+    only: Int8s
+    kept: Int8s
+    state: Int8s
     surplus: Ints
     count: Ints
     bid: Codes

@@ -10,7 +10,7 @@ from callauction.verdict.clocks import NO_TIME
 from callauction.verdict.phases import Book, Result, sums
 from callauction.verdict.rows import CANCEL, REPLACE, Rows
 
-MOST_CUTS, MOST_ORDERS = 64, 24
+MOST_CUTS, MOST_ORDERINGS = 64, 24
 """How many moments of one time, and how many orders of the rows of one order, are tried."""
 
 
@@ -107,7 +107,7 @@ class Ties:
         if not sets:
             return "", []
         why = self._one_time(*sets[0][:2])
-        if math.prod(math.factorial(len(those)) for those in sets) > MOST_ORDERS:
+        if math.prod(math.factorial(len(those)) for those in sets) > MOST_ORDERINGS:
             return why, None
         found = []
         for ways in itertools.product(*[itertools.permutations(those) for those in sets]):

@@ -107,7 +107,7 @@ LOTS = (10, 100, 1000)
 """How many shares a lot may have."""
 LEAST = 2
 """In how many items lots have to be seen."""
-PARTS = {
+KINDS_IN_LOTS = {
     "results and trades": (UNCROSS, TRADE, FILL), "results": (UNCROSS,), "trades": (TRADE, FILL),
 }  # fmt: skip
 
@@ -134,7 +134,7 @@ def lot_of(found: Judgement) -> int:
 
 def in_shares(rows: Rows, lot: int) -> Iterator[tuple[Rows, str]]:
     """The rows with a part's quantities in the unit of the others, and why; none for a lot of 0."""
-    for what, kinds in PARTS.items() if lot else ():
+    for what, kinds in KINDS_IN_LOTS.items() if lot else ():
         these = numpy.isin(rows.kind, kinds)
         both = {name: getattr(rows, name) for name in ("quantity", "surplus")}
         said = {name: these & (it > 0) for name, it in both.items()}

@@ -11,7 +11,7 @@ from callauction.verdict import times
 from callauction.verdict.cells import Cells, Codes, Ints, Mask, Source, paired_codes
 from callauction.verdict.columns import EMPTY, ExtractError, is_unknown
 from callauction.verdict.reading import Reading
-from callauction.verdict.rows import BAD, MARKET, MISSING, NO_PRICE, Bytes
+from callauction.verdict.rows import BAD, MARKET, MISSING, NO_PRICE, Int8s
 
 _NO_PRICE = ("none", "no price")
 _WORDED = ("event", "price", "bid_member", "ask_member")
@@ -87,7 +87,7 @@ class Columns:
         is_member = name in ("bid_member", "ask_member")
         return {**self.reading.values.get("member", {}), **own} if is_member else own
 
-    def words(self, name: str, known: Mapping[str, int]) -> Bytes:
+    def words(self, name: str, known: Mapping[str, int]) -> Int8s:
         """What is known of each word of a column, MISSING for none, BAD for another word."""
         codes, texts = self.texts(name)
         found = [known.get(text.casefold(), BAD) if text else MISSING for text in texts]
