@@ -129,6 +129,47 @@ def test_a_name_with_a_second_meaning_in_its_crate(
     assert fault.startswith("price has two meanings in a crate: ") and places == [first, name]
 
 
+@pytest.mark.parametrize("first, second", [
+    ("LIMIT = 1\n", 'LIMIT = "No order is executed beyond its limit."\n'),
+    ("LIMIT: int = 1\n", "MARKET, LIMIT = 0, 1\n"),
+    ("LIMIT = 1\n", "TYPES = MARKET, LIMIT = (0, 1)\n"),
+    ("class LIMIT:\n    pass\n", "LIMIT = list[int]\n"),
+])
+def test_a_name_with_a_second_meaning_in_python(
+    tmp_path: pathlib.Path, first: str, second: str
+) -> None:
+    folder = "python/callauction/verdict"
+    tree = planted(tmp_path, **{f"{folder}/one.py": first, f"{folder}/other.py": "\n" + second})
+    assert faults_of(sources.names_of_two_python_modules, tree) == [
+        f"LIMIT has two meanings in a package: {folder}/one.py:1, {folder}/other.py:2"
+    ]
+
+
+def test_names_of_python_that_have_one_meaning(tmp_path: pathlib.Path) -> None:
+    """Of two packages, imported, of one module alone, within a function, or of no package."""
+    tree = planted(tmp_path, **{
+        "python/callauction/verdict/one.py": "LIMIT = 1\nLIMIT = 2\n_MOST = 3\n",
+        "python/callauction/verdict/other.py": "from one import LIMIT\n_MOST = 4\n",
+        "python/callauction/verdict/third.py": "def made() -> None:\n    LIMIT = 5\n",
+        "python/callauction/other/one.py": "LIMIT = 6\n",
+        "python/tests/test_one.py": "LIMIT = 7\n",
+        "python/tests/test_other.py": "LIMIT = 8\n",
+    })  # fmt: skip
+    assert faults_of(sources.names_of_two_python_modules, tree) == []
+
+
+def test_a_name_that_has_one_meaning_by_now(
+    tmp_path: pathlib.Path, monkeypatch: pytest.MonkeyPatch
+) -> None:
+    """It leaves the list of those that have two."""
+    monkeypatch.setattr(sources, "STILL_TWICE", {"fix": {"SIDES", "TYPES"}})
+    texts = {"one": "SIDES = 1\nTYPES = 2\n", "other": "SIDES = 3\n"}
+    files = {f"python/callauction/fix/{name}.py": text for name, text in texts.items()}
+    assert faults_of(sources.names_of_two_python_modules, planted(tmp_path, **files)) == [
+        "TYPES has one meaning in python/callauction/fix: take it out of STILL_TWICE"
+    ]
+
+
 @pytest.mark.parametrize("files", [
     {"specs/Day.antt": "abbrev pub price : Day → ℕ\n", "src/day.rt": "pub fn price() -> u32 {\n"},
     {"src/day.rt": "fn price() -> u32 {\n", "src/line.rt": "pub fn price() -> u32 {\n"},

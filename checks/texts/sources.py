@@ -13,10 +13,13 @@
   begins with a capital letter, but for a type and the record that it is in contracts (MODELS).
 - No two modules of a crate have types or public functions of one name, nor public definitions and
   lemmas. A function may be named as the definition that it meets, and methods as those of others.
+- No two modules of a package of callauction have constants or types of one name, but for those that
+  have two meanings still (STILL_TWICE): that list may grow shorter alone.
 - A limit of the market or of memory (LIMITS) isn't written as a number, where it isn't the value of
   a constant: in sources, definitions and proofs, but for tests, examples, comments and texts.
 - No name says buy or sell where docs/GLOSSARY.md says bid and ask.
 """
+import ast
 import collections
 import pathlib
 import re
@@ -35,6 +38,29 @@ LIMITS = {
     67_108_865: "the most bytes of a file, and one",
     268_435_456: "the most bytes of a journal",
 }
+STILL_TWICE = {
+    "": {
+        "AUDIT", "MARKET", "REFUSALS", "SIDES", "VARIABLE",
+    },
+    "fix": {
+        "AROUND", "CANCEL_REASONS", "CLOSE_SECONDS", "CONDITIONS", "DAY", "DELETE", "DIGITS",
+        "ENDED", "ENDS", "NOTICES", "OTHER", "PAUSE", "REASONS", "SESSION", "SIDES", "SOH",
+        "SOURCE", "STATUSES", "TIMES", "TYPES", "UNKNOWN", "USAGE",
+    },
+    "market": {
+        "AUDIT", "BLOCK", "PLAIN",
+    },
+    "plot": {
+        "MOST_MARKED", "WORDS",
+    },
+    "venue": {
+        "Answer", "BLOCK", "CHANCE", "DAY", "DO", "FAULTS", "FULL", "GERMAN", "HOST", "Handler",
+        "Json", "KINDS", "LANGUAGES", "LATER", "MOST_BYTES", "MOST_CONNECTIONS", "MOST_COUNTED",
+        "MOST_SECONDS", "MOST_SHOWN", "NOTICES", "NOT_KNOWN", "OVER", "PAUSE", "PRICE", "ROLES",
+        "Rows", "SIDES", "SOCKET", "T", "TOKEN", "TRADES", "VENUE", "WORDS",
+    },
+}  # fmt: skip
+"""By its folder in python/callauction the names of two modules that haven't got another one yet."""
 SHARED = {"Lib", "Answers", "Invariants", "Proof"}
 MODELS = {"Leaders"}
 TYPE = re.compile(r"(?:pub(?:\([a-z]+\))? )?(?:struct|enum|trait|union) (?P<name>\w+)")
@@ -177,6 +203,45 @@ def names_of_two_modules(tree: Tree) -> Iterator[str]:
             yield f"{name} has two meanings in a crate: {', '.join(files.values())}"
 
 
+def declared(node: ast.stmt) -> set[str]:
+    """The public constants and types that a statement at the margin of a module of Python makes."""
+    if isinstance(node, ast.ClassDef):
+        names = {node.name}
+    elif isinstance(node, ast.Assign | ast.AnnAssign):
+        every = (it for it in ast.walk(node) if isinstance(it, ast.Name))
+        names = {it.id for it in every if isinstance(it.ctx, ast.Store)}
+    else:
+        names = set()
+    return {name for name in names if name[:1].isupper()}
+
+
+def names_of_python(tree: Tree) -> Iterator[tuple[str, str, pathlib.Path, int]]:
+    """The public constants and types of callauction: the folder of each in it, its name, file and
+    line.
+    """
+    package = tree.top / "python/callauction"
+    for file in (it for it in tree.python if package in it.parents):
+        folder = str(file.parent.relative_to(package)).removeprefix(".")
+        for node in ast.parse(tree.text(file)).body:
+            yield from ((folder, name, file, node.lineno) for name in declared(node))
+
+
+def names_of_two_python_modules(tree: Tree) -> Iterator[str]:
+    """Public constants and types whose name two modules of a package of callauction have; and those
+    that are said to have two meanings still, and haven't.
+    """
+    places: dict[tuple[str, str], dict[pathlib.Path, str]] = collections.defaultdict(dict)
+    for folder, name, file, line in names_of_python(tree):
+        places[folder, name].setdefault(file, f"{tree.name(file)}:{line}")
+    twice = {key for key, files in places.items() if len(files) > 1}
+    known = {(folder, name) for folder, names in STILL_TWICE.items() for name in names}
+    for key in sorted(twice - known):
+        yield f"{key[1]} has two meanings in a package: {', '.join(places[key].values())}"
+    folders = {folder for folder, _ in places}
+    for folder, name in sorted(it for it in known - twice if it[0] in folders):
+        yield f"{name} has one meaning in python/callauction/{folder}: take it out of STILL_TWICE"
+
+
 def other_sides(tree: Tree) -> Iterator[str]:
     """Names of sides that the glossary doesn't have."""
     for file in [*tree.sources, *tree.specs, *tree.proofs, *tree.python, *tree.others]:
@@ -232,6 +297,7 @@ RULES = [
     near_names,
     names_of_two_crates,
     names_of_two_modules,
+    names_of_two_python_modules,
     retyped_limits,
     other_sides,
 ]
