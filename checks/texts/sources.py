@@ -43,9 +43,9 @@ STILL_TWICE = {
         "AUDIT", "MARKET", "REFUSALS", "SIDES", "VARIABLE",
     },
     "fix": {
-        "AROUND", "CANCEL_REASONS", "CLOSE_SECONDS", "CONDITIONS", "DAY", "DELETE", "DIGITS",
-        "ENDED", "ENDS", "NOTICES", "OTHER", "PAUSE", "REASONS", "SESSION", "SIDES", "SOH",
-        "SOURCE", "STATUSES", "TIMES", "TYPES", "UNKNOWN", "USAGE",
+        "AROUND", "CANCEL_REASONS", "CLOSE_SECONDS", "CONDITIONS", "DELETE", "ENDED", "NOTICES",
+        "OTHER", "PAUSE", "REASONS", "SESSION", "SIDES", "SOH", "SOURCE", "STATUSES", "TYPES",
+        "UNKNOWN", "USAGE",
     },
     "market": {
         "AUDIT", "BLOCK", "PLAIN",
@@ -54,10 +54,10 @@ STILL_TWICE = {
         "MOST_MARKED", "WORDS",
     },
     "venue": {
-        "Answer", "BLOCK", "CHANCE", "DAY", "DO", "FAULTS", "FULL", "GERMAN", "HOST", "Handler",
-        "Json", "KINDS", "LANGUAGES", "LATER", "MOST_BYTES", "MOST_CONNECTIONS", "MOST_COUNTED",
-        "MOST_SECONDS", "MOST_SHOWN", "NOTICES", "NOT_KNOWN", "OVER", "PAUSE", "PRICE", "ROLES",
-        "Rows", "SIDES", "SOCKET", "T", "TOKEN", "TRADES", "VENUE", "WORDS",
+        "Answer", "BLOCK", "CHANCE", "DO", "FAULTS", "FULL", "GERMAN", "HOST", "Handler", "Json",
+        "KINDS", "LANGUAGES", "MOST_BYTES", "MOST_CONNECTIONS", "MOST_COUNTED", "MOST_SECONDS",
+        "MOST_SHOWN", "NOTICES", "NOT_KNOWN", "PAUSE", "PRICE", "ROLES", "Rows", "SIDES", "SOCKET",
+        "T", "TOKEN", "TRADES", "VENUE", "WORDS",
     },
 }  # fmt: skip
 """By its folder in python/callauction the names of two modules that haven't got another one yet."""

@@ -156,7 +156,7 @@ EXPECTED = {
     ("D", 40): {MARKET, LIMIT},
     ("D", 59): {*given.ONLY},
     ("8", 54): {*CODES.values(), refusals.NO_SIDE},
-    ("8", 59): {*given.ONLY, *orders.TIMES.values(), DAY, GOOD_TILL_CANCEL},
+    ("8", 59): {*given.ONLY, *orders.TIMES_OF_AUCTIONS.values(), DAY, GOOD_TILL_CANCEL},
     ("8", 39): {*Status},
     ("9", 39): {*Status},
     ("8", 150): {*Exec, Status.NEW, Status.CANCELED, Status.REJECTED, Status.EXPIRED},

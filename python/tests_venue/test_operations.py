@@ -44,6 +44,8 @@ from served import Served
 from test_doors import ended
 from test_robots import until
 
+DAY_IS_OVER = "the day is over: no call can start; the next round can, or --folder NEW begins anew"
+
 # ---- --check
 
 
@@ -175,7 +177,7 @@ def date(moment: float) -> str:
 def aged(log: pathlib.Path) -> None:
     """The day was two days before."""
     lines = [json.loads(it) for it in log.read_text().splitlines()]
-    earlier = [it | {"time": it["time"] - 2 * serving.DAY} for it in lines]
+    earlier = [it | {"time": it["time"] - 2 * serving.DAY_SECONDS} for it in lines]
     log.write_text("".join(f"{json.dumps(it)}\n" for it in earlier))
 
 
@@ -184,14 +186,14 @@ def test_a_day_that_is_over(tmp_path: pathlib.Path) -> None:
     words = over(tmp_path)
     status, printed, error = checked(*words)
     assert (status, error) == (0, "")
-    assert f"warning: {serving.OVER}" in printed.splitlines()
+    assert f"warning: {DAY_IS_OVER}" in printed.splitlines()
     assert f"{tmp_path}/venue: begun on {date(time.time())}" in printed.splitlines()
     aged(tmp_path / "venue/venue.log")
     text = f"{tmp_path}/venue: its day is over, lastly used on {date(time.time() - 2 * 86400)}"
     assert checked(*words)[::2] == (2, f"venue: {text}: --folder NEW begins anew\n")
     venue = served.started(*words, "--port", 0)
     venue.child.terminate()
-    assert venue.child.communicate(timeout=served.SECONDS)[1] == f"venue: {serving.OVER}\n"
+    assert venue.child.communicate(timeout=served.SECONDS)[1] == f"venue: {DAY_IS_OVER}\n"
 
 
 def test_a_day_that_is_over_while_its_venue_runs(
@@ -205,9 +207,9 @@ def test_a_day_that_is_over_while_its_venue_runs(
             venue.do("uncross")
         status, printed, error = checked("--day", tmp_path / "day.toml", "--folder", folder)
         assert (status, error) == (0, "")
-        ends = ["XYZ: 3 entries, and the venue runs", f"warning: {serving.OVER}"]
+        ends = ["XYZ: 3 entries, and the venue runs", f"warning: {DAY_IS_OVER}"]
         assert printed.splitlines()[-2:] == ends
-        today, later = date(time.time()), time.time() + 2 * serving.DAY
+        today, later = date(time.time()), time.time() + 2 * serving.DAY_SECONDS
         monkeypatch.setattr(time, "time", lambda: later)
         day = DayTerms.read(tmp_path / "day.toml")
         with pytest.raises(OtherDayError, match=f"its day is over, lastly used on {today}: "):
@@ -219,7 +221,7 @@ def test_a_round_that_is_over(tmp_path: pathlib.Path) -> None:
     words = over(tmp_path, 2)
     aged(tmp_path / "venue/venue.log")
     status, printed, error = checked(*words)
-    assert (status, error) == (0, "") and f"warning: {serving.OVER}" in printed.splitlines()
+    assert (status, error) == (0, "") and f"warning: {DAY_IS_OVER}" in printed.splitlines()
 
 
 def test_metrics_on_the_members_port(tmp_path: pathlib.Path) -> None:
@@ -619,7 +621,8 @@ def test_an_ended_certificate(tmp_path: pathlib.Path, monkeypatch: pytest.Monkey
     status, printed, _ = checked("--folder", tmp_path / "venue", *words)
     assert status == 0 and "address: 127.0.0.1, by a certificate that ends in 30 days" in printed
     now = time.time()
-    monkeypatch.setattr("callauction.venue.serving.time.time", lambda: now + 31 * serving.DAY)
+    later = now + 31 * serving.DAY_SECONDS
+    monkeypatch.setattr("callauction.venue.serving.time.time", lambda: later)
     with pytest.raises(AddressError, match="the certificate .*/cert.pem has ended"):
         [*checking.checked_address(Address(cert=words[1], key=words[3]))]
 
@@ -653,7 +656,7 @@ def test_what_is_said_and_measured_of_a_certificate(tmp_path: pathlib.Path) -> N
     with served.served(tmp_path, FAST, *words, *measures) as venue:
         def days() -> float:
             ends = measured(f"http://127.0.0.1:{port}")["callboard_certificate_end_seconds"][()]
-            return (ends - time.time()) / serving.DAY
+            return (ends - time.time()) / serving.DAY_SECONDS
 
         assert 2.9 < days() < 3.1
         certificate(tmp_path, "second", 5)
@@ -662,7 +665,7 @@ def test_what_is_said_and_measured_of_a_certificate(tmp_path: pathlib.Path) -> N
         venue.child.terminate()
         _, error = venue.child.communicate(timeout=served.SECONDS)
     lines = error.splitlines()
-    ends = time.strftime("%Y-%m-%d", time.gmtime(time.time() + 5 * serving.DAY))
+    ends = time.strftime("%Y-%m-%d", time.gmtime(time.time() + 5 * serving.DAY_SECONDS))
     assert lines[1].startswith(f"venue: {for_others}"), error
     assert f"venue: the certificate was taken anew: it ends on {ends}" in lines
     soon = [f"venue: the certificate {words[1]} ends in {it} days: put a new one there"

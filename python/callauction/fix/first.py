@@ -15,7 +15,7 @@ import time
 import urllib.request
 from collections.abc import Iterator
 
-DAY = """sync = false
+DAY_FILE = """sync = false
 [phases]
 call = 0
 [fix]
@@ -75,7 +75,7 @@ def free_port() -> int:
 @contextlib.contextmanager
 def venue(folder: pathlib.Path, port: int) -> Iterator[str]:
     """A venue of this folder: where the operator's requests go. Raises FirstError."""
-    (folder / "day.toml").write_text(DAY.format(port=port), "ascii")
+    (folder / "day.toml").write_text(DAY_FILE.format(port=port), "ascii")
     words = [sys.executable, "-P", "-m", "callauction.venue", "--port", "0", "--hide-tokens"]
     words += ["--day", str(folder / "day.toml"), "--folder", str(folder / "venue")]
     with subprocess.Popen(words, stdout=subprocess.PIPE, text=True) as child:

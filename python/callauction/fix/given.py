@@ -4,7 +4,7 @@ for what the venue doesn't do.
 """
 import re
 
-from callauction.fix.orders import SENTENCES, TIMES, Held
+from callauction.fix.orders import SENTENCES, TIMES_OF_AUCTIONS, Held
 from callauction.fix.refusals import OTHER, QUANTITY, UNKNOWN_SYMBOL, UNSUPPORTED, SeatError
 from callauction.fix.tags import (
     CLOSING, CODES, DAY, GOOD_TILL_CANCEL, LIMIT, MARKET, OPENING, SECOND_LETTERS, SIDES, Given,
@@ -102,7 +102,7 @@ def left_of(total: int, held: Held) -> int:
 
 def check_kept(given: Given, held: Held) -> None:
     """Raises SeatError where a message would change what an order keeps."""
-    times = (held.time, TIMES.get(held.only, held.time))
+    times = (held.time, TIMES_OF_AUCTIONS.get(held.only, held.time))
     is_peak = peak_of(given) in ("", held.peak)
     if not is_peak or given.get(Tag.TIME_IN_FORCE, held.time) not in times:
         raise SeatError(UNSUPPORTED, "MaxFloor and TimeInForce can't be changed")

@@ -37,17 +37,21 @@ SENTENCES = {
     Refusal.PAST_AUCTION: "the auction that TimeInForce (59) names is over",
 }
 """What the program's refusals say, but for that of a limit."""
-ENDS = {Status.FILLED: "is filled", Status.EXPIRED: "has expired", Status.CANCELED: "is cancelled"}
+HOW_ENDED = {
+    Status.FILLED: "is filled",
+    Status.EXPIRED: "has expired",
+    Status.CANCELED: "is cancelled",
+}
 """How an order has ended."""
 OTHER = "99"
 ENTER, DELETE = "enter", "delete"
-TIMES = {"opening": OPENING, "closing": CLOSING}
+TIMES_OF_AUCTIONS = {"opening": OPENING, "closing": CLOSING}
 ENDED = (Status.CANCELED, Status.REJECTED, Status.EXPIRED)
 NOT_KEPT = "no order is kept for another day or round"
 """What is said of one till cancelled that has expired."""
 MOST_PRICES = 4096
 """How many ticks are kept with their prices."""
-DIGITS = Context(prec=15)
+PRICE_DIGITS = Context(prec=15)
 """How many digits of an average price are sent: as many as a float of FIX may have."""
 CLIENT, ORIGIN, TIME = map(str, (Tag.CL_ORD_ID, Tag.ORIG_CL_ORD_ID, Tag.TIME_IN_FORCE))
 NUMBER, WHEN, SAID = map(str, (Tag.MSG_SEQ_NUM, Tag.TRANSACT_TIME, Tag.TEXT))
@@ -283,7 +287,7 @@ class Orders:
             (Tag.LEAVES_QTY, str(left)),
             (Tag.CUM_QTY, str(held.filled)),
             (Tag.AVG_PX, self._average(held)),
-            (Tag.TIME_IN_FORCE, TIMES.get(held.only, held.time)),
+            (Tag.TIME_IN_FORCE, TIMES_OF_AUCTIONS.get(held.only, held.time)),
             *self._priced(held),
         ]
         pairs += [(Tag.CL_ORD_ID, held.client)] if held.client else []
@@ -301,7 +305,7 @@ class Orders:
         if not held.filled:
             return "0"
         paid = held.paid * self._board.terms.grid.tick_size
-        return format(DIGITS.divide(paid, Decimal(held.filled)).normalize(), "f")
+        return format(PRICE_DIGITS.divide(paid, Decimal(held.filled)).normalize(), "f")
 
 
 def entry_event(board: Instrument, place: int) -> str:
@@ -331,7 +335,7 @@ class Asked:
 
 def ended_text(held: Held, is_over: bool = False) -> str:
     """Why an order that has ended can't be changed, perhaps on a day that is over."""
-    end = ENDS.get(held.status, "was never entered")
+    end = HOW_ENDED.get(held.status, "was never entered")
     return f"the order {end}{': the day is over' if is_over else ''}"
 
 

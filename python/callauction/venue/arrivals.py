@@ -17,7 +17,7 @@ SLOW_SECONDS = 60.0
 """How long it is said that an address is slowed, after somebody of it was refused."""
 MOST_COUNTED, MOST_NAMED = 1000, 5
 """How many addresses are known, and how many of who came last from one are named."""
-LATER = f"many have joined from this address: one more can each {PAUSE:g} s"
+JOIN_LATER = f"many have joined from this address: one more can each {PAUSE:g} s"
 DO = (
     "if that isn't the class, Close joining on the teacher's page, New code for all, and Remove "
     "who is wrong there"
@@ -63,7 +63,7 @@ class Arrivals:
             if not self._is_slowed(found):
                 NOTICES.warning(SLOWED, where, len(found.names), last_of(found.names), DO)
             found.refused = self._clock()
-            raise MessageError("join_later", LATER)
+            raise MessageError("join_later", JOIN_LATER)
 
     def came(self, address: str, name: str) -> None:
         """A new member came from an address that was checked."""

@@ -25,7 +25,7 @@ from callauction.venue.recovery import (
     Entry, RecoveryError, RolledBackError, entries_in, known_entries, mark_of, runs_of, settled,
 )
 from callauction.venue.rounds import Round
-from callauction.venue.serving import DAY, OVER, Address, AddressError, ends_of
+from callauction.venue.serving import DAY_IS_OVER, DAY_SECONDS, Address, AddressError, ends_of
 from callauction.venue.starts import starting
 from callauction.venue.timekeeping import (
     BEHIND, LEAST_BEHIND, behind_of, set_since, warnings_of_clock,
@@ -136,7 +136,7 @@ def checked_address(address: Address) -> Iterator[str]:
     if address.context() is None:
         yield f"address: {address.host}, without TLS"
         return
-    left = (ends_of(address.cert or "") - time.time()) / DAY
+    left = (ends_of(address.cert or "") - time.time()) / DAY_SECONDS
     yield f"address: {address.host}, by a certificate that ends in {left:.0f} days"
     yield from (f"warning: {text}" for text in address.warnings())
 
@@ -245,7 +245,7 @@ def checked_end(
     Raises OtherDayError.
     """
     if are_over(last, found):
-        yield f"warning: {OVER}"
+        yield f"warning: {DAY_IS_OVER}"
         check_later(day, folder, lines, last.number)
 
 

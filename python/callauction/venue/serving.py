@@ -41,8 +41,8 @@ those of some age, and at all.
 """
 SOON_DAYS = 14
 """How many days before its end a certificate is warned of."""
-DAY = 86_400.0
-OVER = "the day is over: no call can start; the next round can, or --folder NEW begins anew"
+DAY_SECONDS = 86_400.0
+DAY_IS_OVER = "the day is over: no call can start; the next round can, or --folder NEW begins anew"
 END_SECONDS = 4.5
 """How long after a signal the venue ends, whatever hangs."""
 ENDING = (signal.SIGHUP, signal.SIGINT, signal.SIGTERM)
@@ -143,7 +143,7 @@ class Address:
         """What is no fault yet: that the certificate ends soon; for whom it isn't by which members
         are told to come, as they may reach it by another name.
         """
-        left = (ends_of(self.cert) - time.time()) / DAY if self.cert else SOON_DAYS
+        left = (ends_of(self.cert) - time.time()) / DAY_SECONDS if self.cert else SOON_DAYS
         if left < SOON_DAYS:
             yield f"the certificate {self.cert} ends in {left:.0f} days: put a new one there"
         names = names_of(self.cert) if self.cert else []
@@ -374,7 +374,7 @@ async def begin(
     for line in others:
         NOTICES.info("%s", line)
     if venue.rounds.now.is_over:
-        NOTICES.warning(OVER)
+        NOTICES.warning(DAY_IS_OVER)
 
 
 async def live(stopped: asyncio.Event) -> None:

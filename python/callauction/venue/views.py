@@ -9,7 +9,7 @@ from callauction.words import MARKET
 
 PRICE = re.compile(r"price (\d+) volume (\d+) surplus (\d+) (bid|ask|none)")
 BEST = re.compile(r"no price bid (\d+|-) ask (\d+|-)")
-DAY = re.compile(r"show day (\w+) reference (\d+) calls (\d+) left (\d+)$")
+DAY_SHOWN = re.compile(r"show day (\w+) reference (\d+) calls (\d+) left (\d+)$")
 
 
 @dataclasses.dataclass(frozen=True, slots=True)
@@ -48,7 +48,7 @@ class DayView:
     @classmethod
     def of(cls, text: str) -> Self:
         """What the program's line says. Raises ValueError."""
-        found = DAY.match(text)
+        found = DAY_SHOWN.match(text)
         if not found:
             raise ValueError(text)
         return cls(found[1], int(found[2]), int(found[3]), int(found[4]))
