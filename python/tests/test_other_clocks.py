@@ -365,7 +365,7 @@ def test_doubts_of_one_reason_are_one_line_and_all_in_the_file(
     rows = [row for row in small_day() if row["event"] != TRADE or row["time"] < "10"]
     rows.insert(7, dict(event="cancel", time="17:00:00"))
     rows.append(dict(event="cancel", order="B1", time="17:50:00"))
-    why = "it isn't known what row 9: order is missing does"
+    why = "it isn't known what row 9 does: order is missing"
     path = tmp_path / "found.csv"
     words = ["--reference", "10", "--findings", str(path)]
     assert audited(text_of(rows), words, tmp_path) == 5

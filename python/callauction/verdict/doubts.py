@@ -383,18 +383,22 @@ class Doubts:
         rows, end = self.rows, self.rows.end
         if end is None:
             return ""
-        last = int(numpy.flatnonzero(rows.kind >= NEW)[-1])
+        last, these = int(numpy.flatnonzero(rows.kind >= NEW)[-1]), numpy.append(traded, filled)
+        is_own = (rows.labels[numpy.append(these, place)] == end.label).any()
         ends = clocks.nanosecond(end.time, rows.names.dates)
         is_timed = clocks.NO_TIME not in (ends, rows.time[last])
-        if is_timed and abs(ends - int(rows.time[last])) > clocks.SECOND:
+        if not is_own and is_timed and abs(ends - int(rows.time[last])) > clocks.SECOND:
             return ""
         published = int(rows.quantity[place])
         shares = 2 * int(rows.quantity[traded].sum()) + int(rows.quantity[filled].sum())
         is_whole = shares >= 2 * (volume if published < 0 else published)
-        if is_whole or last != max(place, traded.max(initial=0), filled.max(initial=0)):
+        if is_whole or not is_own and last != max(place, these.max(initial=0)):
             return ""
+        if is_own:
+            return f"the file ends with row {end.label}, and may be cut there"
         own = rows.labels[last]
-        near = "" if end.label == own else f", less than a second after row {own}"
+        side = "before" if ends < rows.time[last] and is_timed else "after"
+        near = "" if end.label == own else f", less than a second {side} row {own}"
         return f"the file ends with row {end.label}{near}, and may be cut there"
 
     def of_missing(self, lawful: object) -> str:

@@ -32,7 +32,7 @@ _SIDE = {"bid": 1, "buy": 1, "ask": 2, "sell": 2}
 _SURPLUS_SIDE = {**_SIDE, "none": 0}
 _ONLY = {word: 1 + place for place, word in enumerate(RESTRICTIONS)}
 _STATE = {word: place for place, word in enumerate((*STATES, CONTINUOUS)) if word}
-_KEPT = {"true": 1, "false": 0, "1": 1, "0": 0}
+_KEPT = {"true": 1, "false": 0, "1": 1, "0": 0, "yes": 1, "no": 0, "y": 1, "n": 0}
 _NUMBERS = ("price", "quantity", "peak", "surplus", "trades", "volume")
 WORDS = ("event", "side", "auction", "restriction")
 IDS = ("order", "new_order", "bid", "ask")
@@ -161,9 +161,6 @@ def _read(
     theirs = tuple(columns.names[name] for name in IDS if name in columns.names)
     names = Names(columns.source, first, theirs, members, table.names, dates=table.dates)
     bid_member, ask_member = (_members(columns, f"{it}_member", members) for it in SIDES[1:])
-    end = table.end
-    if end is not None and reading.sort:
-        end = end._replace(time="")
     rows = Rows(
         columns.source.labels, columns.words("event", KINDS), time, ids["order"],
         ids.get("new_order", none), columns.words("side", _SURPLUS_SIDE), price,
@@ -173,7 +170,7 @@ def _read(
         ids.get("ask", none), bid_member, ask_member, member, groups, prices, names,
         bool(reading.market), (time == clocks.NO_TIME) & _has(columns, "time"),
         dropped=_dropped(table, columns.names, reading),
-        makes_results=reading.results == "trades", end=end,
+        makes_results=reading.results == "trades", end=table.end,
     )  # fmt: skip
     return rows, is_market
 
@@ -419,7 +416,7 @@ def _unread(rows: Rows, columns: Columns, place: int, name: str, why: str) -> st
         text += " (--decimal , says what parts decimals)"
     if name == "quantity" and re.search(r"\d\D\d{3}$", cell):
         text += " (--thousands says what parts thousands)"
-    return text + _meaning(name, cell) * (name == "side")
+    return text + _meaning(name, cell) * (name in ("side", "kept"))
 
 
 def _none_of(words: Iterable[str]) -> str:

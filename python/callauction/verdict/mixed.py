@@ -257,6 +257,31 @@ def with_last(rows: Rows, those: Ints, auction: int) -> Rows:
     )
 
 
+def stopped_again(rows: Rows) -> Ints:
+    """The interruptions with another one next below and no order or trade between, which may
+    correct them.
+    """
+    ends, others = rows.of(UNCROSS), rows.of(*OF_ORDERS, TRADE, FILL)
+    is_stop, before = rows.state[ends] == STOPPED, numpy.searchsorted(others, ends)
+    is_again = is_stop[:-1] & is_stop[1:] & (before[:-1] == before[1:])
+    found: Ints = ends[:-1][is_again]
+    return found
+
+
+def with_last_stops(rows: Rows) -> Rows:
+    """The rows with the last of interruptions in succession in place of the first; the others are
+    bad rows.
+    """
+    ends, kind, bad = rows.of(UNCROSS), rows.kind.copy(), [*rows.bad]
+    for place in stopped_again(rows)[::-1].tolist():
+        below = int(ends[numpy.searchsorted(ends, place) + 1])
+        rows = rows.with_said(place, below)
+        why = f"row {rows.labels[place]} is another row of this interruption, read above"
+        bad.append(BadRow(below, rows.labels[below], why, Doubt.ITEM, below))
+        kind[below] = BAD
+    return dataclasses.replace(rows, kind=kind, bad=bad)
+
+
 # ---- results that don't say which auction they are of
 
 

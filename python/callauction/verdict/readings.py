@@ -19,7 +19,8 @@ from callauction.verdict.hidden import lacking, with_rests
 from callauction.verdict.judged import PRICE_ITEMS, Judged, Judgement, Rules
 from callauction.verdict.judging import Judge
 from callauction.verdict.mixed import (
-    corrected, doubled, has_more, namings, refuse_markets, refuse_parts, with_names,
+    corrected, doubled, has_more, namings, refuse_markets, refuse_parts, stopped_again,
+    with_last_stops, with_names,
 )  # fmt: skip
 from callauction.verdict.names import (
     OTHER_IDS, have_other_ids, misentered, renamed, respelled,
@@ -28,21 +29,27 @@ from callauction.verdict.owners import Owners
 from callauction.verdict.phases import recorded_sums
 from callauction.verdict.reading import End
 from callauction.verdict.rows import (
-    BAD, CANCEL, FILL, INTERRUPTED, MARKET, NEW, OF_ORDERS, REPLACE, TRADE, UNCROSS, Doubt, Rows,
+    BAD, CANCEL, FILL, INTERRUPTED, MARKET, MISSING, NEW, OF_ORDERS, REPLACE, TRADE, UNCROSS, Doubt,
+    Rows,
 )  # fmt: skip
 from callauction.verdict.spellings import in_one_spelling
 from callauction.verdict.totals import Totals
 from callauction.verdict.uncross_doubts import Mark, marked
-from callauction.verdict.units import in_one_unit, in_shares, lot_of, why_two_units
+from callauction.verdict.units import (
+    in_one_unit, in_shares, lot_of, orders_in_shares, why_two_units,
+)  # fmt: skip
 
 TWICE = "each trade has two rows: is there one for each side?"
 UNCHANGED = "replaces have no price: is it unchanged? --market says the word for market orders"
 TOTALS = "replaces may say an order's whole quantity, and not what is open: --quantity says which"
 PERCENT = "the range may be a percentage"
 CORRECTED = "an auction has two results: the later one may correct the other"
+STOPPED_AGAIN = "an auction has two interruptions: the later one may correct the other"
 MAY_BE_MISSING = "a result may be missing or correct another, and none says which auction it is of"
 MOST_READINGS = 64
 """How many readings are tried."""
+MOST_UNPRICED = 5
+"""How many replaces without a price are read each alone as of the price before."""
 LATE = "trades without a time or an auction may be of any"
 Day = tuple[Rows, Rules]
 
@@ -125,7 +132,8 @@ def _beside(found: Judgement, rows: Rows, other: Rows, rules: Rules, why: str) -
 
 def _without(found: Judgement, first: Judgement, day: Day, those: list[Change]) -> Judgement:
     """The judgement with what other readings haven't in doubt, where they bring nothing certain
-    that the first judgement hasn't.
+    that the first judgement hasn't. An uncross that is wrong in both stays as it is where they have
+    for certain what the first one has in doubt.
     """
     if not found.unlawful:
         return found
@@ -143,9 +151,11 @@ def _without(found: Judgement, first: Judgement, day: Day, those: list[Change]) 
         spot = int(day[0].spots[each.place])
         above = before.get(spot)
         marks = {marked(it, day[0]) for it in each.certain}
-        if marks - {marked(it, rows) for it in (above.certain if above else ())}:
-            return found
         left[spot] = judge.reasons.left_in(each)
+        if marks - {marked(it, rows) for it in (above.certain if above else ())}:
+            left[spot] = {marked(it, rows) for it in (above.differences if above else ())}
+            if marks - left[spot] or not above or not above.certain:
+                return found
     return _cleared(found, rows, left, "; ".join(it.why for it in those))
 
 
@@ -179,16 +189,18 @@ class _Otherwise:
         self.found, self.judge, self.rows, self.rules = found, judge, judge.rows, judge.rules
         self.again = second_trades(self.rows)
         self.earlier, self.why_earlier = amended(self.rows)
+        self.respelled = respelled(self.rows)
         self.spelled = (
-            respelled(self.rows) or renamed(self.rows, found) or misentered(self.rows, found)
+            self.respelled or renamed(self.rows, found) or misentered(self.rows, found)
         )
 
     def lists(self) -> list[list[Change]]:
         """The readings by their causes."""
         return [
-            self._one_side(), self._corrections(), self._names(), self._copies(), self._amended(),
-            self._cut(), self._spellings(), self._owners(), self._codes(), self._unchanged(),
-            self._percent(), self._totals(), self._lacking(), self._lots(),
+            self._one_side(), self._corrections(), self._stopped_again(), self._names(),
+            self._copies(), self._amended(), self._cut(), self._spellings(), self._owners(),
+            self._codes(), self._unchanged(), self._percent(), self._totals(), self._lacking(),
+            self._lots(), self._lots_of_some(),
             self._units(),  # the last, as prices have other numbers then
         ]  # fmt: skip
 
@@ -201,6 +213,10 @@ class _Otherwise:
         if not _may_correct(self.found, self.rows, self.rules):
             return []
         return [_rows(functools.partial(corrected, due=self.rules.due), CORRECTED)]
+
+    def _stopped_again(self) -> list[Change]:
+        """A later row of an interruption corrects the one above it."""
+        return [_rows(with_last_stops, STOPPED_AGAIN)] if len(stopped_again(self.rows)) else []
 
     def _names(self) -> list[Change]:
         """Results are of other auctions."""
@@ -242,12 +258,13 @@ class _Otherwise:
 
     def _spellings(self) -> list[Change]:
         """Ids are spelled otherwise, or trades have others than orders."""
-        rows, found = self.rows, self.found
+        rows, ways = self.rows, list[Change]()
         if self.spelled is not None:
-            return [_rows(functools.partial(_respelled, self.spelled[0]), self.spelled[1])]
-        if have_other_ids(rows, found, numpy.union1d(copies(rows, found), self.earlier)):
-            return [_without_rows(rows, rows.of(TRADE, FILL), OTHER_IDS)]
-        return []
+            ways = [_rows(functools.partial(_respelled, self.spelled[0]), self.spelled[1])]
+        again = numpy.union1d(copies(rows, self.found), self.earlier)
+        if self.respelled is None and have_other_ids(rows, self.found, again):
+            ways.append(_without_rows(rows, rows.of(TRADE, FILL), OTHER_IDS))
+        return ways
 
     @property
     def _plain(self) -> Rows:
@@ -266,11 +283,7 @@ class _Otherwise:
 
     def _unchanged(self) -> list[Change]:
         """Replaces without a price leave it as it is."""
-        price = _filled_prices(self.rows)
-        if price is None:
-            return []
-        unchanged = functools.partial(_priced, price)
-        return [_rows(unchanged, UNCHANGED), _rows(_without_prices, UNCHANGED)]
+        return [*_unpriced(self.rows)]
 
     def _percent(self) -> list[Change]:
         """The range is a percentage."""
@@ -307,6 +320,21 @@ class _Otherwise:
         ways = in_shares(self.rows, lot_of(self.found))
         lots = ((dict(quantity=it.quantity, surplus=it.surplus), why) for it, why in ways)
         return [_rows(functools.partial(_with, those), why) for those, why in lots]
+
+    def _lots_of_some(self) -> list[Change]:
+        """Quantities of some orders are lots: of those of which no order is executed with all such
+        as make the day lawful; of none where hidden shares may be lacking.
+        """
+        ways = orders_in_shares(self.found, self.rows) if self.rows.has_peaks else ()
+        changes = (
+            (_rows(functools.partial(_with, dict(quantity=many)), why), is_sure)
+            for many, why, is_sure in ways
+        )
+        day = self.rows, self.rules
+        return [
+            it for it, is_sure in changes
+            if is_sure or not Judge(*it.apply(day)).judge().unlawful
+        ]  # fmt: skip
 
     def _units(self) -> list[Change]:
         """Prices are in two units."""
@@ -429,9 +457,26 @@ def _cut_off(end: End, rows: Rows) -> Rows:
     return rows
 
 
-def _filled_prices(rows: Rows) -> Codes | None:
-    """The prices with those of replaces without one as before; None where none lacks one, or one
-    says an unchanged price, or empty ones are refused.
+def _unpriced(rows: Rows) -> Iterator[Change]:
+    """What replaces without a price may say: the price as before, all or each of a few, or one that
+    isn't known, but where orders are entered without one and a replace says an unchanged one.
+    """
+    price, says_again = _filled_prices(rows)
+    these = numpy.flatnonzero(price != rows.price)
+    if rows.has_market or not len(these):
+        return
+    yield _rows(functools.partial(_priced, price), UNCHANGED)
+    if not says_again or (rows.price[rows.of(NEW)] != MARKET).all():
+        yield _rows(_without_prices, UNCHANGED)
+        return
+    for place in these.tolist() if 1 < len(these) <= MOST_UNPRICED else ():
+        alone = numpy.where(numpy.arange(len(price)) == place, price, rows.price)
+        yield _rows(functools.partial(_priced, alone), UNCHANGED)
+
+
+def _filled_prices(rows: Rows) -> tuple[Codes, bool]:
+    """The prices with those of replaces without one as before, and whether a replace says an
+    unchanged one.
     """
     these = rows.of(NEW, REPLACE)
     order = these[numpy.lexsort((these, rows.key[these].astype("i8")))]
@@ -442,8 +487,7 @@ def _filled_prices(rows: Rows) -> Codes | None:
     price = rows.price.copy()
     price[order] = at[last]
     says_again = is_replace[1:] & (at[1:] != MARKET) & (at[1:] == at[last[:-1]])
-    is_other = rows.has_market or says_again.any() or (price == rows.price).all()
-    return None if is_other else price
+    return price, bool(says_again.any())
 
 
 def _without_prices(rows: Rows) -> Rows:
@@ -588,8 +632,36 @@ def _merged(
         return dataclasses.replace(other, uncrosses=())
     pairs = zip(first.uncrosses, other.uncrosses)
     merged = _in_own_values if change.keeps_values else _both
+    if _says_otherwise(*both):
+        merged = _in_other_values
     found = tuple(merged(one, each, both, change.why) for one, each in pairs)
     return dataclasses.replace(first, uncrosses=found)
+
+
+def _says_otherwise(rows: Rows, read: Rows) -> bool:
+    """Whether what was published has other values in a reading than in the file, or numbers of
+    prices that are others.
+    """
+    these = rows.of(UNCROSS, TRADE, FILL)
+    both = [(getattr(rows, name)[these], getattr(read, name)[these])
+            for name in ("price", "quantity", "surplus")]  # fmt: skip
+    are_others = any(((one != it) & (it != MISSING)).any() for one, it in both)
+    return are_others or rows.prices != read.prices
+
+
+def _in_other_values(one: Judged, other: Judged, both: tuple[Rows, Rows], why: str) -> Judged:
+    """An uncross of the first reading, whose differences are certain where the other one, in which
+    values are others, has one of the same cells, or of the same missing trade.
+    """
+    rows = both[0]
+
+    def cells(it: Difference) -> Mark:
+        spots = frozenset(rows.spots[[*it.places]].tolist())
+        return it.item, spots, it.rule, it.keys if it.recorded is None else ()
+
+    own = {*map(cells, other.certain)}
+    kept = tuple(it if cells(it) in own else doubted([it], why)[0] for it in one.differences)
+    return dataclasses.replace(one, differences=kept)
 
 
 def _both(one: Judged, other: Judged, both: tuple[Rows, Rows], why: str) -> Judged:

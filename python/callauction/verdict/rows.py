@@ -92,7 +92,7 @@ class BadRow:
     @property
     def unknown(self) -> str:
         """That it isn't known what the row does."""
-        return f"it isn't known what {self} does"
+        return f"it isn't known what row {self.label} does: {self.why}"
 
     def __str__(self) -> str:
         return f"row {self.label}: {self.why}"
@@ -265,7 +265,7 @@ class Rows:
     that no row enters: one of each instrument.
     """
     end: End | None = None
-    """The end of the file, where it is one, without a time where rows are sorted."""
+    """The end of the file, where it is one."""
 
     @property
     def has_peaks(self) -> bool:

@@ -12,9 +12,11 @@ from fractions import Fraction
 
 import numpy
 
+from callauction.verdict.cells import Ints, Mask
 from callauction.verdict.comparing import Fill, Trade
 from callauction.verdict.judged import Judgement, Rules
-from callauction.verdict.rows import FILL, NEW, TRADE, UNCROSS, Rows
+from callauction.verdict.phases import recorded_sums
+from callauction.verdict.rows import FILL, NEW, OF_ORDERS, TRADE, UNCROSS, Rows
 
 NOISE = 16
 """How many units in the last place of a double may be its noise."""
@@ -23,22 +25,28 @@ EXACT = decimal.Context(prec=13)
 NOISY = "prices with the noise of binary numbers, read as those next to them"
 NEAR = 5
 """How many times the reference, or how small a part of it, prices of its unit may be."""
-FACTORS = (Decimal("0.01"), Decimal(100))
+CENTS = (Decimal("0.01"), Decimal(100))
+LOST_SIGN = (Decimal("0.1"), Decimal("0.001"), Decimal("0.0001"))
+"""What whole prices are multiplied by that have lost their sign of decimals, as CENTS for two.
+"""
 
 
 def _in_other_unit(rows: Rows, reference: Decimal) -> dict[int, Decimal]:
     """By its number each price that is far from the reference, and near to it in another unit."""
     if reference <= 0:
         return {}
-    low, high = reference / NEAR, reference * NEAR
     used = numpy.unique(rows.price[(rows.kind >= NEW) & (rows.price >= 0)]).tolist()
-    prices = {number: rows.prices[number] for number in used}
-    return {
-        number: price * factor
-        for number, price in prices.items()
-        for factor in FACTORS
-        if not low <= price <= high and low <= price * factor <= high
-    }
+    both = ((number, _near(rows.prices[number], reference)) for number in used)
+    return {number: price for number, price in both if price is not None}
+
+
+def _near(price: Decimal, reference: Decimal) -> Decimal | None:
+    """A price that is far from the reference in a unit in which it is near; None for others."""
+    low, high = reference / NEAR, reference * NEAR
+    factors = (*CENTS[::-1], *(LOST_SIGN if price == price.to_integral_value() else ()))
+    if low <= price <= high:
+        return None
+    return next((price * it for it in factors if low <= price * it <= high), None)
 
 
 def why_two_units(rows: Rows, reference: Decimal) -> str:
@@ -47,7 +55,9 @@ def why_two_units(rows: Rows, reference: Decimal) -> str:
     if not other:
         return ""
     number = min(other)
-    return f"is the price {rows.prices[number]} {other[number]:f}, in cents?"
+    price, meant = rows.prices[number], other[number]
+    how = ", in cents?" if meant / price in CENTS else " without its sign of decimals?"
+    return f"is the price {price} {meant:f}{how}"
 
 
 def in_one_unit(rows: Rows, reference: Decimal) -> Rows:
@@ -144,3 +154,57 @@ def in_shares(rows: Rows, lot: int) -> Iterator[tuple[Rows, str]]:
             least = {name: numpy.where(said[name], it // lot, it) for name, it in both.items()}
             why = f"are quantities in lots of {lot}, but those of {what}?"
             yield dataclasses.replace(rows, **least), why
+
+
+# ---- lots of some orders
+
+
+ORDER_LOTS = (10, 50, 100, 500, 1000)
+"""How many shares a lot of an order may have."""
+MOST_LOTS = 2
+"""How many of these are tried."""
+MOST_SHARES = 2**32 - 1
+"""How many shares an order may have."""
+EXECUTED = "the order of row {} has {:,} shares, and {:,} are executed: "
+OF_MEMBER = f"{EXECUTED}are those of its member in lots of {{}}?"
+OF_ORDER = f"{EXECUTED}is it in lots of {{}}?"
+
+
+def orders_in_shares(found: Judgement, rows: Rows) -> Iterator[tuple[Ints, str, bool]]:
+    """The quantities with those of some orders in shares, why, and whether one was executed with
+    all of its lots: orders that were executed with more than they have, as several were or a
+    published volume says, or all of their members.
+    """
+    entered = rows.entered(len(rows.names.ids) + 1)
+    made = {it[0]: it for it in _beyond(found, rows) if entered[it[0]] >= 0}
+    most = max((Fraction(more, own) for _, own, more in made.values()), default=Fraction(0))
+    if not made or len(made) < LEAST and not _has_wrong_volume(found):
+        return
+    first, own, more = min(made.values(), key=lambda it: int(entered[it[0]]))
+    of_orders = numpy.isin(rows.kind, OF_ORDERS) & (rows.key >= 0)
+    those: Mask = of_orders & numpy.isin(rows.key, [*made])
+    owner = numpy.where(of_orders, rows.member[entered[numpy.maximum(rows.key, 0)]], -1)
+    members = {int(rows.member[entered[key]]) for key in made} - {-1}
+    for lot in [it for it in ORDER_LOTS if it >= most][:MOST_LOTS]:
+        both = ((those | numpy.isin(owner, [*members]), OF_MEMBER), (those, OF_ORDER))
+        for which, why in both if members else both[1:]:
+            many = numpy.where(which & (rows.quantity > 0), rows.quantity * lot, rows.quantity)
+            if many.max() <= MOST_SHARES:
+                text = why.format(rows.labels[entered[first]], own, more, lot)
+                yield many, text, lot == most
+
+
+def _beyond(found: Judgement, rows: Rows) -> Iterator[tuple[int, int, int]]:
+    """Each order that was executed with more shares than were open, how many were, and how many it
+    was executed with.
+    """
+    for judged in (it for it in found.uncrosses if it.result is not None):
+        book = dict(zip(judged.book.key.tolist(), judged.book.quantity.tolist()))
+        made = recorded_sums(rows, judged.traded, judged.filled).by_key()
+        over = ((key, book[key]) for key, more in made.items() if more > book.get(key, more))
+        yield from ((key, own, made[key]) for key, own in over)
+
+
+def _has_wrong_volume(found: Judgement) -> bool:
+    """Whether a volume that was published isn't lawful."""
+    return any(it.item == "volume" for each in found.uncrosses for it in each.certain)
