@@ -1,18 +1,14 @@
 //! What comes of a run.
 
-ghost use Rattle.std.specs.Prelude.{◌≡◌, Some};
-ghost use Rattle.program_runs.specs.FaultLine.{fault_line};
+ghost use Rattle.std.specs.Prelude.{◌≡◌};
 ghost use Rattle.program_runs.specs.AuditRun.{fault_of_audit};
 ghost use Rattle.program_runs.specs.Status.{file_fault, file_status, finish_status, open_status, status_of};
 
 use auction::OpenFault;
 use day_audit::AuditFault;
 use order_file::FileFault;
-use std::fmt;
-use std::fmt::{Display, Formatter};
 
-/// Why a run ends early, on an auction or on a board; its text is the line that the program prints on standard
-/// error.
+/// Why a run ends early, on an auction or on a board.
 #[derive(Clone, Copy, Debug, PartialEq, Eq)]
 pub enum Fault {
     /// The input has a fault, of which this is the first.
@@ -68,22 +64,6 @@ impl From<AuditFault> for Fault {
             AuditFault::File(fault) => Fault::File(fault),
             AuditFault::Open(fault) => Fault::Open(fault),
             AuditFault::WriteFailed => Fault::WriteFailed,
-        }
-    }
-}
-
-impl Display for Fault {
-    ghost output = { λ fault. Some (fault_line fault) };
-
-    fn fmt<W: fmt::Write>(&self, f: &mut Formatter<W>) -> fmt::Result {
-        match self {
-            Fault::File(fault) => fault.fmt(f),
-            Fault::Open(OpenFault::BadBounds) => f.write_str("bad bounds"),
-            Fault::Open(OpenFault::BadReference) => f.write_str("bad reference"),
-            Fault::Open(OpenFault::BadCapacity) => f.write_str("bad limits"),
-            Fault::Open(OpenFault::NoMemory) | Fault::NoMemory => { f.write_str("out of memory") }
-            Fault::NotClosed => f.write_str("floor not closed"),
-            Fault::WriteFailed => f.write_str("write failed"),
         }
     }
 }

@@ -1,10 +1,12 @@
 //! The lines of faults, and of their likely causes, on standard error. What writes one answers the fault's status.
 
 ghost use Rattle.std.specs.Prelude.{◌≡◌};
+ghost use Rattle.program_runs.specs.FaultLine.{WritesOneLine, fault_line};
 ghost use Rattle.program_runs.specs.LiveRun.{ending_status};
 ghost use Rattle.program_runs.specs.Status.{open_status, run_status, status_of};
 
 use crate::fault::{Fault, Finish};
+use crate::fault_texts::put_fault;
 use byte_streams::{Sink, write_all};
 use clap::Error;
 use clap::error::ErrorKind;
@@ -12,6 +14,7 @@ use input_hints::{Bounds, DayTerms, bounds_hint, hint_of, hint_of_bounds, is_lik
 use journal::DayHeader;
 use live_session::{Ending, LiveFault};
 use order_file::FileFault;
+use printed_lines::Page;
 use settings::ArgumentsFault;
 use std::alloc::Global;
 use std::fmt::InlineText;
@@ -25,9 +28,13 @@ pub(crate) fn write_line<E: Sink>(err: &mut E, line: &str) {
 
 /// Writes the line of a fault on standard error, and answers its status.
 pub(crate) fn write_fault<E: Sink>(err: &mut E, fault: Fault) -> u8
-    ensures { result ≡ status_of fault }
+    ensures status { result ≡ status_of fault }
+    ensures line { WritesOneLine E.Sink err.old err.new (fault_line fault) }
 {
-    write_line(err, InlineText::<64>::of(fault).as_str());
+    let mut page = Page::new();
+    put_fault(&mut page, fault);
+    page.put("\n");
+    let _ = write_all(err, page.as_slice());
     fault.status()
 }
 

@@ -8,6 +8,7 @@ mod blocks;
 mod day;
 mod fault;
 mod fault_lines;
+mod fault_texts;
 mod floor;
 mod journal_lines;
 mod journaling;
@@ -22,6 +23,7 @@ mod serving;
 mod whole_input;
 
 pub use fault::{Fault, Finish};
+pub use fault_texts::put_fault;
 pub use floor::run_floor;
 pub use journaling::{OpenedJournal, OpensJournal};
 pub use laws::printed_journals_are_lawful;

@@ -3,8 +3,8 @@
 use super::{PLAIN, Row, SHOWN, each_gives, gives};
 use auction::OpenFault;
 use order_file::FileFault;
-use program_runs::Fault;
-use std::fmt::InlineText;
+use printed_lines::Page;
+use program_runs::{Fault, put_fault};
 
 static GOOD: [(&str, &str); 12] = [
     ("", ""),
@@ -175,7 +175,9 @@ fn each_fault_has_its_line(rt: HostRuntime) {
         (Fault::WriteFailed, "write failed", 3),
     ];
     for (fault, text, status) in rows {
-        assert_eq!(rt; InlineText::<64>::of(fault).as_str(), text);
+        let mut page = Page::new();
+        put_fault(&mut page, fault);
+        assert_eq!(rt; page.as_slice(), text.as_bytes());
         assert_eq!(rt; fault.status(), status);
     }
 }
