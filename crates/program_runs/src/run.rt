@@ -38,8 +38,10 @@ fn write_run<S: Sink>(writer: &mut S, run: Result<PrintableDay, Fault>) -> Resul
 
 /// Whether the first of these bytes is a digit, so that what they begin is no journal.
 fn begins_with_digit(start: &[u8]) -> bool
-    ensures { result ≡ true
+    ensures digit { result ≡ true
         → (digit : ℕ) × (rest : List ℕ) × (start.now ≡ digit ∷ rest) × (48 ≤ digit) × (digit ≤ 57) }
+    ensures each { (digit : ℕ) (rest : List ℕ) → start.now ≡ digit ∷ rest → 48 ≤ digit → digit ≤ 57
+        → result ≡ true }
 {
     match start.first() {
         Some(byte) => byte.is_ascii_digit(),
@@ -53,6 +55,8 @@ fn is_read_in_blocks(start: &[u8], day: DayHeader) -> bool
     ensures digit { result ≡ true
         → (digit : ℕ) × (rest : List ℕ) × (start.now ≡ digit ∷ rest) × (48 ≤ digit) × (digit ≤ 57) }
     ensures opens { result ≡ true → open_fault day.config ≡ None }
+    ensures each { (digit : ℕ) (rest : List ℕ) → start.now ≡ digit ∷ rest → 48 ≤ digit → digit ≤ 57
+        → open_fault day.config ≡ None → result ≡ true }
 {
     begins_with_digit(start) && config_fault(day.config).is_none()
 }
