@@ -191,9 +191,9 @@ class Copy:
 
 
 def whole_part(text: str) -> str:
-    """The whole lines of a copy of a journal before its first NUL, or all where it ends with CR."""
+    """The whole lines of a copy of a journal: those up to the last LF before any NUL."""
     lines, end, _ = text.partition("\0")[0].rpartition("\n")
-    return text if text.endswith("\r") else lines + end
+    return lines + end
 
 
 def journal_copy(text: str) -> Copy:

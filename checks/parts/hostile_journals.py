@@ -112,9 +112,14 @@ AUDITED: list[tuple[str, bytes, Answer]] = [
     ("a byte order mark before a day", b"\xef\xbb\xbf" + WHOLE, ONCE),
     ("a space before a day", b" " + WHOLE, fault("record 1: not a day record")),
     ("CR LF in a journal", WHOLE.replace(b"\n", b"\r\n"), ONCE),
-    ("CR in a journal", WHOLE.replace(b"\n", b"\r"), ONCE),
+    ("CR in a journal", WHOLE.replace(b"\n", b"\r"), fault("record 1: not a day record")),
+    ("CR in a journal before its last LF", WHOLE.replace(b"\n", b"\r", 1), ONCE),
     ("a journal without a last line end", WHOLE[:-1], audited(0, 0, behind=len(ASK))),
-    ("a journal that was cut after its last CR", WHOLE[:-1] + b"\r", ONCE),
+    (
+        "a journal that was cut after its last CR",
+        WHOLE[:-1] + b"\r",
+        audited(0, 0, behind=len(ASK) + 1),
+    ),
     ("a journal that was copied while it ran", WHOLE + bytes(4_096), audited(1, 1, behind=4_096)),
     ("a torn line behind a NUL", WHOLE + b"\0,ask,\n", audited(1, 1, behind=7)),
     (

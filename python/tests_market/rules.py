@@ -28,7 +28,7 @@ def random_texts(count: int, kind: str = "short") -> Texts:
     for seed in range(1, count + 1):
         given = orders.order_file(kind, seed)
         text = journals.journal_of(kind, seed, *given)[1]
-        texts[f"{kind} {seed}"] = text if text.endswith(("\n", "\r")) else text + "\n"
+        texts[f"{kind} {seed}"] = text if text.endswith("\n") else text + "\n"
     return texts
 
 

@@ -18,6 +18,7 @@ use Rattle.journal.specs.JournalFile.{RecordedDay, journal_of, recorded_day}
 use Rattle.journal.specs.declared.day.DayHeader.{DayHeader}
 use Rattle.journal.specs.declared.entries.Entries.{Entries}
 use Rattle.journal.specs.declared.reading.TheConstants.{MAX_JOURNAL_BYTES}
+use Rattle.journal_file.specs.Committed.{committed}
 use Rattle.order_file.specs.File.{FailsAsWanted, within_limit}
 use Rattle.order_file.specs.declared.fault.FileFault.{FileFault}
 use Rattle.order_file.proofs.BlockCallLaws.{fails-alike}
@@ -27,7 +28,7 @@ use Rattle.day_audit.specs.AuditCounts.{counts_of, counts_with, counts_with_all,
 use Rattle.day_audit.specs.AuditText.{difference, differences}
 use Rattle.day_audit.specs.Found.{HasFound, HasFoundOf, HasAudited, answer_in, found_copy_text, found_text}
 use Rattle.day_audit.specs.JournalAudit.{IsAuditOf}
-use Rattle.day_audit.specs.JournalCopies.{behind_whole, copy_of, journal_copy, whole_part}
+use Rattle.day_audit.specs.JournalCopies.{behind_whole, copy_of, journal_copy}
 use Rattle.day_audit.specs.ResultsText.{copy_text, printed_text, uncross_line, uncross_lines}
 use Rattle.day_audit.specs.declared.counts.Counts.{Counts}
 use Rattle.day_audit.specs.declared.counts.Finding.{Finding}
@@ -143,8 +144,8 @@ audited entries findings old new is opens hears =
 -- ---- a copy that was read
 
 pub whole-audited : (bytes whole : List ℕ) (findings : Findings) (r : Result (Option AuctionKind) AuditFault)
-    → whole ≡ whole_part bytes → HasAudited (journal_of whole) findings r
-    → HasAudited (journal_of (whole_part bytes)) findings r
+    → whole ≡ committed bytes → HasAudited (journal_of whole) findings r
+    → HasAudited (journal_of (committed bytes)) findings r
 whole-audited bytes whole findings r is h =
     subst (λ (text : List ℕ). HasAudited (journal_of text) findings r) is h
 
@@ -164,24 +165,24 @@ copy-unread results (Some all) old new f h =
     fails-alike f (within_limit MAX_JOURNAL_BYTES all) (journal_copy all) (λ e. rw e refl) h
 
 pub copy-said : (left : Option (List ℕ)) (bytes : List ℕ) (j : RecordedDay)
-    → IfSome left (λ all. journal_copy all ≡ copy_of bytes) → journal_of (whole_part bytes) ≡ Ok j
+    → IfSome left (λ all. journal_copy all ≡ copy_of bytes) → journal_of (committed bytes) ≡ Ok j
     → IfSome left (λ all. journal_copy all ≡ Ok (record { recorded = j; behind = behind_whole bytes }))
 unfolding copy_of
 copy-said None bytes j h e = tt
 copy-said (Some all) bytes j h e = h ∙ rw e refl
 
-pub behind-is : (bytes shown : List ℕ) (whole : ℕ) → shown ≡ bytes → whole ≡ length (whole_part shown)
+pub behind-is : (bytes shown : List ℕ) (whole : ℕ) → shown ≡ bytes → whole ≡ length (committed shown)
     → length shown - whole ≡ behind_whole bytes
 behind-is bytes shown whole same count = rw (count, same) refl
 
 pub audit-refused : (results : Bool) (left old new : Option (List ℕ)) (bytes : List ℕ) (findings : Findings)
     (fault : AuditFault) → IfSome left (λ all. journal_copy all ≡ copy_of bytes)
-    → HasAudited (journal_of (whole_part bytes)) findings (Err fault)
+    → HasAudited (journal_of (committed bytes)) findings (Err fault)
     → IfSome left (λ all. IsAuditOf results old new (journal_copy all) (Err fault))
 unfolding copy_of
 audit-refused results None old new bytes findings fault h a = tt
 audit-refused results (Some all) old new bytes findings (File f) h a =
-    rw h (fails-alike f (journal_of (whole_part bytes)) (copy_of bytes) (λ e. rw e refl) a)
+    rw h (fails-alike f (journal_of (committed bytes)) (copy_of bytes) (λ e. rw e refl) a)
 audit-refused results (Some all) old new bytes findings (Open f) h (j, is, why) =
     audit-open results (Some all) old new (record { recorded = j; behind = behind_whole bytes }) f (h ∙ rw is refl) why
 audit-refused results (Some all) old new bytes findings WriteFailed h a = absurd a

@@ -4,15 +4,7 @@ use Rattle.journal.specs.JournalFile.{RecordedDay, journal}
 use Rattle.journal.specs.declared.reading.TheConstants.{MAX_JOURNAL_BYTES}
 use Rattle.journal_file.specs.Committed.{committed}
 use Rattle.order_file.specs.File.{within_limit}
-use Rattle.day_audit.specs.JournalCopies.{copy_of, ends_with_return, journal_copy, whole_part}
-
-whole-part-is : (bytes : List ℕ) → committed bytes ≡ bytes → whole_part bytes ≡ bytes
-unfolding whole_part
-whole-part-is bytes whole = by_end (ends_with_return bytes) refl
-  where
-    by_end : (b : Bool) → ends_with_return bytes ≡ b → whole_part bytes ≡ bytes
-    by_end true t = rw t refl
-    by_end false t = rw t whole
+use Rattle.day_audit.specs.JournalCopies.{copy_of, journal_copy}
 
 -- it says what the journal says, and has nothing behind its lines
 pub copies-whole : (bytes : List ℕ) (recorded : RecordedDay) → committed bytes ≡ bytes → journal bytes ≡ Ok recorded
@@ -25,4 +17,4 @@ copies-whole bytes recorded whole is = by_less (nat_lt MAX_JOURNAL_BYTES (length
     by_less true t q = cc (rw t at q)
     by_less false t q =
         let none : length bytes - length bytes ≡ 0 = omega arith in
-        rw (t, whole-part-is bytes whole, rw t at q, none) refl
+        rw (t, whole, rw t at q, none) refl

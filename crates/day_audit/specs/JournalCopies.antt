@@ -1,6 +1,5 @@
 -- A copy of a journal, which may be broken off within a line, or have room behind its lines.
-use Rattle.std.specs.Prelude.{ℕ, ◌-◌, ◌==◌, Bool, List, length, if◌then◌else◌, Result, Ok}
-use Rattle.std.specs.List.{slice_index}
+use Rattle.std.specs.Prelude.{ℕ, ◌-◌, List, length, Result, Ok}
 use Rattle.auction_terms.specs.Results.{◌>>=◌}
 use Rattle.order_file.specs.File.{within_limit}
 use Rattle.order_file.specs.declared.fault.FileFault.{FileFault}
@@ -13,21 +12,13 @@ pub record JournalCopy : Type 0 where
   pub recorded : RecordedDay
   pub behind : ℕ
 
--- whether it ends with a carriage return, which ends a line, too
-abbrev pub ends_with_return : List ℕ → Bool
-ends_with_return bytes = slice_index bytes (length bytes - 1) == 13
-
--- the whole lines before the first NUL; a copy whose last line a carriage return ends is whole
-unfoldable pub whole_part : List ℕ → List ℕ
-whole_part bytes = if ends_with_return bytes then bytes else committed bytes
-
--- how many bytes are behind its whole lines
+-- how many bytes are behind its whole lines, which are those up to the last LF before any NUL
 abbrev pub behind_whole : List ℕ → ℕ
-behind_whole bytes = length bytes - length (whole_part bytes)
+behind_whole bytes = length bytes - length (committed bytes)
 
 -- what the whole lines of a copy say, or their first fault
 unfoldable pub copy_of : List ℕ → Result JournalCopy FileFault
-copy_of bytes = journal_of (whole_part bytes) >>= λ recorded. Ok (record {
+copy_of bytes = journal_of (committed bytes) >>= λ recorded. Ok (record {
   recorded = recorded;
   behind = behind_whole bytes;
 })

@@ -6,7 +6,6 @@
 //! or has a journal's room behind its lines, the whole lines are audited.
 #![tactic(auto)]
 
-mod copies;
 mod counts;
 mod fault;
 mod findings;

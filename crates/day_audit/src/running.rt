@@ -12,7 +12,6 @@ ghost use Rattle.day_audit.specs.Found.{HasFound, HasAudited};
 ghost use Rattle.day_audit.specs.JournalAudit.{IsAuditOf, KeepsText};
 ghost use Rattle.day_audit.specs.JournalCopies.{journal_copy};
 
-use crate::copies::whole_len;
 use crate::counts::Audited;
 use crate::fault::AuditFault;
 use crate::findings::Findings;
@@ -21,6 +20,7 @@ use auction_terms::AuctionKind;
 use byte_streams::{Sink, Source};
 use day_road::{hear_all, pass_over};
 use journal::{Entries, MAX_JOURNAL_BYTES};
+use journal_file::committed_len;
 use order_file::{FileFault, bytes_of};
 use std::alloc::Global;
 
@@ -107,7 +107,7 @@ pub fn audit_journal<R: Source, S: Sink>(
         Err(fault) => return Err(AuditFault::File(fault)),
     };
     let bytes = bytes.as_slice();
-    let whole = whole_len(bytes);
+    let whole = committed_len(bytes);
     let mut findings = Findings::new(alloc);
     let current = audit_bytes(alloc, &bytes[..whole], &mut findings)?;
     let behind = (bytes.len() - whole) as u64;

@@ -470,6 +470,10 @@ fn the_whole_lines_of_a_broken_copy(rt: HostRuntime) {
             "day,1,1000,200,3,4096,65536,\n0,enter,bid,1,200,entered 1\r\n0,ask\0lost\n",
             11,
         ),
+        (
+            "day,1,1000,200,3,4096,65536,\n0,enter,bid,1,200,entered 1\n0,enter,bid,1,200,e\r",
+            20,
+        ),
     ];
     for (text, behind) in rows {
         let counts = Counts {
