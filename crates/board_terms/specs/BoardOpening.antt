@@ -4,7 +4,7 @@ use Rattle.std.specs.Prelude.{if◌then◌else◌, Option, Some, None}
 use Rattle.auction_terms.specs.declared.limits.TheConstants.{MAX_CALLS, MAX_MEMBERS}
 use Rattle.auction_terms.specs.declared.Config.{Config}
 use Rattle.auction.specs.declared.OpenFault.{OpenFault}
-use Rattle.auction.specs.declared.OpenFault.TheVariants.{BadBounds, BadReference, BadCapacity, NoMemory}
+use Rattle.auction.specs.declared.OpenFault.TheVariants.{BadBounds, BadReference, BadCapacity}
 use Rattle.auction.specs.ConfigFault.{has_bad_bounds, has_bad_reference, has_bad_capacity}
 use Rattle.board_terms.specs.MemberView.{MemberView, newcomer}
 
@@ -19,14 +19,6 @@ board_fault config members =
     else if has_bad_reference config then Some BadReference
     else if has_bad_capacity config || has_bad_members members then Some BadCapacity
     else None
-
--- the fault of a board with too few or too many members, whose auction was refused so
-abbrev pub fault_with_bad_members : Option OpenFault → OpenFault
-fault_with_bad_members None = BadCapacity
-fault_with_bad_members (Some BadBounds) = BadBounds
-fault_with_bad_members (Some BadReference) = BadReference
-fault_with_bad_members (Some BadCapacity) = BadCapacity
-fault_with_bad_members (Some NoMemory) = BadCapacity
 
 -- members numbered from 0, with no calls, which have been shown nothing
 abbrev pub newcomers : ℕ → List MemberView

@@ -2,8 +2,7 @@
 ghost use Rattle.std.specs.Prelude.{◌≡◌, ◌<◌, ◌≤◌, [], vec_capacity, not, IfOk, IfErr, IfSome, Err, None};
 ghost use Rattle.auction_terms.specs.Auxiliary.RunningAuction.{opened_auction};
 ghost use Rattle.auction_terms.specs.declared.limits.TheConstants.{MAX_CALLS};
-ghost use Rattle.board_terms.specs.BoardOpening.{IsWithinCapacity, board_fault, fault_with_bad_members};
-ghost use Rattle.board_terms.specs.BoardOpening.{has_bad_members};
+ghost use Rattle.board_terms.specs.BoardOpening.{IsWithinCapacity, board_fault, has_bad_members};
 ghost use Rattle.board_terms.specs.BoardViews.{IsSnapshotOf, board_member, board_history, opened_board};
 ghost use Rattle.board_terms.specs.MemberView.{newcomer};
 
@@ -12,7 +11,7 @@ use crate::board_core::BoardCore;
 use crate::calls::Shown;
 use crate::evidence::new_evidence;
 use crate::snapshot::Snapshot;
-use auction::{Auction, OpenFault};
+use auction::{Auction, OpenFault, config_fault};
 use auction_terms::{Command, Config, Entry, MAX_MEMBERS, Reply};
 use std::alloc::{AllocError, Global};
 use std::marker::Model;
@@ -73,18 +72,7 @@ fn fits(members: u8) -> bool
     members != 0 && members <= MAX_MEMBERS
 }
 
-// The fault of a board with a number of members that isn't allowed, if its auction was refused so. A fault of the
-// config comes before that of the members.
-fn fault_beside(refused: Option<OpenFault>) -> OpenFault
-    ensures { result ≡ fault_with_bad_members refused }
-{
-    match refused {
-        None | Some(OpenFault::NoMemory) => OpenFault::BadCapacity,
-        Some(fault) => fault,
-    }
-}
-
-// The auction of a board with `members` members.
+// The auction of a board with `members` members. No memory is taken for one that there can't be.
 #[tactic(auto, using(crate::proofs::FaultLaws::board_is))]
 fn open_auction(alloc: Global, config: Config, members: u8) -> Result<Auction, OpenFault>
     ensures opening { IfOk result (λ a. a ≡ opened_auction config) }
@@ -93,11 +81,13 @@ fn open_auction(alloc: Global, config: Config, members: u8) -> Result<Auction, O
     ensures good { IfOk result (λ a. board_fault config members ≡ None) }
     ensures within { IfOk result (λ a. IsWithinCapacity config members) }
 {
-    let answer = Auction::open(alloc, config);
-    if fits(members) {
-        return answer;
+    if let Some(fault) = config_fault(config) {
+        return Err(fault);
     }
-    Err(fault_beside(answer.err()))
+    if !fits(members) {
+        return Err(OpenFault::BadCapacity);
+    }
+    Auction::open(alloc, config)
 }
 
 /// What the room of the history is written with.
