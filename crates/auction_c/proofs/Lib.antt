@@ -14,4 +14,3 @@ mod OutcomeLaws
 mod JournalLineLaws
 mod JournalFoundLaws
 pub mod TakenEntryLaws
-pub mod TornTextLaws

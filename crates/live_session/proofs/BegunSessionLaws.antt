@@ -68,15 +68,6 @@ module _ {D : Type 0} (d : Ghosts D) where
       weaker d.moment d.left_since old new (Means (committed (d.seen old))) (IsBegun (committed (d.seen old)) []) leaves
       (λ c means. (0, (means.0 ∙ sym (append-nil (committed (d.seen old))), means.1)))
 
-  -- what repairing a file adds: nothing
-  pub repaired : (old new : D) → committed (d.seen new) ≡ committed (d.seen old)
-      → (IsStored d old → LeavesOnly d.moment d.left_since old new (Means (committed (d.seen old))))
-      → AddsLines d old new []
-  repaired old new same leaves = record {
-    all = same ∙ sym (append-nil (committed (d.seen old)));
-    leaves = λ stored. as-begun old new (leaves stored);
-  }
-
   -- no call
   pub not-touched : ((file : D) (c : List ℕ) → d.left_since file (d.moment file) c → d.may_leave file c)
       → (old : D) → HasTornEnd (d.seen old)

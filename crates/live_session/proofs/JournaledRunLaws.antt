@@ -238,18 +238,3 @@ kept-by {D = D} {R = R} {O = O} c seen may_leave moment left_since faults only_n
     first
     (at_last ∙ sym (ap₂ (λ (r : R) (w : O). ends_of_both reads writes r w (text_kept after) (failures_of after))
     input_is output_is))
-
--- the journal is settled after a session that no commit has broken off
-module _ {D : Type 0} (seen : D → List ℕ) (may_leave : D → List ℕ → Type 0) (moment : D → ℕ)
-    (left_since : D → ℕ → List ℕ → Type 0) (faults : D → ℕ) (terms : SessionTerms) (start : RunningAuction)
-    (old new : CommittedLines D) (left left_at_last written written_at_last : Option (List ℕ))
-    (reads reads_at_last writes writes_at_last : ℕ) where
-  pub settled-after : (result : Result Ending LiveFault)
-      → RunsJournaled seen may_leave moment left_since faults terms start old new (ends_at left written reads writes)
-      (ends_at left_at_last written_at_last reads_at_last writes_at_last) result
-      → (result ≡ Err fault.CommitFailed → ⊥) → IsSettled seen may_leave new
-  settled-after (Ok ending) ran other = (ran.all ran.session.answered.commits).0
-  settled-after (Err fault.ReadFailed) ran other = (ran.all ran.session.answered.commits).0
-  settled-after (Err fault.WriteFailed) ran other = (ran.all ran.session.2).0
-  settled-after (Err fault.CommitFailed) ran other = absurd (other refl)
-  settled-after (Err fault.NoMemory) ran other = (ran.all ran.session.2).0
