@@ -3,7 +3,7 @@
 //!
 //! A board adds to it under its lock; members and copies have beginnings of it. Of two beginnings the shorter one
 //! begins the longer, so what a member has seen can be compared with what another was shown.
-ghost use Rattle.std.specs.Prelude.{◌≡◌, ◌+◌, ◌<◌, ◌≤◌, ◌^◌, ◌++◌, ◌∷◌, [], length, MatchBool};
+ghost use Rattle.std.specs.Prelude.{◌≡◌, ◌+◌, ◌<◌, ◌^◌, ◌++◌, ◌∷◌, [], length, MatchBool};
 ghost use mathlib.Core.List.{IsPrefix};
 ghost use Rattle.board_terms.specs.Stories.{newest_name};
 ghost use Rattle.board_terms.specs.BoardViews.{beginning};

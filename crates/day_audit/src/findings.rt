@@ -1,7 +1,6 @@
 //! What an audit finds, entry by entry.
 
-ghost use Rattle.std.specs.Prelude.{◌≡◌, ◌≤◌, ◌++◌, [], length, OnOk};
-ghost use Rattle.printed_lines.specs.KeptText.{kept_text};
+ghost use Rattle.std.specs.Prelude.{◌≡◌, []};
 ghost use Rattle.printed_lines.specs.Printing.{Prints};
 ghost use Rattle.printed_lines.specs.ReplyWords.{reply_text};
 ghost use Rattle.byte_streams.specs.Writing.{WritesAll};

@@ -1,6 +1,6 @@
 //! What an audit prints.
 
-ghost use Rattle.std.specs.Prelude.{◌≡◌, ◌≤◌, ◌+◌, ◌++◌, codes, decimal, length, OnOk};
+ghost use Rattle.std.specs.Prelude.{◌≡◌, ◌≤◌, ◌+◌, ◌++◌, length, OnOk};
 ghost use Rattle.printed_lines.specs.declared.page.TheConstants.{LONGEST_LINE, ROOM};
 ghost use Rattle.printed_lines.specs.KeptText.{kept_text};
 ghost use Rattle.printed_lines.specs.Printing.{Prints};

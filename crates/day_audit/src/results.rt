@@ -3,7 +3,7 @@
 ghost use Rattle.std.specs.Prelude.{◌≡◌, ◌≤◌, ◌+◌, ◌++◌, length, OnOk};
 ghost use Rattle.printed_lines.specs.KeptText.{kept_text};
 ghost use Rattle.printed_lines.specs.Printing.{Prints};
-ghost use Rattle.printed_lines.specs.declared.page.TheConstants.{LONGEST_LINE, ROOM};
+ghost use Rattle.printed_lines.specs.declared.page.TheConstants.{ROOM};
 ghost use Rattle.day_audit.specs.ResultsText.{current_auction_line, uncross_line};
 
 use auction_terms::{AuctionKind, Reply};

@@ -1,6 +1,6 @@
 //! A conversation over two ends.
 
-ghost use Rattle.std.specs.Prelude.{◌≡◌, None, refl, ℕ};
+ghost use Rattle.std.specs.Prelude.{◌≡◌, None, refl};
 ghost use Rattle.std.proofs.Common.{◌∙◌};
 
 use crate::conversation::{CommitFailed, Conversation};

@@ -1,6 +1,6 @@
 //! A device with both ends.
 
-ghost use Rattle.std.specs.Prelude.{◌≡◌, ◌+◌, ℕ, List, Option, is_ok};
+ghost use Rattle.std.specs.Prelude.{◌≡◌, ℕ, List, Option, is_ok};
 ghost use Rattle.std.specs.Io.KnownBytes.{ReadConsumes};
 ghost use Rattle.auction_terms.specs.declared.Entry.{Entry};
 ghost use Rattle.byte_streams.specs.Streams.{AppendsOrBegins, FitsBuffer, ReportsFailure, failures_after};

@@ -1,5 +1,5 @@
 //! The closing: the history is handed out, and each member's account is held against it.
-ghost use Rattle.std.specs.Prelude.{◌≡◌, ◌+◌, ◌<◌, ◌≤◌, ◌==◌, ℕ, All, length, sum, count_by, ◌↔◌, ◌⊎◌, IfOk, IfErr};
+ghost use Rattle.std.specs.Prelude.{◌≡◌, ◌+◌, ◌<◌, ◌≤◌, ◌==◌, All, length, sum, count_by, ◌↔◌, ◌⊎◌, IfOk, IfErr};
 ghost use Rattle.std.specs.Prelude.{IfNone, IfSome, Err, IsTrue, replicate};
 ghost use Rattle.auction_terms.specs.declared.limits.TheConstants.{MAX_CALLS};
 ghost use Rattle.auction_terms.specs.Day.{calls_of};
