@@ -96,24 +96,15 @@ recordable_command c =
     option_and_then
     (λ command. if nat_lt c.member MAX_MEMBERS && fits_record command then Some command else None) (command_in c)
 
-abbrev pub has_same_shares : AuctionReply → AuctionReply → Bool
-has_same_shares r s =
-    (r.quantity == s.quantity) && (r.visible == s.visible) && (r.volume == s.volume) && (r.surplus == s.surplus)
-
-abbrev pub has_same_numbers : AuctionReply → AuctionReply → Bool
-has_same_numbers r s =
-    (r.id == s.id) && (r.ask == s.ask) && (r.tick == s.tick) && (r.trades == s.trades) && (r.best_bid == s.best_bid)
-    && (r.best_ask == s.best_ask)
-
-abbrev pub has_same_tags : AuctionReply → AuctionReply → Bool
-has_same_tags r s =
-    (r.tag == s.tag) && (r.side == s.side) && (r.auction == s.auction) && (r.kept == s.kept)
-    && (r.refusal == s.refusal) && (r.has_tick == s.has_tick) && (r.has_best_bid == s.has_best_bid)
-    && (r.has_best_ask == s.has_best_ask)
-
--- each number is the same
+-- each number is the same, in the order of the struct, as a derived `==` compares them
 abbrev pub is_same_reply : AuctionReply → AuctionReply → Bool
-is_same_reply r s = has_same_shares r s && has_same_numbers r s && has_same_tags r s
+is_same_reply r s =
+    (r.quantity == s.quantity) && ((r.visible == s.visible) && ((r.volume == s.volume) && (
+    (r.surplus == s.surplus) && ((r.id == s.id) && ((r.ask == s.ask) && ((r.tick == s.tick) && (
+    (r.trades == s.trades) && ((r.best_bid == s.best_bid) && ((r.best_ask == s.best_ask) && ((r.tag == s.tag) && (
+    (r.side == s.side) && ((r.auction == s.auction) && ((r.kept == s.kept) && ((r.refusal == s.refusal) && (
+    (r.has_tick == s.has_tick) && ((r.has_best_bid == s.has_best_bid) &&
+    (r.has_best_ask == s.has_best_ask)))))))))))))))))
 
 -- the text of an uncross says of all its trades: without a price it says of none
 abbrev pub is_printed_uncross : ℕ → Option Price → Bool

@@ -167,45 +167,6 @@ fn reply_back(reply: &AuctionReply) -> Reply
     }
 }
 
-fn has_same_shares(one: &AuctionReply, other: &AuctionReply) -> bool
-    ensures { result ≡ recorded_as.has_same_shares one.now other.now }
-{
-    one.quantity == other.quantity
-        && one.visible == other.visible
-        && one.volume == other.volume
-        && one.surplus == other.surplus
-}
-
-fn has_same_numbers(one: &AuctionReply, other: &AuctionReply) -> bool
-    ensures { result ≡ recorded_as.has_same_numbers one.now other.now }
-{
-    one.id == other.id
-        && one.ask == other.ask
-        && one.tick == other.tick
-        && one.trades == other.trades
-        && one.best_bid == other.best_bid
-        && one.best_ask == other.best_ask
-}
-
-fn has_same_tags(one: &AuctionReply, other: &AuctionReply) -> bool
-    ensures { result ≡ recorded_as.has_same_tags one.now other.now }
-{
-    one.tag == other.tag
-        && one.side == other.side
-        && one.auction == other.auction
-        && one.kept == other.kept
-        && one.refusal == other.refusal
-        && one.has_tick == other.has_tick
-        && one.has_best_bid == other.has_best_bid
-        && one.has_best_ask == other.has_best_ask
-}
-
-fn is_same_reply(one: &AuctionReply, other: &AuctionReply) -> bool
-    ensures { result ≡ recorded_as.is_same_reply one.now other.now }
-{
-    has_same_shares(one, other) && has_same_numbers(one, other) && has_same_tags(one, other)
-}
-
 // Whether the text of an uncross says of all its trades: without a price it says of none.
 fn is_printed_uncross(trades: u32, price: Option<Price>) -> bool
     ensures { result ≡ recorded_as.is_printed_uncross trades price }
@@ -232,7 +193,7 @@ fn decoded_reply(reply: &AuctionReply) -> Option<Reply>
     ensures { result ≡ recorded_as.decoded_reply reply.now }
 {
     let back = reply_back(reply);
-    if is_same_reply(&reply_out(back), reply) && is_fully_printed(back) {
+    if reply_out(back) == *reply && is_fully_printed(back) {
         return Some(back);
     }
     None
