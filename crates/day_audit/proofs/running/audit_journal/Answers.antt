@@ -21,7 +21,8 @@ returns-in_err-current-clause-audit g c =
     rw (p.1, p.2)
     (audit-refused c.args.results _ written written c.in-Ok.bytes.items findings c.in_err-current.field-0.0
     (copy-read _ _ c.in-Ok.ensures.bytes)
-    (whole-audited c.in-Ok.bytes.items _ findings (Err c.in_err-current.field-0.0) whole c.in_err-current.ensures.audited))
+    (whole-audited c.in-Ok.bytes.items _ findings (Err c.in_err-current.field-0.0) whole
+    c.in_err-current.ensures.audited))
 
 pub returns-in_default-clause-audit : goal.returns-in_default-clause-audit
 returns-in_default-clause-audit g c =
