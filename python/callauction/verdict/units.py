@@ -163,7 +163,7 @@ ORDER_LOTS = (10, 50, 100, 500, 1000)
 """How many shares a lot of an order may have."""
 MOST_LOTS = 2
 """How many of these are tried."""
-MOST_SHARES = 2**32 - 1
+MOST_OF_ORDER = 2**32 - 1
 """How many shares an order may have."""
 EXECUTED = "the order of row {} has {:,} shares, and {:,} are executed: "
 OF_MEMBER = f"{EXECUTED}are those of its member in lots of {{}}?"
@@ -189,7 +189,7 @@ def orders_in_shares(found: Judgement, rows: Rows) -> Iterator[tuple[Ints, str, 
         both = ((those | numpy.isin(owner, [*members]), OF_MEMBER), (those, OF_ORDER))
         for which, why in both if members else both[1:]:
             many = numpy.where(which & (rows.quantity > 0), rows.quantity * lot, rows.quantity)
-            if many.max() <= MOST_SHARES:
+            if many.max() <= MOST_OF_ORDER:
                 text = why.format(rows.labels[entered[first]], own, more, lot)
                 yield many, text, lot == most
 
