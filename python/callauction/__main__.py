@@ -175,6 +175,16 @@ def _add_verdicts(parser: argparse.ArgumentParser) -> None:
     parser.add_argument("--explain", action="store_true", help=text)
 
 
+OTHER_FORMS = (".csv", ".json", ".pdf", ".png", ".svg", ".txt", ".xlsx")
+"""Endings of files that are no page."""
+
+
+def _refuse_form(path: str) -> None:
+    """Raises ValueError for a file of a report whose name says that it is no page."""
+    if pathlib.Path(path).suffix.casefold() in OTHER_FORMS:
+        raise ValueError(f"{path}: a report is HTML: name it so, such as day.html")
+
+
 def _file(forms: Collection[str], path: str) -> str:
     """A file that is written in one of these forms, by the ending of its name. Raises
     ArgumentTypeError for the ending of another form.
@@ -234,6 +244,7 @@ def _report(asked: argparse.Namespace) -> int:
     from callauction import report
 
     title = "A day of call auctions" if asked.file == "-" else pathlib.Path(asked.file).name
+    _refuse_form(asked.output)
     content, watch = _content(asked.file), _watch("auctions")
     if not command.is_recorded(content, asked) and content:
         _report_extract(content, title, asked)
@@ -253,7 +264,7 @@ def _report_extract(content: bytes, title: str, asked: argparse.Namespace) -> No
         market = command.market(content, asked)
         page.write_market(market, path, title, facts, _watch("instruments"))
         return
-    verdict = command.verdict_of(content, asked, _watch("auctions"))
+    verdict = command.audited_extract(content, asked, _watch("auctions"))
     text = page.html_of(verdict, title, _watch("pages"), facts)
     path.write_text(text, encoding="utf-8")
 

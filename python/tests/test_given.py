@@ -5,8 +5,8 @@ from typing import Any
 
 import pytest
 from callauction.verdict import Reading, Verdict, audit_events
+from callauction.verdict.extract import read_table
 from callauction.verdict.instruments import Audited, days_of, market_of
-from callauction.verdict.reading import read_table
 from test_meeting_damages import rows_of
 from test_verdict import frame_of
 

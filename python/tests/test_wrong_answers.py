@@ -257,6 +257,15 @@ def test_an_unknown_counterparty_is_a_finding() -> None:
     assert finding.rule == "S999 is the id of no order."
 
 
+def test_a_counterparty_whose_entry_is_unread_is_said_to_be_so() -> None:
+    rows = small_day()
+    rows[1]["quantity"] = "1e2"
+    verdict = verdict_of(rows)
+    assert verdict.word == "incomplete"
+    texts = [sentence for it in verdict.doubtful for sentence in verdict.explain(it)]
+    assert "S1 is the id of no order that was read; row 1 has it, and wasn't read." in texts
+
+
 def test_a_wrong_interruption_is_a_finding() -> None:
     rows = small_day()
     rows[3]["auction"] = "interrupted"
@@ -385,7 +394,11 @@ ORDERS = (
      "'much' is neither a number nor a time"),
     ([*LINE, "--values", "x"], "event,order,side,price,quantity\n", 2, "--values 'x' is none such"),
     ([*LINE, "--auctions", "noon"], "event,order,side,price,quantity\n", 2, "auctions 'noon' must"),
-    ([*LINE, "--encoding", "no"], "event,order,side,price,quantity\n", 1, "no encoding 'no'"),
+    ([*LINE, "--encoding", "no"], "event,order,side,price,quantity\n", 2, "no encoding 'no'"),
+    ([*LINE, "--columns", "prize=price"], "event,order,side,price,quantity\n", 2,
+     "there is no column 'prize' (is it price?) to map 'price' to\n"),
+    ([*LINE, "--columns", "price=Limit"], "event,order,side,price,quantity\n", 1,
+     "the table has no column 'Limit'"),
     ([*LINE[:3], "x", *LINE[4:]], "event,order,side,price,quantity\n", 2,
      "reference 'x' is no dec"),
     (["plot", "day.csv", "-o", "x.svg"], "event,order,side,price,quantity\n", 1, "record 1: bad "),

@@ -13,11 +13,13 @@ there. docs/AUDIT.md has what is judged, what lawful means, and what leaves a fi
 from callauction.verdict.audits import audit_events
 from callauction.verdict.books import audit_auction
 from callauction.verdict.columns import ColumnError, ExtractError, refuse_unknown
+from callauction.verdict.coverage import Coverage
+from callauction.verdict.extract import read_table
 from callauction.verdict.findings import Finding, Verdict
 from callauction.verdict.instruments import audit_instruments
-from callauction.verdict.judged import Coverage
-from callauction.verdict.reading import Reading, Table, read_table
+from callauction.verdict.reading import Reading
 from callauction.verdict.rows import BadRow
+from callauction.verdict.table import Table
 
 __all__ = [
     "BadRow",

@@ -13,20 +13,23 @@ from callauction.course import Watch
 from callauction.prices import argument, tick_size_of
 from callauction.program import Day
 from callauction.verdict import restricted
+from callauction.verdict.coverage import Coverage
 from callauction.verdict.early import Early, doubt_times
 from callauction.verdict.events import read_zeros, refuse_limits, rows_of
+from callauction.verdict.extract import read_table
 from callauction.verdict.findings import (
     INCOMPLETE, LAWFUL, STATUSES, UNLAWFUL, Verdict, verdict_of,
 )  # fmt: skip
 from callauction.verdict.joining import with_results
-from callauction.verdict.judged import Coverage, Rules, range_of
 from callauction.verdict.judging import Judge
 from callauction.verdict.mixed import (
     corrected, has_more, refuse_days, refuse_sums, with_late_results,
 )  # fmt: skip
-from callauction.verdict.reading import Reading, Table, read_table
-from callauction.verdict.readings import all_times, judged_day
+from callauction.verdict.otherwise import all_times, judged_day
+from callauction.verdict.reading import Reading
 from callauction.verdict.rows import NEW, REPLACE, BadRow, Doubt, Rows
+from callauction.verdict.rules import Rules, range_of
+from callauction.verdict.table import Table
 from callauction.verdict.units import without_noise
 from callauction.words import AUCTIONS
 

@@ -13,11 +13,14 @@ from callauction.verdict.audits import judge, rules_of
 from callauction.verdict.cells import Short
 from callauction.verdict.columns import EVENT_COLUMNS, ColumnError, ExtractError, refuse_unknown
 from callauction.verdict.events import orders_in_time, rows_of, said_in
+from callauction.verdict.extract import read_table
+from callauction.verdict.extract_files import file_of
 from callauction.verdict.findings import Verdict
 from callauction.verdict.instruments import TERMS, Audited, Market, days_of, market_of, terms_of
-from callauction.verdict.judged import Rules
-from callauction.verdict.reading import Reading, Table, file_of, read_table
+from callauction.verdict.reading import Reading
 from callauction.verdict.rows import NEW, UNCROSS, Rows
+from callauction.verdict.rules import Rules
+from callauction.verdict.table import Table
 from callauction.words import AUCTIONS
 
 

@@ -171,14 +171,16 @@ def kinds_of(columns: Mapping[str, str]) -> dict[str, dict[str, str]]:
 
 
 def _refuse_unmapped(names: Collection[object], columns: Mapping[str, str]) -> None:
-    """Raises ColumnError for a name of ours that isn't one, or one of theirs that isn't there."""
+    """Raises ValueError for a name of ours that isn't one, and ColumnError for one of theirs that
+    isn't there.
+    """
     kinds = kinds_of(columns)
     for name, theirs in columns.items():
         kind, _, ours = name.rpartition(".")
         if ours not in EVENT_COLUMNS or kind and kind not in kinds.get(ours, {}):
             guess = likely(ours, EVENT_COLUMNS)
             hint = f" (is it {guess}?)" if guess else ""
-            raise ColumnError(f"columns: there is no column {name!r}{hint} to map {theirs!r} to")
+            raise ValueError(f"columns: there is no column {name!r}{hint} to map {theirs!r} to")
         if theirs not in names and not (kind and not theirs):
             parts = (it.strip() for it in theirs.split("+"))
             missing = next((it for it in parts if it not in names), theirs)
@@ -188,14 +190,14 @@ def _refuse_unmapped(names: Collection[object], columns: Mapping[str, str]) -> N
 
 def renamed(found: Iterable[object], columns: Mapping[str, str]) -> dict[object, str]:
     """By each column that a mapping of our names to theirs names, our name, but for those of a
-    kind. Raises ColumnError for a name of ours that isn't one, or one of theirs that the table
-    hasn't, or two of ours for one.
+    kind. Raises ValueError for a name of ours that isn't one, or two of ours for one of theirs, and
+    ColumnError for one of theirs that the table hasn't.
     """
     names = [*found]
     _refuse_unmapped(names, columns)
     columns = {ours: theirs for ours, theirs in columns.items() if "." not in ours}
     made: dict[object, str] = {theirs: ours for ours, theirs in columns.items()}
     if len(made) < len(columns):
-        raise ColumnError("columns: two columns are mapped to one of the table")
+        raise ValueError("columns: two columns are mapped to one of the table")
     others = {name: OTHER_NAMES[str(name)] for name in names if name in OTHER_NAMES}
     return {**others, **made}

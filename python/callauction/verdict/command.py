@@ -29,14 +29,17 @@ from callauction.verdict.audits import audit_events, audit_journal, short_rows
 from callauction.verdict.columns import (
     EVENTS, EVENT_COLUMNS, ColumnError, ExtractError, likely,
 )  # fmt: skip
+from callauction.verdict.coverage import Coverage
 from callauction.verdict.events import plain_frame, rows_of
+from callauction.verdict.extract import read_table
+from callauction.verdict.extract_files import GZIP
 from callauction.verdict.findings import STATUSES, Verdict, counts_of, lines_of
 from callauction.verdict.instruments import (
     FAULT, RECORD, TERMS, Audited, Days, Market, audited, days_of, frame_of, market_of, terms_of,
     worst_of,
 )  # fmt: skip
-from callauction.verdict.judged import Coverage
-from callauction.verdict.reading import GZIP, Reading, Table, read_table
+from callauction.verdict.reading import Reading
+from callauction.verdict.table import Table
 from callauction.verdict.times import STROKES
 from callauction.words import AUCTIONS
 
@@ -204,7 +207,7 @@ def _days_of(asked: argparse.Namespace) -> Days:
         raise ExtractError(f"{asked.days}: {fault}") from fault
 
 
-def verdict_of(content: bytes, asked: argparse.Namespace, watch: Watch = iter) -> Verdict:
+def audited_extract(content: bytes, asked: argparse.Namespace, watch: Watch = iter) -> Verdict:
     """The verdict on an extract of one instrument. Raises as audit."""
     table, reading = table_of(content, asked)
     terms = {name: vars(asked)[name] for name in TERMS}
@@ -214,7 +217,7 @@ def verdict_of(content: bytes, asked: argparse.Namespace, watch: Watch = iter) -
 def found_in(content: bytes, asked: argparse.Namespace, watch: Watch) -> list[Audited]:
     """The verdicts on an extract's instruments. Raises as audit."""
     if asked.by is None:
-        return [audited("", verdict_of(content, asked, watch), asked.explain)]
+        return [audited("", audited_extract(content, asked, watch), asked.explain)]
     those = market(content, asked)
     for line in those.remarks.items():
         remark("", "%s: %d" % line)

@@ -13,9 +13,10 @@ import pandas
 from callauction.program import Day
 from callauction.tables import BOOK, table_of
 from callauction.verdict.cells import Ints
-from callauction.verdict.judged import Judged, Range, Rules
+from callauction.verdict.judged import Judged
 from callauction.verdict.phases import Result, Uncross, recorded_sums
 from callauction.verdict.rows import CANCEL, FILL, MARKET, NEW, OWN, REPLACE, SIDES, TRADE, Rows
+from callauction.verdict.rules import Range, Rules
 from callauction.words import AUCTIONS
 
 _WIDE = decimal.Context(prec=80)
@@ -107,6 +108,12 @@ class Context:
         """Whose an order is, empty where it isn't recorded."""
         place = self.entered.get(key)
         return "" if place is None else self.rows.names.member(self.rows.member[place])
+
+    @functools.cached_property
+    def unread(self) -> dict[int, object]:
+        """By the key of an order the first of its rows that couldn't be read."""
+        those = [row for row in self.rows.bad if row.is_order and row.place >= 0][::-1]
+        return {int(self.rows.key[row.place]): row.label for row in those}
 
     @functools.cached_property
     def entered(self) -> dict[int, int]:

@@ -1,8 +1,8 @@
 """A day's rows, told apart by what they are."""
 import numpy
 
-from callauction.verdict.judged import Rules
 from callauction.verdict.rows import FILL, MISSING, NEW, OF_ORDERS, TRADE, UNCROSS, Rows
+from callauction.verdict.rules import Rules
 
 
 class DayRows:

@@ -21,11 +21,12 @@ from callauction.verdict.given import look_for_given
 from callauction.verdict.joining import join_sides, take_busted
 from callauction.verdict.mixed import LONGEST
 from callauction.verdict.names import below_their_entries, make_keys
-from callauction.verdict.reading import Reading, Table
+from callauction.verdict.reading import Reading
 from callauction.verdict.rows import (
     BAD, BUST, CANCEL, CONTINUOUS, CONTINUOUS_STATE, FILL, MARKET, MISSING, NEW, NO_PRICE, REPLACE,
     RESTRICTIONS, SIDES, STATES, STOPPED, TRADE, UNCROSS, BadRow, Doubt, Int8s, Names, Rows,
 )  # fmt: skip
+from callauction.verdict.table import Table
 from callauction.verdict.worded import EMPTY_PRICE, Columns
 
 _SIDE = {"bid": 1, "buy": 1, "ask": 2, "sell": 2}

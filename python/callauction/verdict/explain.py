@@ -197,9 +197,16 @@ def _of_closed(context: Context, key: int) -> Iterator[str]:
     if key in context.at:
         yield from _of_excluded(context, context.open_order(context.at[key]))
     elif key not in context.entered:
-        yield f"{context.order(key)} is the id of no order."
+        yield f"{context.order(key)} {_why_unknown(context, key)}."
     else:
         yield f"{context.order(key)} {_why_closed(context, key)}."
+
+
+def _why_unknown(context: Context, key: int) -> str:
+    """Why an order isn't known: no row that was read enters it."""
+    if key not in context.unread:
+        return "is the id of no order"
+    return f"is the id of no order that was read; row {context.unread[key]} has it, and wasn't read"
 
 
 def _why_closed(context: Context, key: int) -> str:

@@ -11,12 +11,14 @@ from callauction.reasons import Explanation
 from callauction.verdict import jumps
 from callauction.verdict.comparing import Difference, Fill, Trade, Value
 from callauction.verdict.context import AROUND, Context, queue_of
+from callauction.verdict.coverage import Coverage, coverage_of
 from callauction.verdict.explain import (
     book_sentences, effect_of, recorded_members, rule_of, sentences_of,
 )  # fmt: skip
-from callauction.verdict.judged import Coverage, Judged, Judgement, Rules, coverage_of
+from callauction.verdict.judged import Judged, Judgement
 from callauction.verdict.orders import orders_of
 from callauction.verdict.rows import NO_PRICE, BadRow, Rows
+from callauction.verdict.rules import Rules
 
 LAWFUL, UNLAWFUL, INCOMPLETE = "lawful", "unlawful", "incomplete"
 STATUSES = {

@@ -5,10 +5,11 @@ import dataclasses
 import numpy
 
 from callauction.verdict.cells import Ints
-from callauction.verdict.judged import Judged, Judgement, Rules
+from callauction.verdict.judged import Judged, Judgement
 from callauction.verdict.judging import Judge
 from callauction.verdict.phases import recorded_sums
 from callauction.verdict.rows import CANCEL, MARKET, MISSING, NEW, OWN, REPLACE, Rows
+from callauction.verdict.rules import Rules
 
 MORE = "row {} has {:,} shares, and {:,} are executed: are hidden ones missing?{}"
 COLUMN = " (or a column peak)"

@@ -20,12 +20,15 @@ from callauction.verdict.cells import Codes, Ints, Mask, Source
 from callauction.verdict.columns import (
     KINDS, ColumnError, ExtractError, hint_of, refuse_unknown,
 )  # fmt: skip
+from callauction.verdict.coverage import PLURALS, Coverage
 from callauction.verdict.ends import are_over
 from callauction.verdict.events import dropped_numbers, gaps_in, rows_of
+from callauction.verdict.extract import columns_of, read_table
 from callauction.verdict.findings import INCOMPLETE, STATUSES, Finding, Verdict
-from callauction.verdict.judged import PLURALS, Coverage, Rules
-from callauction.verdict.reading import Reading, Table, columns_of, read_table
+from callauction.verdict.reading import Reading
 from callauction.verdict.rows import BUST, FILL, TRADE, BadRow, Doubt, Rows
+from callauction.verdict.rules import Rules
+from callauction.verdict.table import Table
 from callauction.verdict.worded import Columns
 from callauction.words import AUCTIONS
 

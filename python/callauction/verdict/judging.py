@@ -5,6 +5,7 @@ engine goes on from what it did, a fault of the record alone changes nothing. Bo
 the day with the fewest differences is taken, so one fault is one finding.
 """
 import dataclasses
+import enum
 from collections.abc import Iterator
 
 import numpy
@@ -19,18 +20,26 @@ from callauction.verdict.day_rows import DayRows
 from callauction.verdict.doubts import Doubts
 from callauction.verdict.endings import Ending, count_of
 from callauction.verdict.executions import Executions
-from callauction.verdict.judged import Judged, Judgement, Moment, Path, Rules, State
+from callauction.verdict.judged import Judged, Judgement, Moment, Path, State
 from callauction.verdict.moments import Moments
 from callauction.verdict.orderings import Orderings
 from callauction.verdict.phases import (
     BeyondError, Result, Sums, Taken, advance, empty, recorded_sums, uncross,
 )  # fmt: skip
 from callauction.verdict.rows import MISSING, NO_PRICE, OWN, STATES, STOPPED, Rows
+from callauction.verdict.rules import Rules
 from callauction.verdict.uncross_doubts import Items, UncrossDoubts
 from callauction.words import AUCTIONS
 
 MOST_PATHS = 12
 """How many courses of a day are followed at a time."""
+
+
+class Search(enum.Enum):
+    """Where other courses are looked for behind an uncross that differs at its row."""
+
+    ORDERS = "in other orders of rows of one time"
+    MOMENTS = "in these, and at other moments of the uncross"
 
 
 class Judge:
@@ -48,53 +57,66 @@ class Judge:
         self.doubts = Doubts(rows, self.uncrosses, self.orders, self.due, self.entered)
         self.contradictions = Certain(rows, self.doubts, len(self.due), self.entered)
         self.executions = Executions(day, self.doubts)
-        self.reasons = UncrossDoubts(day, self.doubts, self.contradictions)
-        self.orderings = Orderings(day, self.doubts.ties, self.reasons)
-        self.moments = Moments(day, self.executions, self.reasons)
+        self.uncross_doubts = UncrossDoubts(day, self.doubts, self.contradictions)
+        self.orderings = Orderings(day, self.doubts.ties, self.uncross_doubts)
+        self.moments = Moments(day, self.executions, self.uncross_doubts)
         self.ending = Ending(day, self.executions, self.doubts, self.contradictions)
         self.left_out: set[int] = set()
         """The places of uncrosses for which no other moment could be tried."""
 
     def judge(self, watch: Watch = iter) -> Judgement:
         """All uncrosses of the day, which `watch` is given. Raises ProgramError."""
-        found = self.judged_within(None, watch)
-        assert found is not None
+        found = self._judged_day(watch)
         ended = sum(each.is_ended or bool(each.beyond) for each in found.uncrosses)
         if found.unlawful and ended < len(self.due) and self.doubts.doubt_all_unnamed():
-            found = self.judged_within(None)
-            assert found is not None
+            found = self._judged_day()
         return found
 
-    def judged_within(self, places: set[int] | None, watch: Watch = iter) -> Judgement | None:
-        """All uncrosses of the day; with places no other moments are tried, and None is the answer
-        where an uncross at another place is unlawful.
+    def _judged_day(self, watch: Watch = iter) -> Judgement:
+        paths = self._begun()
+        for number, place in enumerate(watch(self.uncrosses.tolist())):
+            paths = self._longer(number, place, paths, Search.MOMENTS)
+        return self._best(paths)
+
+    def tried(self, places: set[int]) -> Judgement | None:
+        """All uncrosses of the day, none at another moment; None where one that isn't at these
+        places is unlawful. Raises ProgramError.
         """
+        paths = self._begun()
+        for number, place in enumerate(self.uncrosses.tolist()):
+            paths = self._longer(number, place, paths, Search.ORDERS)
+            if place not in places and paths[0].judged[-1].certain:
+                return None
+        return self._best(paths)
+
+    def _begun(self) -> list[Path]:
+        """The one course before the first uncross."""
         executed = numpy.zeros(len(self.day.room), "i8") if self.rules.has_totals else None
         reference = self.rows.prices.index(self.rules.reference)
         first = State(empty(), reference, executed)
         if self.rules.second_reference is not None:
             second = self.rows.prices.index(self.rules.second_reference)
             first = dataclasses.replace(first, second=second)
-        paths = [Path((), first)]
-        for number, place in enumerate(watch(self.uncrosses.tolist())):
-            found = [each for path in paths for each in self._behind(number, place, path)]
-            if min(found, key=count_of).judged[-1].certain:
-                searched = [self._behind(number, place, path, places is None) for path in paths]
-                found = [each for those in searched for each in those]
-            paths = sorted(found, key=count_of)[:MOST_PATHS]
-            if places is not None and place not in places and paths[0].judged[-1].certain:
-                return None
+        return [Path((), first)]
+
+    def _longer(self, number: int, place: int, paths: list[Path], search: Search) -> list[Path]:
+        """The best courses behind an uncross; where each differs, others are searched."""
+        found = [each for path in paths for each in self._behind(number, place, path)]
+        if min(found, key=count_of).judged[-1].certain:
+            found = [each for path in paths for each in self._behind(number, place, path, search)]
+        return sorted(found, key=count_of)[:MOST_PATHS]
+
+    def _best(self, paths: list[Path]) -> Judgement:
+        """The judgement of the course with the fewest differences."""
         best = min((self.ending.with_left_over(path) for path in paths), key=count_of)
         return self.ending.judgement(best, len(self.left_out))
 
     # ---- an uncross on a path
 
     def _behind(
-        self, number: int, place: int, path: Path, is_moved: bool | None = None
+        self, number: int, place: int, path: Path, search: Search | None = None
     ) -> Iterator[Path]:
-        """The courses after an uncross; where it differs, in other orders of rows of one time too,
-        and at other moments with `is_moved`, unless that is None.
-        """
+        """The courses after an uncross; where it differs, those that are searched for too."""
         own = self.executions.of(number)
         traded, filled = (numpy.concatenate(each) for each in zip(path.waiting, own))
         path = dataclasses.replace(path, waiting=Path.waiting)
@@ -105,13 +127,13 @@ class Judge:
         if ended >= len(self.due):
             word = STATES[max(0, self.rows.state[place])] or "uncross"
             late = Difference("auction", word, "day over", (place,))
-            found = doubted([late], self.reasons.of_auction(path, place))
+            found = doubted([late], self.uncross_doubts.of_auction(path, place))
             yield path.longer(Judged(place, MISSING, found, traded=traded, filled=filled))
             return
         these = self.orders[path.taken : int(numpy.searchsorted(self.orders, place))]
         moment = Moment(number, place, path, self.due[ended], these, traded, filled)
         try:
-            yield from self._courses(moment, is_moved)
+            yield from self._courses(moment, search)
             named = self.rows.state[place] - 1
             if named in self.due[ended + 1 :]:
                 yield from self._skipping(moment, self.due.index(named, ended + 1))
@@ -131,18 +153,19 @@ class Judge:
         judged = Judged(place, auction, found, traded=traded, filled=filled, beyond=why)
         return path.longer(judged)
 
-    def _courses(self, moment: Moment, is_moved: bool | None) -> list[Path]:
+    def _courses(self, moment: Moment, search: Search | None) -> list[Path]:
         """The courses after an uncross at its row, or where that differs at other moments."""
         found = [*self._variants(moment)]
         first = found[0].judged[-1]
-        if not first.certain or is_moved is None:
+        if not first.certain or search is None:
             return found
         try:
             others = self.orderings.lawful(moment, found, self._variants)
             if others and not others[0].judged[-1].certain:
                 return others
-            moved = self.moments.lawful(moment, first, self._variants) if is_moved else []
-            return moved or others or found
+            if search is Search.ORDERS:
+                return others or found
+            return self.moments.lawful(moment, first, self._variants) or others or found
         except BeyondError:
             self.left_out.add(moment.place)
             return found
@@ -156,7 +179,7 @@ class Judge:
         book = state.book.take(~numpy.isin(state.book.only, [it for it in over if it > 0]))
         state = dataclasses.replace(state, book=book, ended=ended, is_extended=False)
         path = dataclasses.replace(moment.path, state=state)
-        skipped = doubted([skip], self.reasons.of_auction(moment.path, moment.place))
+        skipped = doubted([skip], self.uncross_doubts.of_auction(moment.path, moment.place))
         moved = dataclasses.replace(moment, path=path, auction=self.due[ended])
         for course in self._variants(moved):
             yield course.with_last(differences=(*skipped, *course.judged[-1].differences))
@@ -172,7 +195,7 @@ class Judge:
         recorded = self._says_interrupted(moment)
         if recorded is False and is_out:
             word = STATES[max(0, rows.state[moment.place])] or "executed"
-            why = self.reasons.unsaid_stop
+            why = self.uncross_doubts.unsaid_stop
             wrong = Difference("auction", word, STATES[STOPPED], (moment.place,), doubt=why)
             yield from self._executed(moment, taken, result, wrong)
         if recorded and not is_out:
@@ -202,7 +225,7 @@ class Judge:
         """The course after an interruption; its trades come at the next uncross."""
         word = STOPPED if is_lawful else 1 + moment.auction
         items = compared_items(self.rows, moment.place, result, word)
-        self.reasons.doubt_stop(items, self.reasons.unsaid_stop)
+        self.uncross_doubts.doubt_stop(items, self.uncross_doubts.unsaid_stop)
         state = dataclasses.replace(moment.path.state, book=taken.book, is_extended=True)
         judged = self._judged(moment, taken, result, items, [])
         judged = dataclasses.replace(
@@ -221,12 +244,13 @@ class Judge:
         if wrong is not None:
             items["auction"] = wrong
         elif rows.state[place] == STOPPED:
-            self.reasons.doubt_stop(items)
+            self.uncross_doubts.doubt_stop(items)
         is_wrong = items.get("price") is not None
         found, pairs = self.executions.compared(moment, taken.book, result, is_wrong)
-        found = self.reasons.of_stopped(place, found)
+        found = self.uncross_doubts.of_stopped(place, found)
         strays = self.doubts.strays_in(found)
-        self.reasons.doubt_count(place, items, found, result, len(moment.traded) - len(strays))
+        trades = len(moment.traded) - len(strays)
+        self.uncross_doubts.doubt_count(place, items, found, result, trades)
         judged = self._judged(moment, taken, result, items, found)
         judged = dataclasses.replace(judged, is_ended=True, pairs=pairs)
         doubt = moment.path.doubt or self.doubts.below(strays)
@@ -242,7 +266,7 @@ class Judge:
         of_items = self.doubts.of_items(of_items, result, self.rules.tick_size)
         differences = (*of_items, *found, *self._priorities(taken))
         if differences:
-            differences = self.reasons.of_books(differences, items, moment, taken)
+            differences = self.uncross_doubts.of_books(differences, items, moment, taken)
         if any(each.doubt for each in differences):
             certain = self.contradictions.of(
                 moment.place, moment.auction, moment.traded, moment.filled

@@ -11,10 +11,11 @@ import pandas
 from callauction.verdict import clocks
 from callauction.verdict.cells import Ints
 from callauction.verdict.columns import ExtractError
-from callauction.verdict.judged import Judgement, Rules
+from callauction.verdict.judged import Judgement
 from callauction.verdict.rows import (
     BAD, FILL, MISSING, NEW, OF_ORDERS, SAID, STOPPED, TRADE, UNCROSS, BadRow, Doubt, Rows,
 )  # fmt: skip
+from callauction.verdict.rules import Rules
 from callauction.words import AUCTIONS
 
 LONGEST = 18 * 3600 * clocks.SECOND

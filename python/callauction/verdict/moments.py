@@ -28,8 +28,9 @@ CANCELLED = (
 class Moments:
     """Tries an uncross that seems to be at a wrong moment at others."""
 
-    def __init__(self, day: DayRows, executions: Executions, reasons: UncrossDoubts) -> None:
-        self.day, self.rows, self.executions, self.reasons = day, day.rows, executions, reasons
+    def __init__(self, day: DayRows, executions: Executions, uncross_doubts: UncrossDoubts) -> None:
+        self.day, self.rows, self.executions = day, day.rows, executions
+        self.uncross_doubts = uncross_doubts
 
     @functools.cached_property
     def early(self) -> Early:
@@ -67,8 +68,8 @@ class Moments:
                     "auction", above, f"behind row {labels[place]}", (moment.place,)
                 )
                 own = dataclasses.replace(courses[0].judged[-1], place=moment.place)
-                why = self.reasons.why(moment.path, moment.place) or self.early.of_auction(own)[0]
-                found = doubted([wrong], why)
+                why = self.uncross_doubts.why(moment.path, moment.place)
+                found = doubted([wrong], why or self.early.of_auction(own)[0])
                 return [course.with_last(differences=found) for course in courses]
         return []
 

@@ -16,8 +16,9 @@ Variants = Callable[[Moment], Iterator[Path]]
 class Orderings:
     """Tries for an uncross that differs what its rows of one time give in another order."""
 
-    def __init__(self, day: DayRows, ties: Ties, reasons: UncrossDoubts) -> None:
-        self.day, self.rows, self.ties, self.reasons = day, day.rows, ties, reasons
+    def __init__(self, day: DayRows, ties: Ties, uncross_doubts: UncrossDoubts) -> None:
+        self.day, self.rows, self.ties = day, day.rows, ties
+        self.uncross_doubts = uncross_doubts
 
     def lawful(self, moment: Moment, found: list[Path], variants: Variants) -> list[Path]:
         """The courses by other orders of rows of one time that make most of an uncross lawful,
@@ -38,7 +39,7 @@ class Orderings:
             why = self.ties.carried(moment.path.state.book, above)
         why = self.ties.untried(moment.place) or why * (others is not None)
         if why:
-            return [self.reasons.with_doubt(each, last.differences, why) for each in found]
+            return [self.uncross_doubts.with_doubt(each, last.differences, why) for each in found]
         return best
 
     def _read_so(
@@ -52,10 +53,10 @@ class Orderings:
         certain, left = {marked(it, self.rows) for it in found[0].judged[-1].certain}, set[Mark]()
         try:
             other = [*variants(dataclasses.replace(moment, these=before))]
-            left = self.reasons.left_in(other[0].judged[-1]) & certain
+            left = self.uncross_doubts.left_in(other[0].judged[-1]) & certain
             new = {marked(it, self.rows) for it in other[0].judged[-1].certain} - certain
             if new or left == certain:
                 return []
         except BeyondError:
             other = found
-        return [self.reasons.with_doubt(each, differences, why, left) for each in other]
+        return [self.uncross_doubts.with_doubt(each, differences, why, left) for each in other]

@@ -11,9 +11,10 @@ from decimal import Decimal
 import numpy
 import pandas
 
-from callauction.verdict.judged import Judged, Judgement, Path, Rules
+from callauction.verdict.judged import Judged, Judgement, Path
 from callauction.verdict.phases import recorded_sums
 from callauction.verdict.rows import CANCEL, MARKET, NEW, OF_ORDERS, OWN, SIDES, Rows
+from callauction.verdict.rules import Rules
 
 ORDERS = {
     "order": "object", "member": "object", "side": "object", "quantity": "int64", "limit": "object",

@@ -23,9 +23,10 @@ from callauction.pages import (
 from callauction.verdict.context import Context, price_text
 from callauction.verdict.findings import LAWFUL, MOST_BAD_ROWS, Finding, Verdict, frame_of
 from callauction.verdict.instruments import FAULT, Audited, Market
-from callauction.verdict.judged import Judged, Rules
+from callauction.verdict.judged import Judged
 from callauction.verdict.orders import members_of
 from callauction.verdict.rows import INTERRUPTED
+from callauction.verdict.rules import Rules
 from callauction.verdict.times import seconds
 
 MOST_FIRST = 12
@@ -91,7 +92,8 @@ def _listed(verdict: Verdict, is_doubtful: bool, caption: str) -> str:
     found = [it for it in verdict.shown() if bool(it[0].doubt) == is_doubtful]
     if not found:
         return ""
-    more = f", of which {MOST_FIRST} are here" if len(found) > MOST_FIRST else ""
+    below = MOST_EXPLAINED if len(verdict.shown()) > MOST_EXPLAINED else "all"
+    more = f": the first {MOST_FIRST}, {below} are below" if len(found) > MOST_FIRST else ""
     shown = found[:MOST_FIRST]
     frame = frame_of(it for it, _ in shown).astype({"row": "str"})
     if any(others for _, others in shown):
@@ -341,4 +343,5 @@ def _market_html(
     frame = pandas.DataFrame(rows, columns=[noun, *LISTED])
     caption = f"{noun.title()}s"
     text += html_table(frame, caption, "instruments", LISTED[1:4], links, len(rows))
-    return html_page(title, [("Verdict", text), *evidence_parts(facts)], "desk market")
+    parts = _shortened([("Verdict", text)])
+    return html_page(title, [*parts, *evidence_parts(facts)], "desk market")

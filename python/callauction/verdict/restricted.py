@@ -12,8 +12,9 @@ import numpy
 from callauction.verdict.cells import Ints, Mask
 from callauction.verdict.certain import RULES, with_certain
 from callauction.verdict.comparing import PRIORITY, Difference, Fill, Trade, doubted
+from callauction.verdict.coverage import PRICE_ITEMS
 from callauction.verdict.doubts import has_lawful_orders
-from callauction.verdict.judged import PRICE_ITEMS, Judged, Judgement
+from callauction.verdict.judged import Judged, Judgement
 from callauction.verdict.judging import Judge
 from callauction.verdict.phases import recorded_sums
 from callauction.verdict.rows import INTERRUPTED, MARKET, MISSING, NO_PRICE, SIDES

@@ -13,7 +13,7 @@ from numpy.typing import NDArray
 from callauction.verdict import clocks, times
 from callauction.verdict.cells import Array, Codes, Ints, Mask, Source
 from callauction.verdict.columns import EMPTY
-from callauction.verdict.reading import End
+from callauction.verdict.table import End
 from callauction.words import AUCTIONS
 
 Int8s = NDArray[numpy.int8]

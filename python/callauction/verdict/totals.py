@@ -2,8 +2,9 @@
 import numpy
 
 from callauction.verdict import clocks
+from callauction.verdict.coverage import PRICE_ITEMS
 from callauction.verdict.doubts import Doubts
-from callauction.verdict.judged import PRICE_ITEMS, Judged, Judgement
+from callauction.verdict.judged import Judged, Judgement
 from callauction.verdict.phases import recorded_sums
 from callauction.verdict.rows import REPLACE, Rows
 

@@ -8,9 +8,10 @@ import numpy
 
 from callauction.verdict.certain import Certain, with_certain
 from callauction.verdict.comparing import PRIORITY, Difference, doubted
+from callauction.verdict.coverage import PRICE_ITEMS
 from callauction.verdict.day_rows import DayRows
 from callauction.verdict.doubts import Doubts, Reason
-from callauction.verdict.judged import PRICE_ITEMS, Judged, Moment, Path
+from callauction.verdict.judged import Judged, Moment, Path
 from callauction.verdict.phases import Book, Result, Taken
 from callauction.verdict.rows import STOPPED, BadRow, Rows
 from callauction.words import AUCTIONS

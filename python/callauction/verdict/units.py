@@ -14,9 +14,10 @@ import numpy
 
 from callauction.verdict.cells import Ints, Mask
 from callauction.verdict.comparing import Fill, Trade
-from callauction.verdict.judged import Judgement, Rules
+from callauction.verdict.judged import Judgement
 from callauction.verdict.phases import recorded_sums
 from callauction.verdict.rows import FILL, NEW, OF_ORDERS, TRADE, UNCROSS, Rows
+from callauction.verdict.rules import Rules
 
 NOISE = 16
 """How many units in the last place of a double may be its noise."""

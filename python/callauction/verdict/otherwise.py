@@ -13,10 +13,11 @@ from callauction.verdict.again import amended, copies, second_trades, too_many
 from callauction.verdict.cells import Codes, Ints
 from callauction.verdict.codes import without_codes
 from callauction.verdict.comparing import Difference, doubted
+from callauction.verdict.coverage import PRICE_ITEMS
 from callauction.verdict.doubts import MOST_FALLS
 from callauction.verdict.early import Early
 from callauction.verdict.hidden import lacking, with_rests
-from callauction.verdict.judged import PRICE_ITEMS, Judged, Judgement, Rules
+from callauction.verdict.judged import Judged, Judgement
 from callauction.verdict.judging import Judge
 from callauction.verdict.mixed import (
     corrected, doubled, has_more, namings, refuse_markets, refuse_parts, stopped_again,
@@ -27,12 +28,13 @@ from callauction.verdict.names import (
 )  # fmt: skip
 from callauction.verdict.owners import Owners
 from callauction.verdict.phases import recorded_sums
-from callauction.verdict.reading import End
 from callauction.verdict.rows import (
     BAD, CANCEL, FILL, INTERRUPTED, MARKET, MISSING, NEW, OF_ORDERS, REPLACE, TRADE, UNCROSS, Doubt,
     Rows,
 )  # fmt: skip
+from callauction.verdict.rules import Rules
 from callauction.verdict.spellings import in_one_spelling
+from callauction.verdict.table import End
 from callauction.verdict.totals import Totals
 from callauction.verdict.uncross_doubts import Mark, marked
 from callauction.verdict.units import (
@@ -51,14 +53,14 @@ MOST_READINGS = 64
 MOST_UNPRICED = 5
 """How many replaces without a price are read each alone as of the price before."""
 LATE = "trades without a time or an auction may be of any"
-Day = tuple[Rows, Rules]
+ReadDay = tuple[Rows, Rules]
 
 
 @dataclasses.dataclass(frozen=True)
 class Change:
     """A reading of a day: what is read otherwise, and why."""
 
-    apply: Callable[[Day], Day]
+    apply: Callable[[ReadDay], ReadDay]
     why: str
     keeps_values: bool = False
     """Whether what stands in both readings is shown with the first one's values."""
@@ -130,7 +132,7 @@ def _beside(found: Judgement, rows: Rows, other: Rows, rules: Rules, why: str) -
     return dataclasses.replace(_with_differences(found, shown), doubt=why)
 
 
-def _without(found: Judgement, first: Judgement, day: Day, those: list[Change]) -> Judgement:
+def _without(found: Judgement, first: Judgement, day: ReadDay, those: list[Change]) -> Judgement:
     """The judgement with what other readings haven't in doubt, where they bring nothing certain
     that the first judgement hasn't. An uncross that is wrong in both stays as it is where they have
     for certain what the first one has in doubt.
@@ -142,7 +144,7 @@ def _without(found: Judgement, first: Judgement, day: Day, those: list[Change]) 
         day = change.apply(day)
     judge, spots = Judge(*day), rows.spots
     unlawful = numpy.flatnonzero(numpy.isin(day[0].spots, spots[[*first.unlawful]]))
-    other = judge.judged_within({*unlawful.tolist()})
+    other = judge.tried({*unlawful.tolist()})
     if other is None:
         return found
     before = {spots[each.place]: each for each in first.uncrosses}
@@ -151,7 +153,7 @@ def _without(found: Judgement, first: Judgement, day: Day, those: list[Change]) 
         spot = int(day[0].spots[each.place])
         above = before.get(spot)
         marks = {marked(it, day[0]) for it in each.certain}
-        left[spot] = judge.reasons.left_in(each)
+        left[spot] = judge.uncross_doubts.left_in(each)
         if marks - {marked(it, rows) for it in (above.certain if above else ())}:
             left[spot] = {marked(it, rows) for it in (above.differences if above else ())}
             if marks - left[spot] or not above or not above.certain:
@@ -598,7 +600,7 @@ def _by_table(rows: Rows, found: Judgement) -> tuple[Callable[[Rows], Rows], str
 # ---- what stands in two readings
 
 
-def standing(first: Judgement, day: Day, changes: Sequence[Change]) -> Judgement:
+def standing(first: Judgement, day: ReadDay, changes: Sequence[Change]) -> Judgement:
     """The judgement of the day in one of these readings, which leave each row in its place, with
     what the first judgement shows too; all else of both is in doubt. The first one where no reading
     has fewer certain differences. Raises ProgramError.
