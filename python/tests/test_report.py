@@ -217,6 +217,7 @@ def test_an_extract_is_converted_as_it_comes(tmp_path: Path) -> None:
 
 @pytest.mark.parametrize("words, status, text", [
     (["report", "none.csv", "-o", "x"], 3, "No such file or directory"),
+    (["report", str(EXAMPLES[0]), "-o", "x.CSV"], 2, "x.CSV: a report is HTML: name it so"),
     (["report", str(EXAMPLES[0]), "--low", "5", "--high", "2", "-o", "x"], 2,
      "callauction: bad bounds / low 5 is above high 2\n"),
     (["report", str(EXAMPLES[0]), "--high", "9", "-o", "x"], 2,

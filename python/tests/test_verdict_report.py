@@ -194,6 +194,17 @@ def test_times_are_as_short_as_they_can_be() -> None:
     assert "All times are of" not in text and "2026-11-27T" in text and "2026-11-26T" in text
 
 
+def test_times_of_a_market_are_as_short_too(tmp_path: Path) -> None:
+    rows = [dict(row, isin="DE1", time=f"2026-11-27T{row['time']}.120000") for row in small_day()]
+    rows[4]["quantity"] += 1
+    frame_of(rows).to_csv(tmp_path / "day.csv", index=False)
+    path = tmp_path / "market.html"
+    words = ["report", str(tmp_path / "day.csv"), "--by", "isin", "--reference", "10.00"]
+    assert main([*words, "--tick-size", "0.01", "-o", str(path)]) == 0
+    text = path.read_text(encoding="utf-8")
+    assert "All times are of 2026-11-27." in text and "row 6, 09:00:00.12," in text
+
+
 def test_many_findings_are_below_the_verdict() -> None:
     rows = small_day()
     for row in rows:
@@ -203,6 +214,7 @@ def test_many_findings_are_below_the_verdict() -> None:
     verdict = verdict_of(rows, reference="10")
     assert len(verdict.findings) > page.MOST_FIRST
     text = page.html_of(verdict, "day")
+    assert f"{len(verdict.findings)} findings: the first 12, all are below<" in text
     links = re.findall(r'<a href="#part-', text[: text.index("<main>")])
     assert len(links) == len(sections(text)) == 8
     assert sections(text)[-1] == "Notes"  # no column has restrictions
