@@ -47,7 +47,11 @@ SECONDS_BETWEEN_LOOKS = 5.0  # at a folder that is in use
 
 
 class CannotBuild(Exception):
-    """Why a build can't begin, or which crate failed and where its log is."""
+    """Why a build can't begin."""
+
+
+class CrateFailed(Exception):
+    """Which crate failed, and where its log is."""
 
 
 @dataclasses.dataclass(frozen=True)
@@ -303,7 +307,7 @@ class Build:
                 time.sleep(SECONDS_BETWEEN_LOOKS)
 
     def take_in(self) -> None:
-        """Takes in the crates that have ended. Raises CannotBuild where one failed, and OSError."""
+        """Takes in the crates that have ended. Raises CrateFailed and OSError."""
         for name, it in [*self.running.items()]:
             ended = it.ended()
             if ended is None:
@@ -311,7 +315,7 @@ class Build:
             del self.running[name]
             it.end()
             if ended[0] != 0:
-                raise CannotBuild(f"{name} isn't proved: see {LOGS / name}.log")
+                raise CrateFailed(f"{name} isn't proved: see {LOGS / name}.log")
             self.done.add(name)
             self.learn(name, Took(time.monotonic() - it.begin, ended[1]))
             self.progress.crate_done(name, len(self.done), time.monotonic() - it.begin)
@@ -334,7 +338,7 @@ class Build:
 
     def run(self) -> None:
         """Proves and builds all. A program then counts as made when the build began, also where
-        nothing of it had changed. Raises CannotBuild, OSError.
+        nothing of it had changed. Raises CrateFailed, OSError.
         """
         begin = time.time()
         try:
@@ -359,8 +363,8 @@ def interrupt(number: int, frame: object) -> None:
 
 
 def build(names: list[str]) -> None:
-    """Proves and builds these crates, and whatever is below. Raises CannotBuild, OSError,
-    KeyboardInterrupt.
+    """Proves and builds these crates, and whatever is below. Raises CannotBuild, CrateFailed,
+    OSError, KeyboardInterrupt.
     """
     if shutil.which("rt") is None:
         raise CannotBuild("there is no rt: put the toolchain on the path")
@@ -397,9 +401,12 @@ def main() -> int:
             signal.signal(it, interrupt)
     try:
         keep_seconds() if asked.keep_seconds else build(asked.crates or [PROGRAM])
-    except CannotBuild as fault:
+    except CrateFailed as fault:
         print(f"callboard: {fault}", file=sys.stderr)
         return 1
+    except CannotBuild as fault:
+        print(f"callboard: {fault}", file=sys.stderr)
+        return 2
     except OSError as fault:
         print(f"callboard: can't build here: {fault}", file=sys.stderr)
         return 2

@@ -39,6 +39,7 @@ import debian  # noqa: E402
 import edits  # noqa: E402
 import gate  # noqa: E402
 import machine  # noqa: E402
+import needs  # noqa: E402
 import proved_binaries  # noqa: E402
 from beside import Ended, Product, Schedule, Task, Viewer  # noqa: E402
 from builds import CLOCK, LIBRARIES, LIBRARY, PROGRAM, TESTS, Builds  # noqa: E402
@@ -100,10 +101,6 @@ FLOODS = " ".join([VENUE, *MEASURING])
 OF_FIX = "tests_venue/test_fix_*.py"
 FIX = f"{VENUE} {OF_FIX}"
 REST_OF_VENUE = " ".join([VENUE, *(f"--ignore-glob={it}" for it in (*MEASURING, OF_FIX))])
-OF_VENUES = (
-    "aiohttp hypothesis jsonschema mypy prometheus_client psutil pytest pytest_aiohttp "
-    "pytest_rerunfailures pytest_timeout selenium"
-)
 LAYOUT = f"{PYTEST} checks/parts/test_layout.py"
 RUNNER = f"{PYTEST} checks/parts/test_runner.py checks/parts/test_costs.py"
 REPORT = f"checks/report {LIBRARY} {PROGRAM}"
@@ -182,8 +179,7 @@ PARTS = [
         "the package for Python: types, tests",
         FROM_PYTHON,
         "cc",
-        "cffi numpy Python.h pytest hypothesis mypy aiohttp prometheus_client pandas matplotlib "
-        "tqdm nbclient ipykernel",
+        needs.MODULES["python"],
         short=f"{TYPED}python DAMAGED_DAYS=12 {FROM_PYTHON} --one-of-each",
     ),
     Part(
@@ -191,39 +187,39 @@ PARTS = [
         "reports of days, as a browser has them",
         REPORT,
         "cc chromium",
-        "cffi numpy Python.h pandas matplotlib tqdm",
+        needs.MODULES["report"],
         short=f"{REPORT} opening extracts/german",
     ),
     Part(
         "market",
         "a market by processes and by workers of Dask",
         MARKET,
-        "openssl prlimit setpriv",
-        "distributed dask hypothesis mypy pandas psutil pytest pytest_timeout tqdm",
+        needs.TOOLS["market"],
+        needs.MODULES["market"],
         short=f"{TYPED}market {MARKET}{KINDS}",
     ),
     Part(
         "venue",
         "members over the network, kills, pages",
         REST_OF_VENUE,
-        "chromedriver chromium g++ nsenter openssl strace systemd-analyze unshare",
-        OF_VENUES,
+        needs.TOOLS["venue"],
+        needs.MODULES["venue"],
         short=f"{TYPED}venue VENUE_KILLS=20 VENUE_ROUND_KILLS=3 {REST_OF_VENUE}{KINDS}",
     ),
     Part(
         "fix",
         "members of a venue by FIX",
         FIX,
-        "chromedriver chromium g++ nsenter openssl unshare",
-        OF_VENUES,
+        needs.TOOLS["fix"],
+        needs.MODULES["fix"],
         short=f"env VENUE_FIX_KILLS=6 {FIX}{KINDS}",
     ),
     Part(
         "floods",
         "a venue under floods, with programs that hang",
         FLOODS,
-        "chromedriver chromium g++ nsenter openssl unshare",
-        OF_VENUES,
+        needs.TOOLS["floods"],
+        needs.MODULES["floods"],
         is_alone=True,
         short=FLOODS + KINDS,
     ),
@@ -232,7 +228,7 @@ PARTS = [
         "each measure once, in its smallest form",
         BENCH,
         "cc g++ parallel time xargs",
-        "aiohttp cffi numpy Python.h pandas pytest tqdm",
+        needs.MODULES["bench"],
         short=BENCH + FEW,
     ),
     Part(
@@ -240,7 +236,7 @@ PARTS = [
         "packages, wheel and tarball, installed and removed",
         RELEASE,
         "cc cmake dh dh_python3 dpkg-buildpackage git lintian mmdebstrap pkg-config readelf",
-        "build cffi numpy Python.h setuptools wheel pytest hypothesis pandas matplotlib tqdm",
+        needs.MODULES["release"],
         short=RELEASE + FEW,
     ),
 ]
@@ -267,48 +263,11 @@ NOT_INSTALLED = {"layout", GATE, BODIES, "bench", "release"}
 """The parts that need the toolchain, or that make packages."""
 FILES = Part("files", "each file of the package", f"checks/package.py {PREFIX}")
 """On an installed package alone."""
-PACKAGES = {
-    "ar": "binutils",
-    "bash": "bash",
-    "cc": "gcc and libc6-dev",
-    "chromedriver": "chromium-driver",
-    "chromium": "chromium",
-    "clang": "clang",
-    "cmake": "cmake",
-    "dh": "debhelper",
-    "dh_python3": "dh-python",
-    "dpkg-buildpackage": "dpkg-dev",
-    "g++": "g++",
-    "gcc": "gcc and libc6-dev",
-    "git": "git",
-    "install": "coreutils",
-    "lintian": "lintian",
-    "mmdebstrap": "mmdebstrap",
-    "nsenter": "util-linux",
-    "openssl": "openssl",
-    "parallel": "parallel",
-    "pkg-config": "pkgconf",
-    "prlimit": "util-linux",
-    "readelf": "binutils",
-    "setpriv": "util-linux",
-    "strace": "strace",
-    "systemd-analyze": "systemd",
-    "time": "time",
-    "xargs": "findutils",
-    "setsid": "util-linux",
-    "unshare": "util-linux",
-    "valgrind": "valgrind",
-}
 
 
 def missing_tools(parts: list[Part]) -> list[str]:
     """What to say of each tool that these parts need and that isn't there."""
-    wanted = sorted({tool for part in parts for tool in part.tools.split()})
-    lacking = [tool for tool in wanted if shutil.which(tool) is None]
-    packages = {tool: f"Debian has it in {PACKAGES[tool]}" for tool in PACKAGES}
-    return [
-        f"there is no {tool}: {packages.get(tool, 'the toolchain has it')}" for tool in lacking
-    ]
+    return needs.lacking_tools(sorted({tool for part in parts for tool in part.tools.split()}))
 
 
 def missing_modules(parts: list[Part]) -> list[str]:
@@ -348,14 +307,14 @@ def tasks_of(parts: list[Part], builds: Builds | Package) -> list[Task]:
     tried = tried_elsewhere({part.name for part in parts})
     for part in parts:
         words = functools.partial(words_of, part.command, builds)
-        needs = part.needs() if isinstance(builds, Builds) else frozenset()
+        wanted = part.needs() if isinstance(builds, Builds) else frozenset()
         gives: tuple[Product, ...] = ()
         if part.name == GATE and isinstance(builds, Builds):
             words, gives = functools.partial(gate.words, builds.gate, tried), builds.of_gate()
         if part.name == CRATES.name and isinstance(builds, Builds):
-            needs = frozenset(builds.needed) if not builds.has_gate else needs
+            wanted = frozenset(builds.needed) if not builds.has_gate else wanted
         most = math.inf if part.is_proof else MOST_SECONDS
-        found.append(Task(part.name, words, needs, gives, part.is_alone, part.is_proof, most))
+        found.append(Task(part.name, words, wanted, gives, part.is_alone, part.is_proof, most))
     return found
 
 

@@ -10,12 +10,13 @@ from collections.abc import Callable, Iterator
 
 import pytest
 
-from checks import built, edits
+from checks import built
 from checks.texts import documents, sources
 from checks.texts.tree import Tree
 
 sys.path[:0] = [str(built.TOP / "checks"), str(built.TOP / "build")]
 
+import edits  # noqa: E402
 import together  # noqa: E402
 import toolchain  # noqa: E402
 

@@ -762,7 +762,21 @@ def test_wrong_bodies_function_by_function(
     assert (log.read_text().splitlines() if log.exists() else []) == asked
 
 
-# ---- how long crates take
+# ---- building crates
+
+
+@pytest.mark.parametrize("names, said", [
+    ([], "there is no rt: put the toolchain on the path"), (["no"], "crates.txt has no crate no"),
+])
+def test_a_build_that_cannot_begin_has_a_status_of_its_own(
+    names: list[str], said: str, monkeypatch: pytest.MonkeyPatch,
+    capsys: pytest.CaptureFixture[str],
+) -> None:
+    monkeypatch.setattr(sys, "argv", ["program.py", *names])
+    monkeypatch.setattr(building.shutil, "which", lambda tool: "rt" if names else None)
+    assert building.main() == 2
+    assert capsys.readouterr().err == f"callboard: {said}\n"
+
 
 def test_seconds_of_crates(tmp_path: pathlib.Path, monkeypatch: pytest.MonkeyPatch) -> None:
     here, kept = tmp_path / "here", tmp_path / "kept"
