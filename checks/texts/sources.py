@@ -54,10 +54,7 @@ STILL_TWICE = {
         "MOST_MARKED", "WORDS",
     },
     "venue": {
-        "Answer", "BLOCK", "CHANCE", "DO", "FAULTS", "FULL", "GERMAN", "HOST", "Handler", "Json",
-        "KINDS", "LANGUAGES", "MOST_BYTES", "MOST_CONNECTIONS", "MOST_COUNTED", "MOST_SECONDS",
-        "MOST_SHOWN", "NOTICES", "NOT_KNOWN", "PAUSE", "PRICE", "ROLES", "Rows", "SIDES", "SOCKET",
-        "T", "TOKEN", "TRADES", "VENUE", "WORDS",
+        "CHANCE", "Json", "NOTICES", "SIDES", "T",
     },
 }  # fmt: skip
 """By its folder in python/callauction the names of two modules that haven't got another one yet."""

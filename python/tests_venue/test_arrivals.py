@@ -53,7 +53,7 @@ def test_a_class_behind_one_address(caplog: pytest.LogCaptureFixture) -> None:
     assert found.take_change() and not found.take_change()
     assert found.slowed() == {"10.0.0.1": [f"member {it}" for it in range(40)]}
     assert came(found, "10.0.0.2") and came(found, "")
-    clock.now += arrivals.PAUSE + 0.01
+    clock.now += arrivals.JOIN_SECONDS + 0.01
     assert came(found, "10.0.0.1", "late") and not came(found, "10.0.0.1")
     [record] = caplog.records
     assert record.getMessage() == (
@@ -61,7 +61,7 @@ def test_a_class_behind_one_address(caplog: pytest.LogCaptureFixture) -> None:
         f"member 36, member 37, member 38, member 39; {DO}")
     clock.now += arrivals.SLOW_SECONDS
     assert found.slowed() == {} and found.take_change()
-    clock.now += 41 * arrivals.PAUSE
+    clock.now += 41 * arrivals.JOIN_SECONDS
     assert [came(found, "10.0.0.1") for _ in range(41)] == [True] * 40 + [False]
     assert len(found.slowed()["10.0.0.1"]) == 40
 
@@ -79,9 +79,9 @@ def test_any_number_where_the_day_says_so() -> None:
 
 def test_what_is_kept_of_addresses_has_bounds() -> None:
     found = Arrivals(1, Clock())
-    for place in range(2 * arrivals.MOST_COUNTED):
+    for place in range(2 * arrivals.MOST_ADDRESSES):
         assert came(found, f"10.0.{place // 256}.{place % 256}")
-    assert len(found._origins) == arrivals.MOST_COUNTED
+    assert len(found._origins) == arrivals.MOST_ADDRESSES
 
 
 def asked(venue: Served, address: str, name: str, code: str = "") -> tuple[int, str | None, Any]:

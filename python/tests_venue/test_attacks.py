@@ -14,7 +14,7 @@ import pytest
 import raw
 import served
 from callauction.venue import Client
-from callauction.venue.audience import MOST_CONNECTIONS
+from callauction.venue.audience import MOST_OF_MEMBER
 from callauction.venue.connection import LEAVE_SECONDS
 from callauction.venue.members import HELLO_BURST
 from conftest import FAST
@@ -139,10 +139,10 @@ def test_a_member_has_few_connections_even_where_it_reads_nothing(tmp_path: path
         token = venue.join("Anna")
         before = psutil.Process(venue.child.pid).num_fds()
         those = [silent(venue, token)]
-        those += [raw.known(venue, token) for _ in range(2 * MOST_CONNECTIONS)]
+        those += [raw.known(venue, token) for _ in range(2 * MOST_OF_MEMBER)]
         time.sleep(LEAVE_SECONDS + 2)
-        assert psutil.Process(venue.child.pid).num_fds() <= before + MOST_CONNECTIONS
-        assert [raw.is_open(it) for it in those[1:]].count(True) == MOST_CONNECTIONS
+        assert psutil.Process(venue.child.pid).num_fds() <= before + MOST_OF_MEMBER
+        assert [raw.is_open(it) for it in those[1:]].count(True) == MOST_OF_MEMBER
         for each in those:
             each.close()
 

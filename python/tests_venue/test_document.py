@@ -57,7 +57,7 @@ def test_all_words_of_the_operator_are_there() -> None:
     text = DOCUMENT.read_text("utf-8").partition("| WORD |")[2].partition("\n\n")[0]
     first = (row.split("|")[1] for row in text.splitlines()[2:])
     words = [word for cell in first for word in re.findall(r"\w+", cell)]
-    assert sorted(words) == sorted({*teaching.STEPS, *teaching.WORDS, "uncross", "extend"})
+    assert sorted(words) == sorted({*teaching.STEPS, *teaching.TEACHER_WORDS, "uncross", "extend"})
 
 
 def test_all_downloads_are_there(venue: Served) -> None:
@@ -65,7 +65,7 @@ def test_all_downloads_are_there(venue: Served) -> None:
     text = DOCUMENT.read_text("utf-8").partition("| FILE |")[2].partition("\n\n")[0]
     first = (row.split("|")[1] for row in text.splitlines()[2:])
     files = [word for cell in first for word in re.findall(r"\w+", cell)]
-    assert sorted(files) == sorted(downloads.KINDS)
+    assert sorted(files) == sorted(downloads.DOWNLOADS)
     token = venue.join("Anna")
     venue.do("start")
     with Client(venue.url, token) as me:

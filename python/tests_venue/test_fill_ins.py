@@ -85,7 +85,7 @@ def test_a_value_that_comes_late_in_a_call(venue: Served) -> None:
     """A robot that bids by its value waits for one, and then enters an order at it."""
     venue.do("robots", kind="truthful", count=2)
     venue.do("start")
-    time.sleep(robots.MOST_SECONDS + 1)
+    time.sleep(robots.ENTRY_SECONDS + 1)
     assert sees(venue, "ladder")["levels"] == []
     crossed = {"price": "3.00", "bid": 10, "ask": 10}
     venue.do("give", low="3.00", high="3.00", quantity=10)
@@ -103,7 +103,7 @@ def log(tmp_path_factory: pytest.TempPathFactory) -> Log:
     return Log(tmp_path_factory.mktemp("robots") / "log")
 
 
-@given(st.sampled_from(robots.KINDS), st.sampled_from(["bid", "ask"]), st.integers(1, 1000),
+@given(st.sampled_from(robots.ROBOT_KINDS), st.sampled_from(["bid", "ask"]), st.integers(1, 1000),
        st.integers(0, 10))
 def test_the_order_of_a_robot(log: Log, kind: str, side: str, tick: int, traded: int) -> None:
     """No robot offers more than is left of its value, nor at a loss."""

@@ -401,7 +401,7 @@ async def test_a_right_code_waits_for_few_of_many_addresses(
     monkeypatch.setattr(rates, "TURNS", 500.0)
     now = [0.0]
     guesses = Guesses(lambda: now[0])
-    for place in range(2 * rates.MOST_COUNTED):
+    for place in range(2 * rates.MOST_COUNTED_NAMES):
         now[0] += 0.05
         guesses.wrong(f"10.{place % 50}.{place // 250 % 250}.{place % 250}", str(place))
     later = [

@@ -118,7 +118,7 @@ async def test_a_connection_that_is_lost_is_no_fault(caplog: pytest.LogCaptureFi
         return web.Response(text="answered")
 
     for moment in range(8):
-        one = heads.Handler(web.Server(answer))
+        one = heads.ConnectionHandler(web.Server(answer))
         one.connection_made(Line())
         one.data_received((GET + b"\r\n") * 2)
         for _ in range(moment):

@@ -19,7 +19,7 @@ import served
 from callauction.venue import (
     clock, connection, gates, http, listening, log, rates, serving, teaching, tokens, views,
 )
-from callauction.venue.audience import MOST_CONNECTIONS
+from callauction.venue.audience import MOST_OF_MEMBER
 from callauction.venue.config import DayTerms, InstrumentTerms, Plan
 from callauction.venue.gates import Gates
 from callauction.venue.http import Site
@@ -104,7 +104,7 @@ async def test_what_to_do_about_a_log_that_others_changed(
 async def test_a_member_is_connected_a_few_times_at_once(client: Any, inside: Venue) -> None:
     _, token = await inside.join(inside.members.codes.by_name[""], "Anna")
     sockets = []
-    for _ in range(MOST_CONNECTIONS + 1):
+    for _ in range(MOST_OF_MEMBER + 1):
         sockets.append(await client.ws_connect("/api/socket"))
         await sockets[-1].send_json({"type": "hello", "token": token})
         assert (await sockets[-1].receive_json())["type"] == "welcome"
@@ -112,7 +112,7 @@ async def test_a_member_is_connected_a_few_times_at_once(client: Any, inside: Ve
         while (last := await sockets[0].receive()).type is aiohttp.WSMsgType.TEXT:
             pass
     assert (last.data, last.extra) == (aiohttp.WSCloseCode.POLICY_VIOLATION, "too_fast")
-    assert len(inside.audience.watchers) == MOST_CONNECTIONS
+    assert len(inside.audience.watchers) == MOST_OF_MEMBER
 
 
 async def test_a_removed_member_says_nothing_more(inside: Venue) -> None:

@@ -28,7 +28,8 @@ async def inside(
 ) -> AsyncIterator[Venue]:
     """A venue that runs in this loop, and does all again and again at once."""
     for module, name in (
-        (auctions, "TICK"), (looks, "LEAST_PAUSE"), (robots, "PAUSE"), (venues, "LOOK_SECONDS"),
+        (auctions, "TICK"), (looks, "LEAST_PAUSE"), (robots, "TURN_SECONDS"),
+        (venues, "LOOK_SECONDS"),
     ):
         monkeypatch.setattr(module, name, SOON)
     venue = Venue(DayTerms(is_synced=False, plan=Plan(call=0)), tmp_path, served.program())
@@ -132,7 +133,7 @@ async def test_the_counts_of_lines(
     monkeypatch: pytest.MonkeyPatch, caplog: pytest.LogCaptureFixture
 ) -> None:
     once = Once()
-    monkeypatch.setattr(notices, "PAUSE", SOON)
+    monkeypatch.setattr(notices, "REPEAT_SECONDS", SOON)
     monkeypatch.setattr(notices, "write_left_out", once)
     assert not await ends_by_itself(notices.write_counts(), once)
     assert has_said(caplog)

@@ -1107,7 +1107,7 @@ def test_all_of_a_flood_is_counted(tmp_path: pathlib.Path, is_killed: bool) -> N
         for _ in range(count):
             assert venue.call("api/join", {"code": "WRONGS", "name": "Eve"})[0] == 403
         if is_killed:
-            time.sleep(3 * notices.PAUSE)
+            time.sleep(3 * notices.REPEAT_SECONDS)
             venue.child.kill()
         else:
             venue.child.terminate()
@@ -1423,7 +1423,7 @@ def hostile(copy: pathlib.Path, what: str) -> None:
         (copy / "a\nb").touch()
     elif what == "large":
         with open(copy / "x", "wb") as large:
-            large.truncate(copies.MOST_BYTES + 1)
+            large.truncate(copies.MOST_COPIED_BYTES + 1)
     elif what == "token":
         (copy / "operator.token").write_text("known\n")
     elif what == "no log":

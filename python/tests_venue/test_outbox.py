@@ -6,7 +6,7 @@ from typing import cast
 import pytest
 from callauction.venue.log import Log
 from callauction.venue.outbox import Outbox
-from callauction.venue.process import Answer, Process
+from callauction.venue.process import AnswerCallback, Process
 from callauction.venue.recovery import Entry, Message
 
 pytestmark = pytest.mark.asyncio
@@ -40,7 +40,7 @@ class Begun:
         self.sent: list[str] = []
         self.takes_more = takes_more
 
-    def send(self, records: Sequence[str], answer: Sequence[Answer]) -> None:
+    def send(self, records: Sequence[str], answer: Sequence[AnswerCallback]) -> None:
         self.sent.append(" ".join(records))
 
 

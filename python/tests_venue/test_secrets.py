@@ -39,7 +39,7 @@ def test_no_power_cut_leaves_an_empty_token(monkeypatch: pytest.MonkeyPatch) -> 
     assert disk.changes >= 7 and len(disk.states) > 10
     for state in disk.states:
         later = secret_on(disk.after(state), monkeypatch)
-        assert tokens.TOKEN.fullmatch(later)
+        assert tokens.TOKEN_FORM.fullmatch(later)
         if "operator.token" in state:
             assert state["operator.token"] == f"{known}\n".encode()
     for state in disk.crashes():
@@ -64,7 +64,7 @@ def test_a_token_that_cant_be_written_is_nobodys(monkeypatch: pytest.MonkeyPatch
             secret_on(disk, monkeypatch)
         assert "operator.token" not in disk.names
         disk.fails = 0
-        assert tokens.TOKEN.fullmatch(secret_on(disk, monkeypatch))
+        assert tokens.TOKEN_FORM.fullmatch(secret_on(disk, monkeypatch))
 
 
 DISKS = {"ext4": (32, "-F", "commit=1,noauto_da_alloc"), "xfs": (320, "-f", "nouuid")}

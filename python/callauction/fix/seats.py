@@ -20,7 +20,7 @@ from callauction.fix.refusals import (
 )
 from callauction.fix.tags import Given, Pairs, Tag, Type, seconds_of
 from callauction.venue import clock, tokens
-from callauction.venue.fix_terms import VENUE
+from callauction.venue.fix_terms import VENUE_COMP_ID
 from callauction.venue.instrument import Instrument
 from callauction.venue.log import SOURCE
 from callauction.venue.members import HELLO_BURST, HELLO_RATE, Member
@@ -143,7 +143,7 @@ class Seat:
         self.comp_id, self.name, self.begin = epoch.comp_id, name, begin
         self.connections, self.reports = connections, reports
         self.venue, self.outbound = connections.venue, connections.outbound
-        self.session = f"{begin}:{VENUE}->{self.comp_id}"
+        self.session = f"{begin}:{VENUE_COMP_ID}->{self.comp_id}"
         self.epoch, self.latest = epoch, 0
         self.cancels, self.behind, self.address = False, 0.0, ""
         self.inbound = Inbound(self._take, self._enters)

@@ -4,7 +4,7 @@ from collections.abc import Mapping
 
 from callauction.fix import dictionaries
 from callauction.fix.tags import FIXT
-from callauction.venue.fix_terms import VENUE
+from callauction.venue.fix_terms import VENUE_COMP_ID
 
 DEFAULT = """[DEFAULT]
 ConnectionType=acceptor
@@ -29,6 +29,6 @@ def settings_of(folder: pathlib.Path, sessions: Mapping[str, str]) -> str:
     dictionaries.write(folder)
     found = DEFAULT.format(folder=folder)
     for member, begin in sessions.items():
-        found += SESSION.format(begin=begin, venue=VENUE, member=member)
+        found += SESSION.format(begin=begin, venue=VENUE_COMP_ID, member=member)
         found += OF_FIXT.format(folder=folder) if begin == FIXT else ""
     return found

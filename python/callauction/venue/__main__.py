@@ -191,7 +191,7 @@ def main() -> int:
         program = finder.program()
         run_asked(asked, address, program)
         return DONE
-    except remedies.FAULTS as fault:
+    except remedies.START_FAULTS as fault:
         text, status = remedies.said(fault)
         NOTICES.error("%s", text)
         return status

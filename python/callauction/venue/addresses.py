@@ -14,7 +14,7 @@ VIRTUAL = (
 """How the interfaces begin behind which no telephone is: those of containers, machines and VPNs."""
 FAR = {socket.AF_INET: "192.0.2.1", socket.AF_INET6: "2001:db8::1"}
 """Addresses that nobody has: the way there is that of the default route."""
-HOST = re.compile(r"(?=.{1,253}$)[A-Za-z0-9_-]{1,63}(\.[A-Za-z0-9_-]{1,63})*\.?")
+HOST_NAME = re.compile(r"(?=.{1,253}$)[A-Za-z0-9_-]{1,63}(\.[A-Za-z0-9_-]{1,63})*\.?")
 """Names of hosts, as browsers send them."""
 Code = tuple[int, str]
 """A QR code: how many modules it is wide, its margin among them; the path of its dark ones."""
@@ -32,7 +32,7 @@ def is_host(name: str) -> bool:
     """Whether a text can be a host's name, or an address."""
     with contextlib.suppress(ValueError):
         return bool(ipaddress.ip_address(name))
-    return HOST.fullmatch(name) is not None
+    return HOST_NAME.fullmatch(name) is not None
 
 
 def is_same(host: str, other: str) -> bool:

@@ -11,19 +11,20 @@ from callauction.venue.messages import MessageError
 from callauction.venue.rates import Bucket, network_of
 
 NOTICES = logging.getLogger("callauction.venue")
-PAUSE = 3.0
+JOIN_SECONDS = 3.0
 """Seconds from one new member to the next of an address that has had as many as may be at once."""
 SLOW_SECONDS = 60.0
 """How long it is said that an address is slowed, after somebody of it was refused."""
-MOST_COUNTED, MOST_NAMED = 1000, 5
+MOST_ADDRESSES, MOST_NAMED = 1000, 5
 """How many addresses are known, and how many of who came last from one are named."""
-JOIN_LATER = f"many have joined from this address: one more can each {PAUSE:g} s"
-DO = (
+JOIN_LATER = f"many have joined from this address: one more can each {JOIN_SECONDS:g} s"
+CLOSE_JOINING = (
     "if that isn't the class, Close joining on the teacher's page, New code for all, and Remove "
     "who is wrong there"
 )
+"""What to do where others than the class may have joined."""
 SLOWED = "joins from %s are slowed: %s members came from there, lastly %s; %s"
-FULL = "all %s places are taken, lastly by %s; %s"
+ALL_TAKEN = "all %s places are taken, lastly by %s; %s"
 
 
 @dataclasses.dataclass
@@ -54,14 +55,15 @@ class Arrivals:
         where = network_of(address)
         found = self._origins.pop(where, None) or Origin(self._new_bucket())
         self._origins[where] = found
-        if len(self._origins) > MOST_COUNTED:
+        if len(self._origins) > MOST_ADDRESSES:
             del self._origins[next(iter(self._origins))]
         if found.bucket.is_full():
             found.names.clear()
             found.refused = None
         if not found.bucket.has_room():
             if not self._is_slowed(found):
-                NOTICES.warning(SLOWED, where, len(found.names), last_of(found.names), DO)
+                last = last_of(found.names)
+                NOTICES.warning(SLOWED, where, len(found.names), last, CLOSE_JOINING)
             found.refused = self._clock()
             raise MessageError("join_later", JOIN_LATER)
 
@@ -82,7 +84,7 @@ class Arrivals:
 
     def _new_bucket(self) -> Bucket:
         """What lets through as many as may come."""
-        return Bucket(1 / PAUSE, self._most, self._clock)
+        return Bucket(1 / JOIN_SECONDS, self._most, self._clock)
 
     def _is_slowed(self, found: Origin) -> bool:
         """Whether somebody of an address was refused a short while ago."""

@@ -12,7 +12,7 @@ from callauction.venue.screen import Screen
 from callauction.venue.standing import Standing
 from callauction.venue.watchers import Watcher, Watchers
 
-MOST_CONNECTIONS = 8
+MOST_OF_MEMBER = 8
 """Connections of one member."""
 
 
@@ -94,7 +94,7 @@ class Audience:
         if not traded:
             return
         self.show_gains(instrument)
-        trades = shown.trades_of(instrument, instrument.looks.trades[-shown.MOST_SHOWN :])
+        trades = shown.trades_of(instrument, instrument.looks.trades[-shown.MOST_TRADES :])
         for watcher in self.watching(instrument):
             if watcher.member is not None and "trades" in watcher.topics:
                 watcher.offer(f"trades {name}", trades)
@@ -127,7 +127,7 @@ class Audience:
         if instrument.looks.is_ladder_seen and (is_operator or self.screen.has_book):
             watcher.offer(f"ladder {name}", shown.ladder_of(instrument, is_operator))
         if is_all:
-            last = instrument.looks.trades[-shown.MOST_SHOWN :]
+            last = instrument.looks.trades[-shown.MOST_TRADES :]
             trades = shown.trades_of(instrument, last, self._members.title_of)
             watcher.offer(f"trades {name}", trades)
             efficiency = shown.efficiency_of(instrument, self._members.title_of)
@@ -139,7 +139,7 @@ class Audience:
         """Somebody has connected, who may do so a few times at once."""
         there = [it for it in self.watchers if it.member and not it.is_leaving]
         own = [it for it in there if it.member is watcher.member]
-        if len(own) >= MOST_CONNECTIONS:
+        if len(own) >= MOST_OF_MEMBER:
             own[0].leave("too_fast")
         self.watchers[watcher] = None
 
@@ -218,7 +218,7 @@ class Audience:
         if "fills" in watcher.topics:
             watcher.offer(f"fills {name}", shown.fills_of(instrument, member.name))
         if "trades" in watcher.topics:
-            last = instrument.looks.trades[-shown.MOST_SHOWN :]
+            last = instrument.looks.trades[-shown.MOST_TRADES :]
             watcher.offer(f"trades {name}", shown.trades_of(instrument, last))
 
     # ---- what the operator lets them see

@@ -21,7 +21,7 @@ def main() -> int:
     try:
         print(copies.summary(copies.backup(asked.folder, asked.copy)))
         return DONE
-    except copies.FAULTS as fault:
+    except copies.COPY_FAULTS as fault:
         return copies.said("backup", fault)
 
 

@@ -32,7 +32,7 @@ from callauction.venue.timekeeping import (
 )
 from callauction.venue.venue import LOG, Venue
 
-ROLES = ("operator", "beamer")
+TOKEN_ROLES = ("operator", "beamer")
 MOST_OF_LINE = 4096
 """The bytes that the first line of a journal may have."""
 CROWDED = (
@@ -63,7 +63,7 @@ def checked(
         check_ports(day, address, False)
         yield f"{folder}: not there yet"
         return
-    for name in (*ROLES, *(f"fix.{it}" for it in (day.fix.sessions if day.fix else ()))):
+    for name in (*TOKEN_ROLES, *(f"fix.{it}" for it in (day.fix.sessions if day.fix else ()))):
         if owned.check_file(folder / f"{name}.token"):
             tokens.secret_of(folder, name)
     for name in (LOG, SENT):

@@ -19,7 +19,9 @@ CODES_SECONDS = 1.0
 """How long the codes of a board are taken as they were: thousands of members may have some."""
 FULL_SHARE = 0.9
 """The part of the open orders, and of the commands, of a day from which on it is nearly full."""
-FULL = "%s: %s of at most %s %s, then members' are refused: `%s` of the next day may be greater"
+DAY_NEARLY_FULL = (
+    "%s: %s of at most %s %s, then members' are refused: `%s` of the next day may be greater"
+)
 NOTICES = logging.getLogger("callauction.venue")
 
 
@@ -205,4 +207,4 @@ class Commands:
         ):
             if found >= FULL_SHARE * most and key not in self._full:
                 self._full.add(key)
-                NOTICES.warning(FULL, self._engine.name, found, most, what, key)
+                NOTICES.warning(DAY_NEARLY_FULL, self._engine.name, found, most, what, key)

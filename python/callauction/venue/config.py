@@ -21,13 +21,13 @@ from callauction.venue.gains import Uncovered
 from callauction.venue.handing import HandError, ListedValue, ListError
 from callauction.venue.names import folded, is_role, is_seen
 from callauction.venue.tokens import LEAST_CODE
-from callauction.venue.treatments import MOST_SECONDS, Limits, Read, Treatment, treatment_of
+from callauction.venue.treatments import MOST_CALL_SECONDS, Limits, Read, Treatment, treatment_of
 
 MOST_TRADERS = MOST_MEMBERS - 1
 """The members who may trade an instrument."""
 INSTRUMENT_NAME = re.compile(r"[A-Za-z0-9][A-Za-z0-9_-]{0,23}")
-LANGUAGES = ("en", "de")
-MOST_BYTES = 1 << 20
+PAGE_LANGUAGES = ("en", "de")
+MOST_CONFIG_BYTES = 1 << 20
 """The bytes that the file of a day, or one that it names, may have."""
 MOST_RATE = 100_000
 
@@ -207,7 +207,7 @@ class DayTerms:
         file that it names, and OSError where it can't be read.
         """
         try:
-            found = tomllib.loads(owned.trusted(path, MOST_BYTES).decode("utf-8-sig"))
+            found = tomllib.loads(owned.trusted(path, MOST_CONFIG_BYTES).decode("utf-8-sig"))
         except UnicodeDecodeError:
             raise ConfigError(f"{path}: isn't UTF-8") from None
         except ValueError as fault:  # of TOML, or of a number that is too long
@@ -228,7 +228,7 @@ class DayTerms:
         rows, rounds = fields.tables("instrument"), fields.tables("round")
         found = cls(
             title=fields.text("title", default.title, TITLE),
-            language=fields.choice("language", LANGUAGES, default.language),
+            language=fields.choice("language", PAGE_LANGUAGES, default.language),
             is_synced=fields.flag("sync", default.is_synced),
             reserve=fields.whole("reserve", default.reserve, 1, 1000),
             plan=plan_of(Fields("phases", fields.table("phases"))),
@@ -298,9 +298,9 @@ def plan_of(fields: Fields) -> Plan:
     """The lengths of the phases. Raises ConfigError."""
     default = Plan()
     found = Plan(
-        call=fields.whole("call", default.call, 0, MOST_SECONDS),
-        random_end=fields.whole("random_end", default.random_end, 0, MOST_SECONDS),
-        extension=fields.whole("extension", default.extension, 0, MOST_SECONDS),
+        call=fields.whole("call", default.call, 0, MOST_CALL_SECONDS),
+        random_end=fields.whole("random_end", default.random_end, 0, MOST_CALL_SECONDS),
+        extension=fields.whole("extension", default.extension, 0, MOST_CALL_SECONDS),
         is_automatic=fields.flag("automatic", default.is_automatic),
     )
     fields.ended()
@@ -443,7 +443,7 @@ def reader(folder: pathlib.Path) -> Read:
 
     def read(name: str) -> str:
         try:
-            return owned.trusted(folder / name, MOST_BYTES).decode("utf-8")
+            return owned.trusted(folder / name, MOST_CONFIG_BYTES).decode("utf-8")
         except OSError as fault:
             raise ConfigError(f"{name}: {fault.strerror}") from None
         except UnicodeDecodeError:

@@ -242,9 +242,8 @@ class Connection:
 
 async def connect(request: web.Request, venue: Venue, gates: Gates) -> web.WebSocketResponse:
     """A connection, from its begin to its end."""
-    socket = Socket(
-        heartbeat=HEARTBEAT, max_msg_size=messages.MOST_BYTES, compress=False, autoping=False
-    )
+    most = messages.MOST_MESSAGE_BYTES
+    socket = Socket(heartbeat=HEARTBEAT, max_msg_size=most, compress=False, autoping=False)
     with contextlib.suppress(ConnectionError):
         try:
             await socket.prepare(request)

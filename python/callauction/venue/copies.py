@@ -26,7 +26,7 @@ from callauction.venue.recovery import (
 )
 from callauction.venue.venue import LOG
 
-TOKEN = ".token"
+TOKEN_SUFFIX = ".token"
 SUMS_FILE = "SHA256SUMS"
 SUM = re.compile(r"([0-9a-f]{64})  ([^\x00-\x1f\x7f]{1,255})")
 """A line of SUMS_FILE: the sum, and the name of its file."""
@@ -39,7 +39,7 @@ the end of a day leaves, which may be of an earlier moment, and is made anew by 
 NAME = re.compile(r"[^\x00-\x1f\x7f]{1,255}")
 MARK_BYTES = 3
 """Random bytes by which two days that were restored from one copy differ: v1f3a2b is a mark."""
-MOST_BYTES = 1 << 30
+MOST_COPIED_BYTES = 1 << 30
 """The bytes that a file of a day may have."""
 Files = dict[str, bytes]
 
@@ -48,12 +48,12 @@ class CopyError(Exception):
     """A copy that can't be made or isn't whole; the text says why."""
 
 
-FAULTS = (CopyError, LogError, OwnerError, OSError)
+COPY_FAULTS = (CopyError, LogError, OwnerError, OSError)
 """Why a copy can't be made or put back."""
 
 
 def said(command: str, fault: Exception) -> int:
-    """Says on standard error by which of the FAULTS a command has failed: its status."""
+    """Says on standard error by which of the COPY_FAULTS a command has failed: its status."""
     text, status = str(fault), BAD_DAY if isinstance(fault, OwnerError) else BAD_FILE
     if isinstance(fault, OSError):
         named = f"{fault.filename}: {fault.strerror}" if fault.filename else fault.strerror
@@ -103,7 +103,7 @@ def read_file(path: pathlib.Path) -> bytes:
     """A file of a day, which is no link. Raises OSError, and CopyError where it is another's."""
     if not NAME.fullmatch(path.name):
         raise CopyError(f"{str(path)!r} is no name that a file of a day has")
-    return owned.whole(path, MOST_BYTES, os.O_NOFOLLOW)
+    return owned.whole(path, MOST_COPIED_BYTES, os.O_NOFOLLOW)
 
 
 def consistent(files: Files, begun: int | None = None) -> Files:
@@ -239,7 +239,7 @@ def restore(copy: pathlib.Path, folder: pathlib.Path, program: str) -> Files:
     if consistent(files) != files:
         raise CopyError(f"{copy}: its journals and its {LOG} aren't of one moment")
     for name in files:
-        if name.endswith(TOKEN) and not tokens.is_token(files[name]):
+        if name.endswith(TOKEN_SUFFIX) and not tokens.is_token(files[name]):
             raise CopyError(f"{copy / name} holds no token")
     for file in journals_of(files).values():
         audit(program, file, files[file])

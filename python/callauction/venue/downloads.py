@@ -24,7 +24,7 @@ from callauction.venue.names import plain
 from callauction.venue.rounds import Round
 from callauction.venue.sheets import PLAIN, SheetRow, table
 
-KINDS = {
+DOWNLOADS = {
     "journal": ("csv", "text/csv"),
     "members": ("csv", "text/csv"),
     "results": ("csv", "text/csv"),
@@ -32,14 +32,16 @@ KINDS = {
     "report": ("html", "text/html"),
 }
 """By its name, how the file of a download ends, and its type."""
-GERMAN = {"members": "Namen", "results": "Ergebnisse", "trades": "Abschlüsse", "report": "Bericht"}
+GERMAN_NAMES = {
+    "members": "Namen", "results": "Ergebnisse", "trades": "Abschlüsse", "report": "Bericht",
+}  # fmt: skip
 """What downloads are called in German, where that is another word."""
 MOST_LETTERS = 40
 """The letters of a lesson's title in the name of a file."""
 OF_BOARD = ("journal", "members")
 """The downloads that are of one board, and not of all rounds."""
 OF_ALL = ("results", "trades", "report")
-RESULTS = (
+RESULT_COLUMNS = (
     *("round", "title", "practice", "instrument", "name", "robot", "side", "value", "quantity"),
     *("bought", "paid", "sold", "received", "gain", "possible", "efficiency", "payoff", "removed"),
 )
@@ -47,7 +49,7 @@ RESULTS = (
 for each member, whose round is `all`. Who was removed has those of the rounds in which it traded or
 had a value, and then one of all. Money and prices are decimal numbers of the currency.
 """
-TRADES = (
+TRADE_COLUMNS = (
     *("round", "instrument", "auction", "trade", "buyer", "seller", "quantity", "price", "amount"),
 )
 YES = ("no", "yes")
@@ -99,7 +101,7 @@ class Lesson:
 
 
 async def made(kind: str, lesson: Lesson, board: Instrument, language: str = PLAIN) -> bytes:
-    """The bytes of a download, in a language of sheets.LANGUAGES. Raises DownloadError."""
+    """The bytes of a download, in a language of sheets.SHEET_LANGUAGES. Raises DownloadError."""
     if kind == "members":
         return members_of(board, lesson.members.title_of, language)
     if kind == "journal":
@@ -122,7 +124,7 @@ async def made_in(folder: str, kind: str, lesson: Lesson, language: str) -> byte
         paths[each.identity.key] = path = pathlib.Path(folder, f"{each.identity.key}.csv")
         path.write_bytes(journal_of(each))
     if kind == "trades":
-        return table(TRADES, await trades_of(lesson, paths), language)
+        return table(TRADE_COLUMNS, await trades_of(lesson, paths), language)
     asked = json.dumps(await asked_of(lesson, paths, language)).encode("utf-8")
     words = [sys.executable, *SAFELY, "-m", "callauction.venue.report"]
     return await output(words, asked)
@@ -132,9 +134,9 @@ def file_of(kind: str, lesson: Lesson, board: Instrument, language: str = PLAIN)
     """The name of a download's file, by which those of many lessons are told apart."""
     title = re.sub(r"\W+", "-", lesson.day.title)[:MOST_LETTERS].strip("-")
     day = time.strftime("%Y-%m-%d", time.localtime(lesson.began))
-    word = GERMAN.get(kind, kind) if language == "de" else kind
+    word = GERMAN_NAMES.get(kind, kind) if language == "de" else kind
     words = [title, day, *([board.identity.key] if kind in OF_BOARD else []), word]
-    return f"{'-'.join(filter(None, words))}.{KINDS[kind][0]}"
+    return f"{'-'.join(filter(None, words))}.{DOWNLOADS[kind][0]}"
 
 
 def disposition(name: str) -> str:
@@ -206,7 +208,7 @@ def members_of(instrument: Instrument, title_of: Titles, language: str = PLAIN) 
 
 def results_table(lesson: Lesson, language: str = PLAIN) -> bytes:
     """The results as a CSV file."""
-    return table(RESULTS, results_of(lesson), language)
+    return table(RESULT_COLUMNS, results_of(lesson), language)
 
 
 def results_of(lesson: Lesson) -> Iterator[SheetRow]:

@@ -23,7 +23,7 @@ from callauction.venue.process import Process, ProcessError
 from callauction.venue.recovery import (
     Entry, Mark, Message, RecoveryError, Run, Settled, matched, settled,
 )
-from callauction.venue.runs import MOST_ENDS, PAUSE, InUseError, Runs
+from callauction.venue.runs import MOST_ENDS, RETRY_SECONDS, InUseError, Runs
 
 ENTERED = re.compile(r"(\d+): (.*)")
 NO_CALLS = ("calls are reserved for the operator", "too many commands")
@@ -251,7 +251,7 @@ class Engine:
             try:
                 await self.show(["show"])
             except ProcessError:
-                await asyncio.sleep(PAUSE)
+                await asyncio.sleep(RETRY_SECONDS)
                 continue
             if self._is_tried:
                 self.halted, self._is_tried = None, False

@@ -13,15 +13,15 @@ SENTENCE = re.compile(r"[^\x00-\x1f\x7f<>]{0,240}")
 TABLE = re.compile(r"[^\x00]{0,65536}")
 LENGTHS = {MEMBER_NAME: 40, TITLE: 60, SENTENCE: 240, TABLE: 65_536}
 """How many letters a text of a pattern has at most."""
-PRICE = re.compile(r"([0-9]{1,30}(\.[0-9]{1,30})?)?")
-MOST_SHOWN = 60
+PRICE = re.compile(r"[0-9]{1,30}(\.[0-9]{1,30})?")
+MOST_VALUE_LETTERS = 60
 """How many letters a fault has of a bad value."""
 
 
 def shown(value: object) -> str:
     """A value as a fault says it, or its begin."""
     text = repr(value)
-    return text if len(text) <= MOST_SHOWN else f"{text[:MOST_SHOWN]}.."
+    return text if len(text) <= MOST_VALUE_LETTERS else f"{text[:MOST_VALUE_LETTERS]}.."
 
 
 def flaw_of(text: object, pattern: re.Pattern[str]) -> str:
@@ -72,7 +72,7 @@ class Fields:
     def price(self, name: str) -> str:
         """A price as a decimal text, empty where it isn't there. Raises ConfigError."""
         found = self._take(name, "")
-        if not isinstance(found, str) or not PRICE.fullmatch(found):
+        if not isinstance(found, str) or found and not PRICE.fullmatch(found):
             raise self.fault(name, f"{shown(found)} is no price such as \"20.05\"")
         return found
 
@@ -82,7 +82,7 @@ class Fields:
         if not isinstance(found, list):
             raise self.fault(name, f"{shown(found)} is no list")
         for each in found:
-            if not isinstance(each, str) or not each or not PRICE.fullmatch(each):
+            if not isinstance(each, str) or not PRICE.fullmatch(each):
                 raise self.fault(name, f"{shown(each)} is no price such as \"20.05\"")
         return tuple(found)
 

@@ -6,13 +6,13 @@ from typing import Any
 
 from callauction.venue.fields import Fields
 
-VENUE = "VENUE"
+VENUE_COMP_ID = "VENUE"
 """The CompID of the venue."""
 COMP_ID = re.compile(r"[A-Za-z0-9_.]{1,24}")
 ADDRESS = re.compile(r"(?P<host>[A-Za-z0-9.-]+|\[[0-9A-Fa-f:.]+\]):(?P<port>[0-9]{1,5})")
 SENT = "fix.sent"
 """What sessions were sent, which a copy of the folder reads first: the journals have all of it."""
-HOST, PORT = "127.0.0.1", 9878
+DEFAULT_HOST, DEFAULT_PORT = "127.0.0.1", 9878
 
 
 @dataclasses.dataclass(frozen=True)
@@ -23,8 +23,8 @@ class Terms:
     """
 
     sessions: Mapping[str, str]
-    host: str = HOST
-    port: int = PORT
+    host: str = DEFAULT_HOST
+    port: int = DEFAULT_PORT
     copy: str = ""
     fix50: tuple[str, ...] = ()
 
@@ -37,7 +37,7 @@ def terms_of(table: dict[str, Any]) -> Terms:
     copy = fields.text("copy", "", COMP_ID)
     fix50 = fields.names("fix50")
     fields.ended()
-    if copy in (VENUE, *members):
+    if copy in (VENUE_COMP_ID, *members):
         raise fields.fault("copy", f"{copy!r} is a CompID of the venue or of a member")
     for comp_id in fix50:
         if comp_id not in (copy, *members):
@@ -47,7 +47,7 @@ def terms_of(table: dict[str, Any]) -> Terms:
 
 def address_of(fields: Fields) -> tuple[str, int]:
     """The host and the port of `address`. Raises ConfigError."""
-    text = fields.text("address", f"{HOST}:{PORT}", ADDRESS)
+    text = fields.text("address", f"{DEFAULT_HOST}:{DEFAULT_PORT}", ADDRESS)
     found = ADDRESS.fullmatch(text)
     if found is None or int(found["port"]) >= 1 << 16:
         raise fields.fault("address", f"{text!r} is none such as \"127.0.0.1:9878\"")
@@ -60,7 +60,7 @@ def sessions_of(fields: Fields, table: dict[str, Any]) -> dict[str, str]:
         raise fields.fault("sessions", "has no CompID")
     first: dict[str, str] = {}
     for comp_id, name in table.items():
-        if comp_id == VENUE:
+        if comp_id == VENUE_COMP_ID:
             raise fields.fault(f"sessions: {comp_id!r}", "is the venue's own CompID")
         if not COMP_ID.fullmatch(comp_id):
             why = "is no CompID of 1 to 24 letters, digits, points or underscores"

@@ -61,7 +61,7 @@ SENTENCES = {
     "reference {}": "Referenz {}",
 }  # fmt: skip
 """What is written in English, with {} for each gap, and what in German."""
-WORDS = {
+GAP_WORDS = {
     ", ": "; ", " and so on up to ": " und so weiter bis ", " limits)": " Limits)",
     " and ": " und ", "on the bid side": "auf der Kaufseite",
     "on the ask side": "auf der Verkaufsseite", " bid": " Kauf", " ask": " Verkauf",
@@ -89,7 +89,7 @@ def number(text: str) -> str:
 
 def gap(text: str) -> str:
     """What stands in a gap."""
-    for word, german in WORDS.items():
+    for word, german in GAP_WORDS.items():
         text = text.replace(word, german)
     return number(text)
 

@@ -7,7 +7,7 @@ from callauction.venue.messages import MessageError
 from callauction.venue.process import IN_USE
 
 MAKE_ROOM = "make room, or mend the disk, then `resume`"
-DO = {"journal failed": MAKE_ROOM, IN_USE: "end the process that has it, then `resume`"}
+WHAT_TO_DO = {"journal failed": MAKE_ROOM, IN_USE: "end the process that has it, then `resume`"}
 """What to do by what the program says where its journal can't be written, or is another's."""
 PUT_BACK = "put the right file back, then `resume`"
 LATER = "the venue has halted; this is done once it goes on"
@@ -61,5 +61,5 @@ class Halts:
                 NOTICES.warning("%s goes on", what)
             else:
                 is_file = halted.startswith("the journal ") or halted.endswith(" by others")
-                do = PUT_BACK if is_file else DO.get(halted, do)
+                do = PUT_BACK if is_file else WHAT_TO_DO.get(halted, do)
                 NOTICES.error("%s halted: %s%s", what, halted, do and f": {do}")

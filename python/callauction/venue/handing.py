@@ -13,7 +13,7 @@ from callauction.venue.names import folded
 
 HOWS = ("none", "keep", "shuffle", "chance", "schedule", "list")
 SIDES = ("bid", "ask")
-GERMAN = {
+FROM_GERMAN = {
     "seite": "side", "preis": "price", "wert": "price", "menge": "quantity", "stück": "quantity",
     "runde": "round", "kauf": "bid", "verkauf": "ask",
 }  # fmt: skip
@@ -176,7 +176,7 @@ def rows_of(text: str) -> tuple[ListedValue, ...]:
     file.seek(0)
     reader = csv.DictReader(file, delimiter=mark, strict=True)
     heads = [it.strip().casefold() for it in reader.fieldnames or ()]
-    reader.fieldnames = columns = [GERMAN.get(it, it) for it in heads]
+    reader.fieldnames = columns = [FROM_GERMAN.get(it, it) for it in heads]
     check_heads(heads, columns)
     found = []
     lines: dict[str, dict[int | None, int]] = {}
@@ -228,7 +228,7 @@ def check_once(it: ListedValue, line: int, lines: dict[int | None, int]) -> None
 def row_of(row: Mapping[str, str | None], line: int, has_comma: bool = False) -> ListedValue:
     """A row of a file, whose price may have a decimal comma. Raises HandError."""
     cells = {key: " ".join((value or "").split()) for key, value in row.items() if key}
-    side = GERMAN.get(cells["side"].casefold(), cells["side"].casefold())
+    side = FROM_GERMAN.get(cells["side"].casefold(), cells["side"].casefold())
     if not cells["name"]:
         raise HandError(f"line {line}: the name is empty")
     if side not in SIDES:

@@ -35,7 +35,7 @@ async def mark(request: web.Request, answer: web.StreamResponse) -> None:
     answer.headers.update(headers_of(request.transport))
 
 
-class Handler(web.RequestHandler):
+class ConnectionHandler(web.RequestHandler):
     """aiohttp's protocol of a connection."""
 
     def __init__(self, server: web.Server) -> None:

@@ -15,7 +15,7 @@ from aiohttp.http_exceptions import HttpProcessingError
 
 from callauction.venue import addresses, downloads, fields, heads, messages, replay, sheets, shown
 from callauction.venue import teaching
-from callauction.venue.arrivals import PAUSE
+from callauction.venue.arrivals import JOIN_SECONDS
 from callauction.venue.connection import connect, packed
 from callauction.venue.gates import BODY_SECONDS, Gates
 from callauction.venue.instrument import Instrument
@@ -55,8 +55,8 @@ STATUSES = {
     "join_later": 429,
 }
 AGAIN = ("join_later", "not_made")
-"""What may be asked for once more, after PAUSE."""
-SOCKET = "/api/socket"
+"""What may be asked for once more, after JOIN_SECONDS."""
+SOCKET_PATH = "/api/socket"
 MOST_NAME = 40
 GUESSED = (
     "codes are guessed, lastly from %s: each waits for its turn, also a right one; "
@@ -128,7 +128,7 @@ class Site:
         found.router.add_get("/api/day", self._day)
         found.router.add_post("/api/join", self._join)
         found.router.add_get("/api/look/{what}", self._look)
-        found.router.add_get(SOCKET, self._socket)
+        found.router.add_get(SOCKET_PATH, self._socket)
         found.router.add_post("/api/operator", self._operator)
         for path in ("/api/download/{kind}", "/api/download/{kind}/{instrument}"):
             found.router.add_get(path, self._download)
@@ -143,7 +143,7 @@ class Site:
             return await self._served(request, handler)
         except MessageError as fault:
             body = {"error": fault.code, "text": fault.text} | fault.more
-            later = {"Retry-After": f"{PAUSE:.0f}"} if fault.code in AGAIN else {}
+            later = {"Retry-After": f"{JOIN_SECONDS:.0f}"} if fault.code in AGAIN else {}
             return web.json_response(body, status=STATUSES.get(fault.code, 400), headers=later)
         except web.HTTPException:
             raise
@@ -162,7 +162,7 @@ class Site:
             raise ConnectionResetError
         gate = self._gates.of(request.transport)
         gate.speaker = self._speaker_of(request)
-        if request.path == SOCKET:
+        if request.path == SOCKET_PATH:
             return await handler(request)
         if hdrs.TRANSFER_ENCODING in request.headers:
             gate.end_request()
@@ -286,7 +286,7 @@ class Site:
             if not first.isdecimal() or len(first) > 10:
                 raise MessageError("bad_message", "first is no number of a trade")
             begin = max(0, int(first) - 1)
-            page = instrument.looks.trades[begin : begin + shown.MOST_SHOWN]
+            page = instrument.looks.trades[begin : begin + shown.MOST_TRADES]
             return answered(shown.trades_of(instrument, page))
         if what == "ladder":
             if not self._venue.rounds.now.is_open_book:
@@ -358,8 +358,9 @@ class Site:
         """A file for the operator."""
         self._check_operator(request)
         kind = request.match_info["kind"]
-        if kind not in downloads.KINDS:
-            text = f"there is no download {fields.shown(kind)}, but {', '.join(downloads.KINDS)}"
+        if kind not in downloads.DOWNLOADS:
+            names = ", ".join(downloads.DOWNLOADS)
+            text = f"there is no download {fields.shown(kind)}, but {names}"
             raise MessageError("bad_message", text)
         board = self._board_of(request)
         if kind in downloads.OF_ALL:
@@ -369,7 +370,7 @@ class Site:
         elif kind == "members":
             board.engine.check_known()
         language = request.query.get("language", sheets.PLAIN)
-        if language not in sheets.LANGUAGES:
+        if language not in sheets.SHEET_LANGUAGES:
             raise MessageError("bad_message", "language is none of en, de")
         lesson = self._venue.lesson(self._program)
         try:
@@ -378,7 +379,7 @@ class Site:
             raise not_made(f"the download of {kind}", fault) from None
         name = downloads.file_of(kind, lesson, board, language)
         headers = {"Content-Disposition": downloads.disposition(name)}
-        content_type = downloads.KINDS[kind][1]
+        content_type = downloads.DOWNLOADS[kind][1]
         return web.Response(
             body=body, content_type=content_type, charset="utf-8", headers=headers
         )

@@ -17,7 +17,7 @@ PARENT_FIELD, SESSION_FIELD, START_FIELD = 1, 3, 19
 """The places of a process's parent, its session and its start among the fields behind its name in
 /proc/PID/stat.
 """
-VENUE = "callauction.venue"
+VENUE_MODULE = "callauction.venue"
 """What the command line of a venue has."""
 
 
@@ -116,7 +116,7 @@ def is_left(pid: int, program: str, journal: pathlib.Path) -> bool:
         own = about / "cwd" / words[words.index("--journal") + 1]
         is_own = os.stat(about).st_uid == os.geteuid() and int(fields[SESSION_FIELD]) == pid
         parent = int(fields[PARENT_FIELD])
-        is_orphan = parent != os.getpid() and VENUE not in words_of(parent)
+        is_orphan = parent != os.getpid() and VENUE_MODULE not in words_of(parent)
         return is_own and is_orphan and is_program and os.path.samefile(own, journal)
     return False
 

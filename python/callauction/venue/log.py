@@ -42,7 +42,8 @@ FIELDS: dict[str, dict[str, type]] = {
     "boot": {"id": str, "began": float},
 }
 """What lines of some kinds have at least."""
-MOST_SHOWN = 80
+MOST_LINE_LETTERS = 80
+"""How many letters a fault has of a line that can't be."""
 ENCODER = json.JSONEncoder(separators=(",", ":"), allow_nan=False)
 quoted = ENCODER.encode
 known = functools.lru_cache(4096)(quoted)
@@ -115,7 +116,8 @@ def taking(line: Line) -> Iterator[None]:
     try:
         yield
     except (ArithmeticError, LookupError, TypeError, ValueError, AttributeError):
-        raise LogError(f"this line of the log can't be: {text_of(line)[:MOST_SHOWN]}") from None
+        text = text_of(line)[:MOST_LINE_LETTERS]
+        raise LogError(f"this line of the log can't be: {text}") from None
 
 
 class SlowWrite(OSError):

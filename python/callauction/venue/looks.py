@@ -19,7 +19,7 @@ LEAST_PAUSE = 0.1
 BUSY_SHARE = 4
 """How often the time that a look took passes before the next one."""
 DOES_NOT_ANSWER = "the program doesn't answer now"
-NOT_KNOWN = "{} {}: what it has isn't known until it goes on"
+NOT_KNOWN_YET = "{} {}: what it has isn't known until it goes on"
 
 
 class Looks:
@@ -57,7 +57,7 @@ class Looks:
         """
         if not self.is_seen:
             why = "begins" if self._engine.halted is None else "has halted"
-            raise MessageError("halted", NOT_KNOWN.format(self._engine.name, why))
+            raise MessageError("halted", NOT_KNOWN_YET.format(self._engine.name, why))
 
     def knows_orders_of(self, member: str) -> bool:
         """Whether the open orders of a member were seen as they are now, or it has never had one.

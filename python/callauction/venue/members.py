@@ -180,7 +180,7 @@ class Members:
         self._log.note(kind="member", name=name, token=tokens.digest(token), robot=robot)
         found = self.learn(name, tokens.digest(token), robot)
         if is_new and self.is_full:
-            NOTICES.warning(arrivals.FULL, self.most, name, arrivals.DO)
+            NOTICES.warning(arrivals.ALL_TAKEN, self.most, name, arrivals.CLOSE_JOINING)
         return found
 
     @property

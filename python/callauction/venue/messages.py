@@ -4,22 +4,20 @@ schema.json says the same for other languages.
 """
 import dataclasses
 import json
-import re
 from collections.abc import Mapping
 from typing import Any
 
 from callauction.limits import MOST_NUMBER
 from callauction.prices import BadCellError, decimal_of
 from callauction.venue.config import MOST_TRADERS, InstrumentTerms
-from callauction.venue.fields import shown
+from callauction.venue.fields import PRICE, shown
 from callauction.words import MARKET
 
-MOST_BYTES = 4096
+MOST_MESSAGE_BYTES = 4096
 MOST_MESSAGE = (1 << 53) - 1
 """The greatest number of a message: the greatest whole number that every JSON reader keeps."""
 SIDES = ("bid", "ask")
 RESTRICTIONS = ("", "opening", "closing")
-PRICE = re.compile(r"[0-9]{1,30}(\.[0-9]{1,30})?")
 TOPICS = ("states", "orders", "fills", "trades", "rounds", "ladder", "payoffs")
 ORDER_FIELDS = {
     "enter": {"side", "quantity", "price", "peak", "only"},
@@ -110,7 +108,7 @@ def object_of(pairs: list[tuple[str, Any]]) -> dict[str, Any]:
 
 def read(text: str) -> dict[str, Any]:
     """An object of JSON with a type. Raises MessageError."""
-    if len(text) > MOST_BYTES:
+    if len(text) > MOST_MESSAGE_BYTES:
         raise MessageError("bad_message", "the message is too long")
     found = value_of(text)
     if not isinstance(found, dict) or not isinstance(found.get("type"), str):

@@ -11,7 +11,7 @@ MOST_MARKS = 3
 """Marks above or below one letter: more of them cover the lines beside."""
 ALIKE = str.maketrans("авекмнорстхуіјѕԛԝαβεηικμνορτυχ", "abekmhopctxyijsqwabehikmnoptux")
 """Small letters, Cyrillic and Greek, that look like Latin ones, themselves or as capitals."""
-ROLES = frozenset(
+ROLE_NAMES = frozenset(
     ("admin", "administrator", "beamer", "callboard", "lehrer", "lehrerin", "lehrkraft")
     + ("operator", "root", "system", "teacher", "venue")
 )
@@ -42,7 +42,7 @@ def is_seen(name: str) -> bool:
 
 def is_role(name: str) -> bool:
     """Whether a name would be taken for a role."""
-    return folded(name).replace(" ", "") in {folded(role) for role in ROLES}
+    return folded(name).replace(" ", "") in {folded(role) for role in ROLE_NAMES}
 
 
 def plain(name: str) -> str:

@@ -15,13 +15,13 @@ from typing import TextIO
 
 from callauction.venue.lasting import going_on
 
-PAUSE = 1.0
+REPEAT_SECONDS = 1.0
 """Seconds between two lines that say the same."""
 LOCK_SECONDS = 0.1
 """How long a thread that hangs while it writes is waited for."""
 MOST_LINES = 256
-"""How many lines are known that came within PAUSE seconds; more are folded by what they are of."""
-MOST_BYTES = 3000
+"""How many lines are known that came within REPEAT_SECONDS; more are folded by what they are of."""
+MOST_NOTICE_BYTES = 3000
 """Of a text, as JSON writes it: a pipe that has room takes at least a line of as many at once."""
 LEVELS = {"text": logging.WARNING, "json": logging.INFO}
 """By the form of the lines, from which level on they are written."""
@@ -50,7 +50,7 @@ class Folded:
 
 
 class Sparing(logging.Filter):
-    """Lets a record through that says the same as another once in PAUSE seconds, and counts the
+    """Lets a record through that says the same as another once in REPEAT_SECONDS, and counts the
     others: the same text, or what it says that it is `of`, of the same member. In a flood of other
     lines one below ERROR counts as the same where its text is, but for what stands in it. One that
     says that it `is_once` is no other's.
@@ -69,7 +69,7 @@ class Sparing(logging.Filter):
         now = self._clock()
         line, again = self._line_of(record, now)
         found = self._lines.get(line)
-        if found is not None and now - found.last < PAUSE:
+        if found is not None and now - found.last < REPEAT_SECONDS:
             found.count, found.record, found.again = found.count + 1, record, again
             return False
         self._lines.pop(line, None)
@@ -85,7 +85,7 @@ class Sparing(logging.Filter):
         now = self._clock()
         found, self._over = self._over, []
         for line, folded in [*self._lines.items()]:
-            if folded.count and (is_end or now - folded.last >= PAUSE):
+            if folded.count and (is_end or now - folded.last >= REPEAT_SECONDS):
                 self._lines.pop(line, None)
                 self._lines[line] = Folded(now)
                 found += filter(None, [folded.written()])
@@ -98,7 +98,7 @@ class Sparing(logging.Filter):
         if line in self._lines or len(self._lines) < MOST_LINES:
             return line, "times more"
         oldest = next(iter(self._lines))
-        if record.levelno < logging.ERROR and now - self._lines[oldest].last < PAUSE:
+        if record.levelno < logging.ERROR and now - self._lines[oldest].last < REPEAT_SECONDS:
             return kind, "like it, of others too"
         self._over += filter(None, [self._lines.pop(oldest).written()])
         return line, "times more"
@@ -117,9 +117,9 @@ def text_of(record: logging.LogRecord) -> str:
 
 
 def shortened(text: str) -> str:
-    """The begin of a text that has MOST_BYTES at most."""
-    while (size := len(json.dumps(text))) > MOST_BYTES:
-        text = text[: len(text) * MOST_BYTES // size]
+    """The begin of a text that has MOST_NOTICE_BYTES at most."""
+    while (size := len(json.dumps(text))) > MOST_NOTICE_BYTES:
+        text = text[: len(text) * MOST_NOTICE_BYTES // size]
     return text
 
 
@@ -169,7 +169,7 @@ def write_left_out(is_end: bool = True) -> None:
 async def write_counts() -> None:
     """Writes again and again how often lines came that weren't written."""
     while True:
-        await asyncio.sleep(PAUSE)
+        await asyncio.sleep(REPEAT_SECONDS)
         with going_on("the count of lines that weren't written"):
             write_left_out(is_end=False)
 

@@ -10,12 +10,12 @@ from collections.abc import Callable, Sequence
 
 from callauction.statuses import FAILED
 
-Answer = Callable[[list[str]], None]
+AnswerCallback = Callable[[list[str]], None]
 """What is called with the lines of an answer."""
 LISTED = re.compile(r"show (?:ladder|trades|orders) (\d+)$")
 OPENED = re.compile(r"journal (\d+) entries$")
 IN_USE = "journal in use"
-BLOCK = 1 << 18
+OUTPUT_BLOCK = 1 << 18
 MOST_ERROR = 4096
 ANSWER_SECONDS = 10.0
 """How long the program may say nothing while something waits for its answer."""
@@ -127,7 +127,7 @@ class Process:
 
     def __init__(self, words: Sequence[str], on_end: Callable[[ProcessError], None]) -> None:
         self._words, self._on_end = words, on_end
-        self._answers: collections.deque[Answer] = collections.deque()
+        self._answers: collections.deque[AnswerCallback] = collections.deque()
         self._listed: list[str] = []
         self._missing = 0
         self._views: set[asyncio.Future[None]] = set()
@@ -197,7 +197,7 @@ class Process:
         """Whether it runs, and its input hasn't ended."""
         return not self.has_ended and self._pipe.is_open
 
-    def send(self, records: Sequence[str], answer: Sequence[Answer]) -> None:
+    def send(self, records: Sequence[str], answer: Sequence[AnswerCallback]) -> None:
         """Sends records, and gives each answer to the function of its record."""
         loop = asyncio.get_running_loop()
         if not self._answers:
@@ -303,7 +303,7 @@ class Process:
         output, errors = self._child.stdout, self._child.stderr
         assert output is not None and errors is not None
         error = asyncio.create_task(errors.read(MOST_ERROR))
-        while block := await output.read(BLOCK):
+        while block := await output.read(OUTPUT_BLOCK):
             *lines, self._rest = (self._rest + block).split(b"\n")
             self._since = asyncio.get_running_loop().time()
             for line in lines:

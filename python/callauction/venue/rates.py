@@ -42,14 +42,14 @@ WRONG_RATE, WRONG_BURST = 1.0, 60
 TURNS = 20.0
 """Codes that are looked at in a second from then on."""
 MOST_WAITING = 200
-MOST_COUNTED = 10_000
+MOST_COUNTED_NAMES = 10_000
 WIDE = 16, 32
 """The bits of a wide network of IPv4 and of IPv6: few guessers have many of them."""
 Rank = tuple[int, int, int, int]
 
 
 class Counts:
-    """How often each of some names was counted, of the last MOST_COUNTED names."""
+    """How often each of some names was counted, of the last MOST_COUNTED_NAMES names."""
 
     def __init__(self) -> None:
         self._counts: dict[str, int] = {}
@@ -60,7 +60,7 @@ class Counts:
     def add(self, name: str) -> None:
         """Counts a name once more."""
         self._counts[name] = self._counts.pop(name, 0) + 1
-        if len(self._counts) > MOST_COUNTED:
+        if len(self._counts) > MOST_COUNTED_NAMES:
             del self._counts[next(iter(self._counts))]
 
     def clear(self) -> None:

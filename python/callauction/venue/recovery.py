@@ -19,7 +19,7 @@ from collections.abc import Iterable, Mapping, Sequence
 from callauction.venue.leftovers import Program
 from callauction.venue.log import Line, taking
 
-BLOCK = 1 << 18
+JOURNAL_BLOCK = 1 << 18
 COMMIT = 4096
 """The bytes that the program writes at a time: it gives up no more than that behind whole lines."""
 OTHER_FIRST = "the journal is another one: its first line isn't the day's"
@@ -152,8 +152,8 @@ class Sum:
 def sums_of(path: pathlib.Path, size: int) -> tuple[str, str]:
     """The SHA-256 of a journal's first line, and of as many bytes behind it. Raises OSError."""
     with open(path, "rb") as file:
-        first, rest = hashlib.sha256(file.readline(BLOCK)), hashlib.sha256()
-        while block := file.read(min(size, BLOCK)):
+        first, rest = hashlib.sha256(file.readline(JOURNAL_BLOCK)), hashlib.sha256()
+        while block := file.read(min(size, JOURNAL_BLOCK)):
             rest.update(block)
             size -= len(block)
     return first.hexdigest(), rest.hexdigest()
@@ -191,7 +191,7 @@ def first_of(path: pathlib.Path) -> str:
     if not path.exists():
         return ""
     with open(path, "rb") as file:
-        first = file.readline(BLOCK)
+        first = file.readline(JOURNAL_BLOCK)
     return hashlib.sha256(first).hexdigest() if first.endswith(b"\n") else ""
 
 

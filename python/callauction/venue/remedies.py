@@ -56,14 +56,16 @@ OF_DAY = {
     "journal in use": "end the program that has it, then start again",
 }
 """What to do instead where a day of the folder has an entry, which nobody begins anew."""
-FAULTS = (
+START_FAULTS = (
     *(AddressError, ConfigError, LogError, MemoryError, OSError, OtherDayError, OwnerError),
     *(ProcessError, RecoveryError, RuntimeError, TokenError),
 )
 
 
 def said(fault: Exception) -> tuple[str, int]:
-    """What is said of one of the FAULTS, and the status. Raises it where it is none of a start."""
+    """What is said of one of the START_FAULTS, and the status. Raises it where it is none of a
+    start.
+    """
     match fault:
         case LogInUse():
             return f"{fault}: end that one, or {NEW}", BAD_DAY

@@ -14,7 +14,7 @@ from callauction.venue.process import LISTED
 MOST_FRAMES = 120
 """How many books a replay shows; of a longer auction every second, third and so on."""
 ASKED = ("show", "show,ladder")
-Rows = list[dict[str, str]]
+BookRows = list[dict[str, str]]
 
 
 async def replay_of(
@@ -114,7 +114,7 @@ def shows_of(said: Sequence[str]) -> Iterator[list[str]]:
             yield [line, *(next(lines) for _ in range(int(listed[1]) if listed else 0))]
 
 
-def book_of(instrument: Instrument, rows: Rows, reference: int) -> shown.Json:
+def book_of(instrument: Instrument, rows: BookRows, reference: int) -> shown.Json:
     """A book as the program prints it, the highest limit first: what is bid and asked at market and
     at each limit, what that comes to, which limits are best, the price and the rule that made it.
     """

@@ -28,11 +28,12 @@ Json = dict[str, Any]
 Part = tuple[str, str]
 """A section: its heading and its HTML."""
 PRICED = re.compile(r"(opening|intraday|closing|interrupted) price (\d+) volume (\d+)")
-MEMBERS = (
+REPORT_MEMBERS = (
     *("name", "side", "value", "quantity"),
     *("bought", "paid", "sold", "received", "gain"),
 )
-TRADES = ("trade", "buyer", "seller", "quantity", "price", "amount")
+REPORT_TRADES = ("trade", "buyer", "seller", "quantity", "price", "amount")
+"""The columns of the tables of members and of trades."""
 TEXTS = {
     "en": {
         "result": "Result",
@@ -167,7 +168,7 @@ def members_of(asked: Json, board: Json) -> str:
     if not rows:
         return ""
     caption = said(asked, "members", board["currency"])
-    return table_of(asked, rows, MEMBERS, caption, f"members-{board['key']}")
+    return table_of(asked, rows, REPORT_MEMBERS, caption, f"members-{board['key']}")
 
 
 def marked(asked: Json, row: Json) -> Json:
@@ -264,7 +265,7 @@ def trades_of(asked: Json, board: Json, auction: str, name: str) -> str:
     if not rows:
         return f"<p>{said(asked, 'nothing')}</p>"
     caption = said(asked, "trades", board["currency"])
-    return table_of(asked, rows, TRADES, caption, f"trades-{name}")
+    return table_of(asked, rows, REPORT_TRADES, caption, f"trades-{name}")
 
 
 if __name__ == "__main__":

@@ -25,7 +25,7 @@ def main() -> int:
     try:
         print(copies.summary(copies.restore(asked.copy, asked.folder, finder.program())))
         return DONE
-    except copies.FAULTS as fault:
+    except copies.COPY_FAULTS as fault:
         return copies.said("restore", fault)
 
 

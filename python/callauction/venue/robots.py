@@ -15,13 +15,13 @@ from callauction.venue.messages import MessageError, Order
 from callauction.venue.recovery import Entry
 from callauction.venue.rounds import Rounds
 
-KINDS = ("zero", "truthful", "shading")
+ROBOT_KINDS = ("zero", "truthful", "shading")
 """Zero intelligence, a price by chance at which nothing is lost; the value itself; a tenth less
 than it, or more than the cost. Without a value zero intelligence buys or sells by chance, at a
 price within a quarter of the reference, and the others do nothing.
 """
-PAUSE = 0.2
-MOST_SECONDS = 10.0
+TURN_SECONDS = 0.2
+ENTRY_SECONDS = 10.0
 """Seconds after the begin of a call until all robots have entered, and at most this share of it."""
 MOST_SHARE = 0.7
 MOST_ROBOTS = 200
@@ -43,7 +43,7 @@ class Robots:
     async def run(self) -> None:
         """Enters orders of robots when their time has come."""
         while True:
-            await asyncio.sleep(PAUSE)
+            await asyncio.sleep(TURN_SECONDS)
             with going_on("the robots' turn"):
                 for member, board in self._turns():
                     self._look(member, board)
@@ -89,7 +89,7 @@ def waits(robot: Member, board: Instrument) -> bool:
 def window(board: Instrument) -> float:
     """The seconds in which the robots enter their orders."""
     ends = board.auctions.state.ends
-    return MOST_SECONDS if ends is None else min(MOST_SECONDS, MOST_SHARE * (ends - clock.now()))
+    return ENTRY_SECONDS if ends is None else min(ENTRY_SECONDS, MOST_SHARE * (ends - clock.now()))
 
 
 def record_of(kind: str, board: Instrument, member: str) -> str | None:

@@ -16,7 +16,7 @@ from callauction.venue.treatments import Treatment
 
 FEW = 3
 """How many members of a group find hardly anybody to trade with."""
-NOT_KNOWN = "it isn't known what {} has: resume first, or begin anyway"
+RESUME_FIRST = "it isn't known what {} has: resume first, or begin anyway"
 
 
 @dataclasses.dataclass
@@ -226,7 +226,7 @@ class Rounds:
             name for name, it in self.now.boards.items() if it.engine.halted or not it.looks.is_seen
         ]
         if those:
-            raise MessageError("not_known", NOT_KNOWN.format(", ".join(those)), boards=those)
+            raise MessageError("not_known", RESUME_FIRST.format(", ".join(those)), boards=those)
 
     @property
     def early_halts(self) -> list[tuple[Instrument, str]]:

@@ -21,7 +21,7 @@ CUT_OFF = "%s: the end of its journal was no whole line, and was put aside: %s h
 LEFT = "%s: process %s, the program of the last run, has its journal and doesn't end: it was ended"
 MOST_ENDS = 8
 """How often the program may end without an answer in between before its engine halts."""
-PAUSE = 0.05
+RETRY_SECONDS = 0.05
 IN_USE_SECONDS = 15.0
 """How long another run of the program is waited for, such as one whose venue was killed."""
 LEFT_SECONDS = 5.0
@@ -97,7 +97,7 @@ class Runs:
             if loop.time() > looks:
                 looks = float("inf")
                 await self._end_left()
-            await asyncio.sleep(PAUSE)
+            await asyncio.sleep(RETRY_SECONDS)
 
     async def _in_use(self) -> InUseError:
         """Says who has the journal, and how to go on: one that hangs may end later. Raises OSError

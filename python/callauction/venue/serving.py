@@ -20,7 +20,7 @@ from aiohttp import web
 from callauction.statuses import FAILED
 from callauction.venue import addresses, ending, gates, listening, notices, owned, supervising
 from callauction.venue.begun import date_of
-from callauction.venue.heads import GRACE, Handler
+from callauction.venue.heads import GRACE, ConnectionHandler
 from callauction.venue.http import Site
 from callauction.venue.process import kill_all
 from callauction.venue.venue import Venue
@@ -255,7 +255,7 @@ class Pages:
             sockets = listening.sockets_at(host, port)
         except OSError as fault:
             raise AddressError(listening.why_not(host, port, fault)) from None
-        handler = functools.partial(Handler, self._runner.server)
+        handler = functools.partial(ConnectionHandler, self._runner.server)
         self._listener = listening.Listener(self._gates, sockets, handler, tls)
         return int(sockets[0].getsockname()[1])
 

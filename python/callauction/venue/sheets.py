@@ -7,7 +7,7 @@ from collections.abc import Iterable, Sequence
 
 PLAIN = ""
 """The language of a table for programs."""
-LANGUAGES = (PLAIN, "en", "de")
+SHEET_LANGUAGES = (PLAIN, "en", "de")
 SIGNATURE = "\ufeff"
 """By it a spreadsheet knows that a file is UTF-8."""
 DECIMAL = frozenset(
@@ -37,8 +37,8 @@ SheetRow = dict[str, object]
 
 
 def table(columns: Sequence[str], rows: Iterable[SheetRow], language: str = PLAIN) -> bytes:
-    """A CSV file; for a spreadsheet in a language of LANGUAGES it is marked as UTF-8, and in German
-    it has semicolons between, decimal commas and German words.
+    """A CSV file; for a spreadsheet in a language of SHEET_LANGUAGES it is marked as UTF-8, and in
+    German it has semicolons between, decimal commas and German words.
     """
     text = io.StringIO()
     mark = ";" if language == "de" else ","

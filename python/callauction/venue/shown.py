@@ -20,7 +20,7 @@ UNKNOWN: Json = dict.fromkeys(("phase", "auction"), "unknown") | dict.fromkeys(
 """What a state has until the program has shown what the day has."""
 MOST_GAINS = 10
 """How many members are shown who gained most."""
-MOST_SHOWN = 500
+MOST_TRADES = 500
 """The last trades that are shown unasked, and the trades of one look."""
 
 
@@ -143,7 +143,7 @@ def fills_of(instrument: Instrument, member: str) -> Json:
     return {
         "type": "fills",
         "instrument": instrument.terms.name,
-        "fills": [fill_of(instrument, it) for it in fills[-MOST_SHOWN:]],
+        "fills": [fill_of(instrument, it) for it in fills[-MOST_TRADES:]],
         "value": value_of(instrument, member),
         "left": instrument.accounts.left_of(member),
         "gain": gain_of(instrument, member),

@@ -21,7 +21,7 @@ from callauction.venue.timekeeping import is_shift
 
 RESUME_SECONDS = 20.0
 """How long a program that is tried again is waited for, longer than it may wait for its journal."""
-FAULTS = (ProcessError, RecoveryError, OwnerError, OSError)
+BOARD_FAULTS = (ProcessError, RecoveryError, OwnerError, OSError)
 """Why a board can't be opened."""
 Begun = Callable[[Coroutine[Any, Any, None]], "asyncio.Task[None]"]
 
@@ -65,7 +65,7 @@ class Starts:
             await self._log.written()  # the program runs from then on
             await board.begin()
             board.run()
-        except FAULTS as fault:
+        except BOARD_FAULTS as fault:
             if not board.engine.is_open:
                 self.waiting[board.identity.key] = []
             board.engine.halt_by(fault)
@@ -100,7 +100,7 @@ class Starts:
                     await self.begin(board)
                     self.on_reopened()
                     board.engine.on_change()
-            except FAULTS as fault:
+            except BOARD_FAULTS as fault:
                 board.engine.halt_by(fault)
             board.commands.release_after([])
 

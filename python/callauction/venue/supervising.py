@@ -6,12 +6,12 @@ import socket
 
 from callauction.venue.lasting import going_on
 
-SOCKET, WATCHDOG = "NOTIFY_SOCKET", "WATCHDOG_USEC"
+NOTIFY_SOCKET, WATCHDOG = "NOTIFY_SOCKET", "WATCHDOG_USEC"
 
 
 def notify(text: str) -> bool:
     """Says this to the service manager: whether there is one that heard it."""
-    path = os.environ.get(SOCKET, "")
+    path = os.environ.get(NOTIFY_SOCKET, "")
     if not path.startswith(("/", "@")):
         return False
     place = "\0" + path[1:] if path.startswith("@") else path

@@ -35,9 +35,9 @@ from callauction.venue.log import SOURCE
 from callauction.venue.members import Member
 from callauction.venue.messages import MessageError, number_of, text_of
 from callauction.venue.phases import PhaseError
-from callauction.venue.robots import KINDS, MOST_ROBOTS
+from callauction.venue.robots import MOST_ROBOTS, ROBOT_KINDS
 from callauction.venue.tokens import new_code
-from callauction.venue.treatments import MOST_SECONDS, Treatment, treatment_of
+from callauction.venue.treatments import MOST_CALL_SECONDS, Treatment, treatment_of
 from callauction.venue.venue import Venue
 
 NOTICES = logging.getLogger("callauction.venue")
@@ -56,7 +56,7 @@ async def done(venue: Venue, message: dict[str, Any]) -> shown.Json:
     word = text_of(message, "do")
     try:
         with refusing():
-            act = WORDS.get(word)
+            act = TEACHER_WORDS.get(word)
             found = await (act(venue, message) if act else step(venue, word, message))
     except (MessageError, PhaseError) as fault:
         say(logging.WARNING if word == "resume" else logging.INFO, message, f" isn't done: {fault}")
@@ -108,7 +108,7 @@ async def step(venue: Venue, word: str, message: dict[str, Any]) -> shown.Json:
         raise MessageError("bad_message", f"the operator can't {word}")
     boards = venue.rounds.market_of(message.get("instrument"))
     venue.halts.check_running()
-    seconds = number_of(message, "seconds", 1, MOST_SECONDS) if word == "extend" else 0
+    seconds = number_of(message, "seconds", 1, MOST_CALL_SECONDS) if word == "extend" else 0
     seen = message.get("phase")
     if word == "start":
         await venue.values.begin_call(boards)
@@ -285,8 +285,8 @@ async def change_robots(venue: Venue, message: dict[str, Any]) -> shown.Json:
     if count == 0:
         return await removed(venue, [it for it in venue.members.all if it.robot])
     kind = text_of(message, "kind")
-    if kind not in KINDS:
-        raise MessageError("bad_message", f"kind is one of {', '.join(KINDS)}")
+    if kind not in ROBOT_KINDS:
+        raise MessageError("bad_message", f"kind is one of {', '.join(ROBOT_KINDS)}")
     return {"names": await venue.add_robots(kind, count)}
 
 
@@ -393,7 +393,7 @@ async def reset(venue: Venue, message: dict[str, Any]) -> shown.Json:
     return {}
 
 
-WORDS: Words = {
+TEACHER_WORDS: Words = {
     "reset": reset,
     "next": begin_round,
     "treat": treat,

@@ -11,7 +11,7 @@ LETTERS = "ABCDEFGHJKLMNPQRSTUVWXYZ23456789"
 """Without those that look alike."""
 CODE_LENGTH, LEAST_CODE = 6, 4
 TOKEN_BYTES = 24
-TOKEN = re.compile(r"[A-Za-z0-9_-]{32}")
+TOKEN_FORM = re.compile(r"[A-Za-z0-9_-]{32}")
 """What `new_token` makes: 24 bytes in base64, 192 bits."""
 
 
@@ -46,7 +46,7 @@ def is_same(first: str, second: str) -> bool:
 
 def is_token(content: bytes) -> bool:
     """Whether a file with this content holds a token."""
-    return bool(TOKEN.fullmatch(content.decode("ascii", "replace").removesuffix("\n")))
+    return bool(TOKEN_FORM.fullmatch(content.decode("ascii", "replace").removesuffix("\n")))
 
 
 def secret_of(folder: pathlib.Path, role: str) -> str:

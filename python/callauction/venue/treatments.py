@@ -10,7 +10,7 @@ from callauction.limits import MOST_QUANTITY
 from callauction.venue.fields import SENTENCE, TABLE, Fields
 from callauction.venue.handing import HOWS, HandError, ListedValue, Rule, rows_of
 
-MOST_SECONDS = 86_400
+MOST_CALL_SECONDS = 86_400
 BOOKS = ("closed", "open")
 Read = Callable[[str], str]
 """What gives the text of the file of values of this name. Raises ConfigError."""
@@ -79,7 +79,7 @@ def treatment_of(fields: Fields, read: Read | None) -> Treatment:
         rule=rule_of(fields, read),
         reference=fields.price("reference"),
         message=fields.sentence("message"),
-        call=fields.whole_or_none("call", 0, MOST_SECONDS),
+        call=fields.whole_or_none("call", 0, MOST_CALL_SECONDS),
         is_covered=fields.flag("covered", default.is_covered),
         has_own_trades=fields.flag("own_trades", default.has_own_trades),
         shares=fields.whole_or_none("shares", 0, MOST_QUANTITY),

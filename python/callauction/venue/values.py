@@ -11,7 +11,7 @@ from callauction.venue.members import Member, Members
 from callauction.venue.names import folded
 from callauction.venue.rounds import Round, Rounds
 
-Rows = tuple[ListedValue, ...]
+ListedRows = tuple[ListedValue, ...]
 
 
 class Values:
@@ -23,7 +23,7 @@ class Values:
         self._log, self._members, self._rounds = log, members, rounds
         self._audience = audience
         self._dealt: set[int] = set()
-        self._listed: dict[tuple[int, str], Rows] = {}
+        self._listed: dict[tuple[int, str], ListedRows] = {}
 
     @property
     def are_dealt(self) -> bool:
@@ -89,13 +89,13 @@ class Values:
             given += len(values)
         return given
 
-    def check_listed(self, market: str, rows: Rows) -> None:
+    def check_listed(self, market: str, rows: ListedRows) -> None:
         """Raises HandError where the rows of a list can't be given in a market."""
         if rows:
             tick = self._rounds.now.of_market(market)[0].terms.value_tick
             Rule("list", rows=rows).check(tick)
 
-    def keep_listed(self, market: str, rows: Rows, is_to_all: bool) -> None:
+    def keep_listed(self, market: str, rows: ListedRows, is_to_all: bool) -> None:
         """Keeps the rows of a list for those who haven't joined yet, in place of all that are kept
         where it is to all, else of those for the same names.
         """
@@ -109,7 +109,7 @@ class Values:
         lines = [dataclasses.asdict(it) for it in kept]
         self._log.note(kind="listed", round=now.number, market=market, rows=lines)
 
-    def _listed_in(self, round_: Round, market: str) -> Rows:
+    def _listed_in(self, round_: Round, market: str) -> ListedRows:
         """The rows that wait in a round: also those of the last one where values are kept, and
         those of the round's own list once it is handed out.
         """

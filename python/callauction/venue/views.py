@@ -7,7 +7,7 @@ from typing import Self
 
 from callauction.words import MARKET
 
-PRICE = re.compile(r"price (\d+) volume (\d+) surplus (\d+) (bid|ask|none)")
+INDICATED = re.compile(r"price (\d+) volume (\d+) surplus (\d+) (bid|ask|none)")
 BEST = re.compile(r"no price bid (\d+|-) ask (\d+|-)")
 DAY_SHOWN = re.compile(r"show day (\w+) reference (\d+) calls (\d+) left (\d+)$")
 
@@ -26,7 +26,7 @@ class Indication:
     @classmethod
     def of(cls, text: str) -> Self:
         """What a text of the program says, perhaps with words around it. Raises ValueError."""
-        if found := PRICE.search(text):
+        if found := INDICATED.search(text):
             return cls(int(found[1]), int(found[2]), int(found[3]), found[4])
         if found := BEST.search(text):
             bid, ask = (None if it == "-" else int(it) for it in found.groups())

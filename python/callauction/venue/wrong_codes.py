@@ -9,7 +9,7 @@ from aiohttp import web
 
 from callauction.venue.log import Log
 
-PAUSE = 1.0
+COUNT_SECONDS = 1.0
 """Seconds for which wrong codes are counted in one line."""
 
 
@@ -29,7 +29,7 @@ class WrongCodes:
             self._others += 1
         elif are_many:
             self._name, self._others, self._context = name, 0, contextvars.copy_context()
-            self._waits = asyncio.get_running_loop().call_later(PAUSE, self._write)
+            self._waits = asyncio.get_running_loop().call_later(COUNT_SECONDS, self._write)
         else:
             self._log.note(kind="wrong_code", name=name)
 
