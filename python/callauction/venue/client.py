@@ -20,7 +20,7 @@ from callauction.words import MARKET
 
 Json = dict[str, Any]
 Price = str | Decimal
-T = TypeVar("T")
+Awaited = TypeVar("Awaited")
 FIRST_PAUSE, MOST_PAUSE = 0.05, 1.0
 FINAL = ("bad_token",)
 """Errors of a hello after which no other one would do."""
@@ -334,7 +334,7 @@ class Client:
         """A client in the loop of the thread."""
         return await AsyncClient(*self._given).__aenter__()
 
-    def _wait(self, work: Coroutine[Any, Any, T]) -> T:
+    def _wait(self, work: Coroutine[Any, Any, Awaited]) -> Awaited:
         """What a coroutine comes to, in the loop of the thread."""
         return asyncio.run_coroutine_threadsafe(work, self._loop).result()
 

@@ -21,8 +21,8 @@ JOURNAL = ".journal.csv"
 MARK_SECONDS = 0.05
 """How long after an entry the log has a mark of it."""
 
-P = ParamSpec("P")
-T = TypeVar("T")
+Parameters = ParamSpec("Parameters")
+Result = TypeVar("Result")
 
 
 class Journal:
@@ -107,12 +107,14 @@ class Journal:
         names = glob.escape(self.path.name)
         return {it.name for it in self.path.parent.glob(f"{names}.cut-*")}
 
-    async def in_thread(self, work: Callable[P, T], *args: P.args, **kw: P.kwargs) -> T:
+    async def in_thread(
+        self, work: Callable[Parameters, Result], *args: Parameters.args, **kw: Parameters.kwargs
+    ) -> Result:
         """What some work comes to that takes long where there are many entries: others' orders are
         served meanwhile. Raises what it raises, and OSError where there is no thread.
         """
 
-        def done() -> T:
+        def done() -> Result:
             with ending.until_done(lambda: f"the journal of {self.name}"):
                 return work(*args, **kw)
 
