@@ -43,9 +43,9 @@ STILL_TWICE = {
         "AUDIT", "MARKET", "REFUSALS", "SIDES", "VARIABLE",
     },
     "fix": {
-        "AROUND", "CANCEL_REASONS", "CLOSE_SECONDS", "CONDITIONS", "DELETE", "ENDED", "NOTICES",
-        "OTHER", "PAUSE", "REASONS", "SESSION", "SIDES", "SOH", "SOURCE", "STATUSES", "TYPES",
-        "UNKNOWN", "USAGE",
+        "AROUND", "CANCEL_REASONS", "CLOSE_SECONDS", "CONDITIONS", "DELETE", "ENDED", "OTHER",
+        "PAUSE", "REASONS", "SESSION", "SIDES", "SOH", "SOURCE", "STATUSES", "TYPES", "UNKNOWN",
+        "USAGE",
     },
     "market": {
         "AUDIT", "BLOCK", "PLAIN",
@@ -54,7 +54,7 @@ STILL_TWICE = {
         "MOST_MARKED", "WORDS",
     },
     "venue": {
-        "CHANCE", "Json", "NOTICES", "SIDES",
+        "CHANCE", "Json", "SIDES",
     },
 }  # fmt: skip
 """By its folder in python/callauction the names of two modules that haven't got another one yet."""

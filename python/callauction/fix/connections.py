@@ -4,7 +4,6 @@ said there.
 import asyncio
 import contextlib
 import functools
-import logging
 import re
 import socket
 from collections.abc import Callable, Coroutine, Iterator, Mapping
@@ -17,11 +16,11 @@ from callauction.fix.wires import STATES, Wire
 from callauction.venue import listening
 from callauction.venue.gates import Gates
 from callauction.venue.lasting import going_on
+from callauction.venue.logger import NOTICES
 from callauction.venue.messages import ERRORS
 from callauction.venue.serving import AddressError
 from callauction.venue.venue import Venue
 
-NOTICES = logging.getLogger("callauction.venue")
 REFUSES = "Received BusinessMessageReject"
 """How what the module says begins of what a client refuses, in texts of its own."""
 REFUSED = "a Logon is refused: "

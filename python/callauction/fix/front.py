@@ -6,7 +6,6 @@ it said.
 import asyncio
 import contextlib
 import functools
-import logging
 import pathlib
 import tempfile
 from collections.abc import Callable, Coroutine
@@ -26,11 +25,11 @@ from callauction.venue.fix_terms import Terms
 from callauction.venue.book import OPERATOR
 from callauction.venue.lasting import going_on
 from callauction.venue.listening import Tls
+from callauction.venue.logger import NOTICES
 from callauction.venue.messages import MessageError
 from callauction.venue.serving import AddressError
 from callauction.venue.venue import Venue
 
-NOTICES = logging.getLogger("callauction.venue")
 TICK, PAUSE = 1.0, 0.5
 CLOSE_SECONDS = 0.5
 """How long the end waits for the last bytes."""

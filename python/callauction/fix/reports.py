@@ -1,7 +1,6 @@
 """What members are told: the entries of a board, in their order, each as soon as it is there."""
 import asyncio
 import functools
-import logging
 from collections.abc import Callable, Mapping
 
 from callauction.fix.connections import Connections
@@ -12,10 +11,10 @@ from callauction.fix.uncrosses import seen_at
 from callauction.venue.downloads import DownloadError
 from callauction.venue.book import OPERATOR
 from callauction.venue.instrument import Instrument
+from callauction.venue.logger import NOTICES
 from callauction.venue.phases import UNCROSSED
 from callauction.venue.recovery import Entry, Message
 
-NOTICES = logging.getLogger("callauction.venue")
 PAUSE = 1.0
 """Seconds until the program is asked again for what an uncross did."""
 MOST_AGE = 2

@@ -9,7 +9,6 @@ import asyncio
 import collections
 import itertools
 import json
-import logging
 import pathlib
 from collections.abc import Callable, Iterator, Mapping
 from typing import TYPE_CHECKING, NamedTuple
@@ -18,12 +17,12 @@ from callauction.fix._quickfix import Engine
 from callauction.fix.tags import Groups, Pairs, event_in, number_of, pairs_of
 from callauction.venue.fix_terms import SENT
 from callauction.venue.log import Line, Log, taking, text_of
+from callauction.venue.logger import NOTICES
 
 if TYPE_CHECKING:
     from callauction.fix.seats import Seat
     from callauction.fix.wires import Wire
 
-NOTICES = logging.getLogger("callauction.venue")
 CLOSE_PAUSE = 0.01
 MOST_AT_ONCE = 16
 """How many sessions have their turn, and how many reports wait, before the log, the program and the

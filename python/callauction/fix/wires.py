@@ -2,13 +2,13 @@
 and it takes no more than a share of the time.
 """
 import asyncio
-import logging
 import time
 from typing import TYPE_CHECKING
 
 from callauction.fix.seats import Seat
 from callauction.venue import shown
 from callauction.venue.gates import Gate
+from callauction.venue.logger import NOTICES
 from callauction.venue.members import Member
 
 if TYPE_CHECKING:
@@ -28,7 +28,6 @@ CLOSE_SECONDS = 5.0
 """How long a connection that was ended may stay where its client doesn't end it too."""
 UNREAD = f"it left more than {MOST_UNSENT} bytes unread"
 SILENT = f"it said nothing for {ANSWER_SECONDS:g} s, and its session logs on once more"
-NOTICES = logging.getLogger("callauction.venue")
 BUSY_SHARE = 4
 """How often that time passes before more is read of it."""
 

@@ -5,7 +5,6 @@ signal.signal(signal.SIGINT, signal.SIG_DFL)  # as SIGTERM and SIGHUP, until a v
 
 import argparse  # noqa: E402
 import asyncio  # noqa: E402
-import logging  # noqa: E402
 import os  # noqa: E402
 import pathlib  # noqa: E402
 import sys  # noqa: E402
@@ -21,12 +20,12 @@ from callauction.venue import remedies  # noqa: E402
 from callauction.venue.begun import OtherDayError, OtherTermsError  # noqa: E402
 from callauction.venue.checking import checked  # noqa: E402
 from callauction.venue.config import DayTerms  # noqa: E402
+from callauction.venue.logger import NOTICES  # noqa: E402
 from callauction.venue.serving import (  # noqa: E402
     Address, AddressError, Front, serve, stopped_by_signals,
 )
 from callauction.venue.venue import Venue  # noqa: E402
 
-NOTICES = logging.getLogger("callauction.venue")
 FOLDER = "class.venue"
 EPILOG = """statuses: 0 ended by SIGINT or SIGTERM; 1 a bad day file, or a log, a token or a journal
 with a fault; 2 wrong words, an address that can't be listened on, a folder in use, one or a journal

@@ -3,14 +3,13 @@ many at once as the day says, as a class behind one address has, then one every 
 comes again by a code or a token of its own isn't counted.
 """
 import dataclasses
-import logging
 import time
 from collections.abc import Callable
 
+from callauction.venue.logger import NOTICES
 from callauction.venue.messages import MessageError
 from callauction.venue.rates import Bucket, network_of
 
-NOTICES = logging.getLogger("callauction.venue")
 JOIN_SECONDS = 3.0
 """Seconds from one new member to the next of an address that has had as many as may be at once."""
 SLOW_SECONDS = 60.0

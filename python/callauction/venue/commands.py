@@ -1,6 +1,5 @@
 """What members send to an instrument: how much of it each may send, and what isn't answered yet."""
 import asyncio
-import logging
 import time
 from collections.abc import Callable, Collection, Iterable
 
@@ -11,6 +10,7 @@ from callauction.venue.book import Book
 from callauction.venue.engine import Engine
 from callauction.venue.holdings import Holding
 from callauction.venue.log import SOURCE
+from callauction.venue.logger import NOTICES
 from callauction.venue.messages import MessageError, Order
 from callauction.venue.recovery import Entry, Message
 from callauction.venue.treatments import Treatment
@@ -22,7 +22,6 @@ FULL_SHARE = 0.9
 DAY_NEARLY_FULL = (
     "%s: %s of at most %s %s, then members' are refused: `%s` of the next day may be greater"
 )
-NOTICES = logging.getLogger("callauction.venue")
 
 
 class Commands:

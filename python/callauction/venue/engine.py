@@ -7,7 +7,6 @@ another one, halts it, and so does a program that doesn't answer.
 """
 import asyncio
 import contextvars
-import logging
 import pathlib
 import re
 from collections.abc import Callable, Sequence
@@ -16,6 +15,7 @@ from typing import Any
 from callauction.venue.journal import Journal
 from callauction.venue.leftovers import Program
 from callauction.venue.log import Log
+from callauction.venue.logger import NOTICES
 from callauction.venue.messages import MessageError
 from callauction.venue.outbox import Outbox, Sent
 from callauction.venue.owned import OwnerError
@@ -27,7 +27,6 @@ from callauction.venue.runs import MOST_ENDS, RETRY_SECONDS, InUseError, Runs
 
 ENTERED = re.compile(r"(\d+): (.*)")
 NO_CALLS = ("calls are reserved for the operator", "too many commands")
-NOTICES = logging.getLogger("callauction.venue")
 HELD = "%s: its journal is in use%s"
 
 

@@ -9,14 +9,13 @@ import contextlib
 import dataclasses
 import enum
 import functools
-import logging
 import resource
 import socket
 from collections.abc import Callable, Collection, Iterable, Iterator
 
+from callauction.venue.logger import NOTICES
 from callauction.venue.turns import Turns
 
-NOTICES = logging.getLogger("callauction.venue")
 MOST_CONNECTIONS = 4096
 MOST_OF_ADDRESS = 256
 """Connections of one address on which no member, nor the operator, has said who it is."""

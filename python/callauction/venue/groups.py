@@ -1,10 +1,10 @@
 """The groups that members are in, with boards of their own, and the rounds in which these go on."""
 import asyncio
 import contextlib
-import logging
 
 from callauction.venue.gains import Value
 from callauction.venue.instrument import Instrument
+from callauction.venue.logger import NOTICES
 from callauction.venue.members import Member
 from callauction.venue.messages import MessageError
 from callauction.venue.parts import Parts
@@ -13,7 +13,6 @@ from callauction.venue.rounds import by_side, dealt, is_even, small
 from callauction.venue.starts import Starts
 from callauction.venue.treatments import Treatment
 
-NOTICES = logging.getLogger("callauction.venue")
 LATE = "%s joined late: group %s has %s of %s members, until the next round deals all anew"
 
 

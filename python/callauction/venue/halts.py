@@ -1,8 +1,8 @@
 """Why a venue has halted, and what is said of it, and of its instruments, on standard error."""
-import logging
 from collections.abc import Callable
 
 from callauction.venue.log import Log
+from callauction.venue.logger import NOTICES
 from callauction.venue.messages import MessageError
 from callauction.venue.process import IN_USE
 
@@ -11,7 +11,6 @@ WHAT_TO_DO = {"journal failed": MAKE_ROOM, IN_USE: "end the process that has it,
 """What to do by what the program says where its journal can't be written, or is another's."""
 PUT_BACK = "put the right file back, then `resume`"
 LATER = "the venue has halted; this is done once it goes on"
-NOTICES = logging.getLogger("callauction.venue")
 
 
 class Halts:

@@ -1,13 +1,12 @@
 """What the head of each answer has, also where a request is none and aiohttp answers by itself."""
 import asyncio
-import logging
 from typing import Any
 
 from aiohttp import web
 
 from callauction.venue.gates import IDLE_SECONDS
+from callauction.venue.logger import NOTICES
 
-NOTICES = logging.getLogger("callauction.venue")
 HEADERS = {
     "Content-Security-Policy": "default-src 'none'; script-src 'self'; style-src 'self'; "
     "img-src 'self' data:; connect-src 'self'; base-uri 'none'; form-action 'none'; "

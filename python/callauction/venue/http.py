@@ -4,7 +4,6 @@ at all.
 import asyncio
 import contextlib
 import dataclasses
-import logging
 import pathlib
 from collections.abc import Awaitable, Callable
 from typing import Any
@@ -20,6 +19,7 @@ from callauction.venue.connection import connect, packed
 from callauction.venue.gates import BODY_SECONDS, Gates
 from callauction.venue.instrument import Instrument
 from callauction.venue.log import SOURCE
+from callauction.venue.logger import NOTICES
 from callauction.venue.members import Member
 from callauction.venue.messages import MessageError
 from callauction.venue.phases import PhaseError
@@ -28,7 +28,6 @@ from callauction.venue.venue import Venue
 from callauction.venue.wrong_codes import WrongCodes
 
 Handler = Callable[[web.Request], Awaitable[web.StreamResponse]]
-NOTICES = logging.getLogger("callauction.venue")
 HERE = pathlib.Path(__file__).resolve().parent
 TYPES = {
     ".html": "text/html",

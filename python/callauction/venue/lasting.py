@@ -2,10 +2,9 @@
 on.
 """
 import contextlib
-import logging
 from collections.abc import Iterator
 
-NOTICES = logging.getLogger("callauction.venue")
+from callauction.venue.logger import NOTICES
 
 
 @contextlib.contextmanager

@@ -2,17 +2,16 @@
 import asyncio
 import dataclasses
 import errno
-import logging
 import socket
 import ssl
 from collections.abc import Callable
 
 from callauction.venue.gates import HEAD_SECONDS, Gate, Gates
 from callauction.venue.lasting import going_on
+from callauction.venue.logger import NOTICES
 from callauction.venue.passing import Passed, Secured
 from callauction.venue.rates import network_of
 
-NOTICES = logging.getLogger("callauction.venue")
 SWEEP_SECONDS = 0.5
 BACKLOG = 1024
 ACCEPT_PAUSE = 0.1

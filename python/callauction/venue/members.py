@@ -5,19 +5,18 @@ A member's `name` is the one by which it joined, which the log has; its `title` 
 import asyncio
 import collections
 import dataclasses
-import logging
 from collections.abc import Mapping
 
 from callauction.venue import arrivals, config, fields, tokens
 from callauction.venue.arrivals import Arrivals
 from callauction.venue.codes import Codes
 from callauction.venue.log import Line, Log
+from callauction.venue.logger import NOTICES
 from callauction.venue.messages import MessageError
 from callauction.venue.names import folded, is_role, is_seen, tidy
 from callauction.venue.rates import Bucket
 from callauction.venue.recovery import Entry
 
-NOTICES = logging.getLogger("callauction.venue")
 HELLO_RATE, HELLO_BURST = 2.0, 20
 """How often a member may say who it is, or come again by its code, a second and at once."""
 UNSEEN = "a name has a letter or a digit, few marks on one letter, and nothing that isn't drawn"

@@ -3,7 +3,6 @@ have its journal still.
 """
 import asyncio
 import contextlib
-import logging
 import operator
 import pathlib
 from collections.abc import Callable, Sequence
@@ -12,11 +11,11 @@ from callauction.statuses import FAILED
 from callauction.venue import leftovers
 from callauction.venue.journal import JOURNAL, Journal
 from callauction.venue.leftovers import Program
+from callauction.venue.logger import NOTICES
 from callauction.venue.owned import OwnerError
 from callauction.venue.process import IN_USE, Process, ProcessError
 from callauction.venue.recovery import Entry, Mark, RecoveryError, RolledBackError, first_of
 
-NOTICES = logging.getLogger("callauction.venue")
 CUT_OFF = "%s: the end of its journal was no whole line, and was put aside: %s has it"
 LEFT = "%s: process %s, the program of the last run, has its journal and doesn't end: it was ended"
 MOST_ENDS = 8

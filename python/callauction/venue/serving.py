@@ -3,7 +3,6 @@ import asyncio
 import dataclasses
 import functools
 import gc
-import logging
 import os
 import pathlib
 import signal
@@ -22,6 +21,7 @@ from callauction.venue import addresses, ending, gates, listening, notices, owne
 from callauction.venue.begun import date_of
 from callauction.venue.heads import GRACE, ConnectionHandler
 from callauction.venue.http import Site
+from callauction.venue.logger import NOTICES
 from callauction.venue.process import kill_all
 from callauction.venue.venue import Venue
 
@@ -47,9 +47,6 @@ END_SECONDS = 4.5
 """How long after a signal the venue ends, whatever hangs."""
 ENDING = (signal.SIGHUP, signal.SIGINT, signal.SIGTERM)
 """The signals that may come once more while it ends."""
-
-
-NOTICES = logging.getLogger("callauction.venue")
 
 
 class AddressError(ValueError):

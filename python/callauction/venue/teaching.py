@@ -32,6 +32,7 @@ from callauction.venue.fields import SENTENCE, ConfigError, Fields, flaw_of
 from callauction.venue.handing import HOWS, SIDES, HandError, ListedValue, Rule, named, rows_of
 from callauction.venue.instrument import Instrument
 from callauction.venue.log import SOURCE
+from callauction.venue.logger import NOTICES
 from callauction.venue.members import Member
 from callauction.venue.messages import MessageError, number_of, text_of
 from callauction.venue.phases import PhaseError
@@ -40,7 +41,6 @@ from callauction.venue.tokens import new_code
 from callauction.venue.treatments import MOST_CALL_SECONDS, Treatment, treatment_of
 from callauction.venue.venue import Venue
 
-NOTICES = logging.getLogger("callauction.venue")
 MOST_ROUNDS = 10_000
 STEPS = {
     "start": Auctions.start_call,

@@ -1,15 +1,14 @@
 """The time of a venue: by how much the machine's clock was set, before its start and since, and
 which calls ended while those who take part were away.
 """
-import logging
 import math
 from collections.abc import Iterable
 
 from callauction.venue import clock
 from callauction.venue.instrument import Instrument
 from callauction.venue.log import Line, Log, taking
+from callauction.venue.logger import NOTICES
 
-NOTICES = logging.getLogger("callauction.venue")
 LEAST_BEHIND = 1.0
 """From how many seconds on a clock was set back since the log's last line."""
 BEHIND = "the clock is %s s behind the log's last line: calls go on with what was left of them then"

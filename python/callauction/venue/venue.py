@@ -4,7 +4,6 @@ trades and replies are those of the programs.
 import asyncio
 import contextlib
 import functools
-import logging
 import pathlib
 from collections.abc import Awaitable, Callable, Coroutine, Iterator
 from typing import Any
@@ -18,6 +17,7 @@ from callauction.venue.instrument import Instrument
 from callauction.venue.lasting import going_on
 from callauction.venue.leaving import Removal
 from callauction.venue.log import VERSION, Log, check_version
+from callauction.venue.logger import NOTICES
 from callauction.venue.members import Done, Member, Members, NameTakenError
 from callauction.venue.messages import MessageError, Order
 from callauction.venue.parts import Parts
@@ -30,7 +30,6 @@ from callauction.venue.starts import Starts, starting
 from callauction.venue.timekeeping import Timekeeper
 from callauction.venue.values import Values
 
-NOTICES = logging.getLogger("callauction.venue")
 LOOK_SECONDS = 5.0
 """How often the venue looks whether others have changed a journal that its program writes."""
 CLOSE_SECONDS, LOG_SECONDS = 3.25, 0.5
