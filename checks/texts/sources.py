@@ -54,7 +54,7 @@ STILL_TWICE = {
         "MOST_MARKED", "WORDS",
     },
     "venue": {
-        "CHANCE", "Json", "SIDES",
+        "CHANCE", "SIDES",
     },
 }  # fmt: skip
 """By its folder in python/callauction the names of two modules that haven't got another one yet."""

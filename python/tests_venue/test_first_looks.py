@@ -16,13 +16,13 @@ from callauction.venue import results
 from callauction.venue.config import DayTerms, InstrumentTerms, Plan
 from callauction.venue.gates import Gates
 from callauction.venue.instrument import Instrument
+from callauction.venue.json_types import Json
 from callauction.venue.members import Member
 from callauction.venue.messages import TOPICS, MessageError
 from callauction.venue.metrics import Measures, halts_of
 from callauction.venue.phases import Phase
 from callauction.venue.process import ProcessError
 from callauction.venue.rounds import Round
-from callauction.venue.shown import Json
 from callauction.venue.venue import Venue
 from conftest import FAST
 from test_operations import looked, measured

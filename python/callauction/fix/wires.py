@@ -6,8 +6,8 @@ import time
 from typing import TYPE_CHECKING
 
 from callauction.fix.seats import Seat
-from callauction.venue import shown
 from callauction.venue.gates import Gate
+from callauction.venue.json_types import Json
 from callauction.venue.logger import NOTICES
 from callauction.venue.members import Member
 
@@ -128,7 +128,7 @@ class Wire(asyncio.Protocol):
         elif self._is_left:
             asyncio.get_running_loop().call_soon(self.go_on)
 
-    def offer(self, key: str, message: shown.Json) -> None:
+    def offer(self, key: str, message: Json) -> None:
         """Says that a board has changed; all else are messages of the session."""
         if self.seat is not None and message.get("type") == "state":
             self.seat.feeds.new.add(message["instrument"])

@@ -4,6 +4,7 @@ from collections.abc import Iterator
 from callauction.venue import clock, config, shown
 from callauction.venue.halts import Halts
 from callauction.venue.instrument import Instrument
+from callauction.venue.json_types import Json
 from callauction.venue.log import Log
 from callauction.venue.members import Member, Members
 from callauction.venue.paid import Paid
@@ -52,7 +53,7 @@ class Audience:
 
     # ---- a board
 
-    def state_of(self, instrument: Instrument) -> shown.Json:
+    def state_of(self, instrument: Instrument) -> Json:
         """What everybody may see of an instrument."""
         state = shown.state_of(instrument, clock.now())
         return state | ({"halted": why} if (why := self._halts.halted) else {})
@@ -170,7 +171,7 @@ class Audience:
             if watcher.member is None:
                 watcher.offer("beamer", screen)
 
-    def welcome_of(self, watcher: Watcher) -> shown.Json:
+    def welcome_of(self, watcher: Watcher) -> Json:
         """What is answered to a hello: who this is, the greatest number of its messages so far, and
         the boards that it sees.
         """

@@ -16,9 +16,9 @@ from typing import Any, Self, TypeVar
 
 import aiohttp
 
+from callauction.venue.json_types import Json
 from callauction.words import MARKET
 
-Json = dict[str, Any]
 Price = str | Decimal
 Awaited = TypeVar("Awaited")
 FIRST_PAUSE, MOST_PAUSE = 0.05, 1.0

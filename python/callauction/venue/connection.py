@@ -10,9 +10,10 @@ from typing import Any
 
 from aiohttp import WSCloseCode, WSMessage, WSMsgType, web
 
-from callauction.venue import messages, shown
+from callauction.venue import messages
 from callauction.venue.frames import Socket
 from callauction.venue.gates import Gate, Gates
+from callauction.venue.json_types import Json
 from callauction.venue.members import Member
 from callauction.venue.messages import MessageError
 from callauction.venue.rates import Bucket
@@ -41,18 +42,18 @@ def read(text: str) -> tuple[dict[str, Any], MessageError | None]:
         return {}, fault
 
 
-def packed(message: shown.Json) -> str:
+def packed(message: Json) -> str:
     """A message as it is sent."""
     return json.dumps(message, ensure_ascii=False, separators=(",", ":"))
 
 
-def error_of(fault: MessageError, number: int | None) -> shown.Json:
+def error_of(fault: MessageError, number: int | None) -> Json:
     """What is answered to a message that wasn't done."""
     found: dict[str, Any] = {"type": "error", "error": fault.code, "text": fault.text}
     return found if number is None else found | {"number": number}
 
 
-def answer_of(number: int, entry: Entry, is_again: bool) -> shown.Json:
+def answer_of(number: int, entry: Entry, is_again: bool) -> Json:
     """What is answered to a message that was done."""
     return {
         "type": "answer",
@@ -78,8 +79,8 @@ class Connection:
         self.role = ""
         self.member: Member | None = None
         self.topics: frozenset[str] = frozenset()
-        self._answers: collections.deque[shown.Json] = collections.deque()
-        self._shown: dict[str, shown.Json] = {}
+        self._answers: collections.deque[Json] = collections.deque()
+        self._shown: dict[str, Json] = {}
         self._wakes = asyncio.Event()
         self._room = asyncio.Semaphore(MOST_UNANSWERED)
         self._code: str | None = None
@@ -88,12 +89,12 @@ class Connection:
 
     # ---- what it is sent
 
-    def offer(self, key: str, message: shown.Json) -> None:
+    def offer(self, key: str, message: Json) -> None:
         """Shows a message, unless a later one with its key comes before it is sent."""
         self._shown[key] = message
         self._wakes.set()
 
-    def answer(self, message: shown.Json) -> None:
+    def answer(self, message: Json) -> None:
         """Answers a message, whose place among those that are open is free once it is sent."""
         self._answers.append(message)
         self._wakes.set()
@@ -220,7 +221,7 @@ class Connection:
         answer.add_done_callback(lambda it: self._answered(order.number, it, is_again))
         return True
 
-    def _pinged(self, message: shown.Json) -> bool:
+    def _pinged(self, message: Json) -> bool:
         """Answers a sign of life. Raises MessageError."""
         if message.keys() != {"type"}:
             raise MessageError("bad_message", "a ping has no more than its type")

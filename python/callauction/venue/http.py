@@ -18,6 +18,7 @@ from callauction.venue.arrivals import JOIN_SECONDS
 from callauction.venue.connection import connect, packed
 from callauction.venue.gates import BODY_SECONDS, Gates
 from callauction.venue.instrument import Instrument
+from callauction.venue.json_types import Json
 from callauction.venue.log import SOURCE
 from callauction.venue.logger import NOTICES
 from callauction.venue.members import Member
@@ -393,7 +394,7 @@ def not_made(what: str, fault: downloads.DownloadError) -> MessageError:
     return MessageError("not_made", str(fault))
 
 
-def answered(message: shown.Json) -> web.Response:
+def answered(message: Json) -> web.Response:
     """An answer."""
     return web.Response(text=packed(message), content_type="application/json")
 

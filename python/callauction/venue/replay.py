@@ -8,6 +8,7 @@ from collections.abc import Iterable, Iterator, Sequence
 from callauction.venue import downloads, ending, shown, views
 from callauction.venue.downloads import DownloadError
 from callauction.venue.instrument import Instrument
+from callauction.venue.json_types import Json
 from callauction.venue.phases import UNCROSSED
 from callauction.venue.process import LISTED
 
@@ -17,16 +18,14 @@ ASKED = ("show", "show,ladder")
 BookRows = list[dict[str, str]]
 
 
-async def replay_of(
-    instrument: Instrument, program: str, number: int | None = None
-) -> shown.Json:
+async def replay_of(instrument: Instrument, program: str, number: int | None = None) -> Json:
     """An auction that ended, by its number from 1, else the last one: its books, one by one, and
     the last of them with the rule that made its price; no books before the first auction has ended.
     Raises DownloadError.
     """
     entries = entries_of(instrument)
     ends = [place for place, (_, reply) in enumerate(entries) if UNCROSSED.match(reply)]
-    found: shown.Json = {
+    found: Json = {
         "type": "replay",
         "instrument": instrument.terms.name,
         "auctions": len(ends),  # that have ended
@@ -88,9 +87,7 @@ async def output(words: Sequence[str], records: Iterable[str]) -> list[str]:
     return await asyncio.to_thread(printed.decode("ascii").splitlines)
 
 
-def frames_of(
-    instrument: Instrument, said: Sequence[str], entries: Sequence[int]
-) -> list[shown.Json]:
+def frames_of(instrument: Instrument, said: Sequence[str], entries: Sequence[int]) -> list[Json]:
     """The indications and the books of a session's lines, by the places of their entries."""
     shows = shows_of(said)
     frames = []
@@ -114,11 +111,11 @@ def shows_of(said: Sequence[str]) -> Iterator[list[str]]:
             yield [line, *(next(lines) for _ in range(int(listed[1]) if listed else 0))]
 
 
-def book_of(instrument: Instrument, rows: BookRows, reference: int) -> shown.Json:
+def book_of(instrument: Instrument, rows: BookRows, reference: int) -> Json:
     """A book as the program prints it, the highest limit first: what is bid and asked at market and
     at each limit, what that comes to, which limits are best, the price and the rule that made it.
     """
-    found: shown.Json = {
+    found: Json = {
         "reference": shown.price_of(instrument, reference),
         "market": {"bid": 0, "ask": 0},
         "levels": [],
@@ -131,7 +128,7 @@ def book_of(instrument: Instrument, rows: BookRows, reference: int) -> shown.Jso
             found["market"] = {side: int(row[side]) for side in ("bid", "ask")}
             continue
         price = shown.price_of(instrument, int(row["limit"]))
-        level: shown.Json = {"price": price, "side": row["side"], "is_best": row["best"] == "1"}
+        level: Json = {"price": price, "side": row["side"], "is_best": row["best"] == "1"}
         found["levels"].append(level | {name: int(row[name]) for name in counts})
         if row["price"]:
             found["price"], found["rule"] = price, row["price"]

@@ -13,7 +13,6 @@ import re
 import sys
 from collections.abc import Callable, Sequence
 from decimal import Decimal
-from typing import Any
 
 import pandas
 
@@ -23,8 +22,8 @@ from callauction.program import Day
 from callauction.reasons import explain
 from callauction.tables import audit_of, book_at, books_of
 from callauction.venue import german, sheets
+from callauction.venue.json_types import Json
 
-Json = dict[str, Any]
 Part = tuple[str, str]
 """A section: its heading and its HTML."""
 PRICED = re.compile(r"(opening|intraday|closing|interrupted) price (\d+) volume (\d+)")

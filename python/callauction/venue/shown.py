@@ -1,18 +1,17 @@
 """What is shown of an instrument, as JSON: prices as decimal texts, quantities in shares."""
 from collections.abc import Callable, Container, Iterable
-from typing import Any
 
 from callauction.venue.accounts import Fill
 from callauction.venue.arrivals import last_of
 from callauction.venue.auctions import trades_in
 from callauction.venue.instrument import Instrument
+from callauction.venue.json_types import Json
 from callauction.venue.members import Member, Members
 from callauction.venue.results import Payoff
 from callauction.venue.rounds import Round, Rounds, small
 from callauction.venue.treatments import Treatment
 from callauction.venue.views import Indication, Trade
 
-Json = dict[str, Any]
 UNKNOWN: Json = dict.fromkeys(("phase", "auction"), "unknown") | dict.fromkeys(
     ("ends", "latest", "reference", "indication", "results", "trades", "left")
     + ("calls_left_to_members",)

@@ -1,5 +1,6 @@
 """What is shown of the round of a venue, and to the operator of others and of late calls."""
 from callauction.venue import config, shown
+from callauction.venue.json_types import Json
 from callauction.venue.rounds import Rounds
 from callauction.venue.watchers import Watcher, Watchers
 
@@ -37,7 +38,7 @@ class Standing:
             found["halts"] = [shown.halt_of(it, why) for it, why in self._rounds.early_halts]
         watcher.offer("round", found)
 
-    def _late_shown(self) -> list[shown.Json]:
+    def _late_shown(self) -> list[Json]:
         """What is said of calls whose end had passed as the venue, or their board, began, and what
         comes of them, until something does.
         """

@@ -26,11 +26,11 @@ from collections.abc import Awaitable, Callable, Container, Iterator
 from typing import Any
 
 from callauction.limits import MOST_QUANTITY
-from callauction.venue import shown
 from callauction.venue.auctions import Auctions
 from callauction.venue.fields import SENTENCE, ConfigError, Fields, flaw_of
 from callauction.venue.handing import HOWS, SIDES, HandError, ListedValue, Rule, named, rows_of
 from callauction.venue.instrument import Instrument
+from callauction.venue.json_types import Json
 from callauction.venue.log import SOURCE
 from callauction.venue.logger import NOTICES
 from callauction.venue.members import Member
@@ -48,10 +48,10 @@ STEPS = {
     "freeze": Auctions.freeze,
     "thaw": Auctions.thaw,
 }
-Words = dict[str, Callable[[Venue, dict[str, Any]], Awaitable[shown.Json]]]
+Words = dict[str, Callable[[Venue, dict[str, Any]], Awaitable[Json]]]
 
 
-async def done(venue: Venue, message: dict[str, Any]) -> shown.Json:
+async def done(venue: Venue, message: dict[str, Any]) -> Json:
     """Does what is asked for. Raises MessageError and PhaseError."""
     word = text_of(message, "do")
     try:
@@ -75,7 +75,7 @@ def refusing() -> Iterator[None]:
         raise MessageError("bad_message", str(fault)) from None
 
 
-def told(found: shown.Json) -> str:
+def told(found: Json) -> str:
     """What became of the orders of members who were removed, or the name of one who was renamed;
     else empty.
     """
@@ -100,7 +100,7 @@ def say(level: int, message: dict[str, Any], outcome: str = "") -> None:
 # ---- the auctions
 
 
-async def step(venue: Venue, word: str, message: dict[str, Any]) -> shown.Json:
+async def step(venue: Venue, word: str, message: dict[str, Any]) -> Json:
     """Goes on with the auction of all groups of a market in which that can be done. Raises
     MessageError and PhaseError.
     """
@@ -142,7 +142,7 @@ def check_seen(board: Instrument, seen: object) -> None:
 # ---- the rounds
 
 
-async def begin_round(venue: Venue, message: dict[str, Any]) -> shown.Json:
+async def begin_round(venue: Venue, message: dict[str, Any]) -> Json:
     """Begins the next round: that of the day, or one that the message says. Raises MessageError,
     PhaseError, ConfigError, HandError.
     """
@@ -156,7 +156,7 @@ async def begin_round(venue: Venue, message: dict[str, Any]) -> shown.Json:
     return {"round": number}
 
 
-async def treat(venue: Venue, message: dict[str, Any]) -> shown.Json:
+async def treat(venue: Venue, message: dict[str, Any]) -> Json:
     """Makes this round another one, before its first call; its reference stays, and its values
     where the round has handed them out. Raises what `begin_round` raises.
     """
@@ -178,7 +178,7 @@ def treatment_of_message(table: object) -> Treatment:
     return treatment_of(Fields("round", table), None)
 
 
-async def announce(venue: Venue, message: dict[str, Any]) -> shown.Json:
+async def announce(venue: Venue, message: dict[str, Any]) -> Json:
     """Says something to all. Raises MessageError."""
     text = text_of(message, "text")
     if not SENTENCE.fullmatch(text):
@@ -191,19 +191,19 @@ async def announce(venue: Venue, message: dict[str, Any]) -> shown.Json:
 # ---- what is shown
 
 
-async def show(venue: Venue, message: dict[str, Any]) -> shown.Json:
+async def show(venue: Venue, message: dict[str, Any]) -> Json:
     """Chooses what the screen shows. Raises MessageError."""
     venue.audience.show_on_beamer(text_of(message, "shows"))
     return {}
 
 
-async def show_payoffs(venue: Venue, message: dict[str, Any]) -> shown.Json:
+async def show_payoffs(venue: Venue, message: dict[str, Any]) -> Json:
     """Chooses what members see of payoffs. Raises MessageError."""
     venue.audience.show_paid(text_of(message, "shows"))
     return {}
 
 
-async def resume(venue: Venue, message: dict[str, Any]) -> shown.Json:
+async def resume(venue: Venue, message: dict[str, Any]) -> Json:
     """Tries again what had halted, of one instrument where the message names it, and says what had.
     Raises MessageError where it halts again.
     """
@@ -215,7 +215,7 @@ async def resume(venue: Venue, message: dict[str, Any]) -> shown.Json:
 # ---- members
 
 
-async def new_code_of(venue: Venue, message: dict[str, Any]) -> shown.Json:
+async def new_code_of(venue: Venue, message: dict[str, Any]) -> Json:
     """A code by which a member can come again, from another telephone; or another code of the day,
     where the message names no member. Raises MessageError.
     """
@@ -228,7 +228,7 @@ async def new_code_of(venue: Venue, message: dict[str, Any]) -> shown.Json:
     return {"code": code}
 
 
-async def open_door(venue: Venue, message: dict[str, Any]) -> shown.Json:
+async def open_door(venue: Venue, message: dict[str, Any]) -> Json:
     """Lets new members join, or no more. Raises MessageError."""
     is_open = message.get("open")
     if not isinstance(is_open, bool):
@@ -238,7 +238,7 @@ async def open_door(venue: Venue, message: dict[str, Any]) -> shown.Json:
     return {}
 
 
-async def remove(venue: Venue, message: dict[str, Any]) -> shown.Json:
+async def remove(venue: Venue, message: dict[str, Any]) -> Json:
     """Removes a member, or some, with their open orders. Raises MessageError."""
     venue.halts.check_running()
     titles = texts_of(message, "members") if "members" in message else [message.get("member")]
@@ -249,7 +249,7 @@ async def remove(venue: Venue, message: dict[str, Any]) -> shown.Json:
     return await removed(venue, members)
 
 
-async def removed(venue: Venue, members: list[Member]) -> shown.Json:
+async def removed(venue: Venue, members: list[Member]) -> Json:
     """Removes members: how many, and their orders that were deleted; the instruments that have
     halted, where they are once these go on.
     """
@@ -262,7 +262,7 @@ async def removed(venue: Venue, members: list[Member]) -> shown.Json:
     return {"removed": len(members), "deleted": deleted} | halted
 
 
-async def readmit(venue: Venue, message: dict[str, Any]) -> shown.Json:
+async def readmit(venue: Venue, message: dict[str, Any]) -> Json:
     """Lets a member that was removed come again by a new code: the code. Raises MessageError."""
     member = venue.members.called(message.get("member"))
     if not member.is_removed:
@@ -270,7 +270,7 @@ async def readmit(venue: Venue, message: dict[str, Any]) -> shown.Json:
     return {"code": await venue.readmit(member)}
 
 
-async def rename(venue: Venue, message: dict[str, Any]) -> shown.Json:
+async def rename(venue: Venue, message: dict[str, Any]) -> Json:
     """Gives a member another name. Raises MessageError."""
     member = venue.members.called(message.get("member"))
     venue.members.rename(member, text_of(message, "name"))
@@ -279,7 +279,7 @@ async def rename(venue: Venue, message: dict[str, Any]) -> shown.Json:
     return {"name": member.title}
 
 
-async def change_robots(venue: Venue, message: dict[str, Any]) -> shown.Json:
+async def change_robots(venue: Venue, message: dict[str, Any]) -> Json:
     """Adds robots, or removes all of them where their count is 0. Raises MessageError."""
     count = number_of(message, "count", 0, MOST_ROBOTS)
     if count == 0:
@@ -293,7 +293,7 @@ async def change_robots(venue: Venue, message: dict[str, Any]) -> shown.Json:
 # ---- values
 
 
-async def give(venue: Venue, message: dict[str, Any]) -> shown.Json:
+async def give(venue: Venue, message: dict[str, Any]) -> Json:
     """Hands out values: to all (`to` is "all"), to those who have none ("new"), or to those that a
     list or `members` names ("named"); answers which names of a list nobody has, whose values are
     kept until somebody has them. Who would lose a value needs `replace`. Raises MessageError, and
@@ -387,7 +387,7 @@ def rows_of_message(message: dict[str, Any]) -> tuple[ListedValue, ...]:
     return tuple(found)
 
 
-async def reset(venue: Venue, message: dict[str, Any]) -> shown.Json:
+async def reset(venue: Venue, message: dict[str, Any]) -> Json:
     """Begins a session by FIX anew, whose client has lost its numbers. Raises MessageError."""
     await venue.reset_session(text_of(message, "session"))
     return {}

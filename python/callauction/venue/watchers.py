@@ -1,7 +1,7 @@
 """Who is connected to a venue, as what is shown reaches it."""
 from typing import Protocol
 
-from callauction.venue import shown
+from callauction.venue.json_types import Json
 from callauction.venue.members import Member
 
 
@@ -16,7 +16,7 @@ class Watcher(Protocol):
     def is_leaving(self) -> bool:
         """Whether the connection is to end."""
 
-    def offer(self, key: str, message: shown.Json) -> None:
+    def offer(self, key: str, message: Json) -> None:
         """Shows a message, unless a later one with its key comes before it is sent."""
 
     def leave(self, code: str) -> None:
