@@ -39,9 +39,6 @@ LIMITS = {
     268_435_456: "the most bytes of a journal",
 }
 STILL_TWICE = {
-    "": {
-        "AUDIT", "MARKET", "REFUSALS", "SIDES", "VARIABLE",
-    },
     "fix": {
         "AROUND", "CANCEL_REASONS", "CLOSE_SECONDS", "CONDITIONS", "DELETE", "ENDED", "OTHER",
         "PAUSE", "REASONS", "SESSION", "SIDES", "SOH", "SOURCE", "STATUSES", "TYPES", "UNKNOWN",
@@ -54,7 +51,7 @@ STILL_TWICE = {
         "MOST_MARKED", "WORDS",
     },
     "venue": {
-        "CHANCE", "SIDES",
+        "CHANCE",
     },
 }  # fmt: skip
 """By its folder in python/callauction the names of two modules that haven't got another one yet."""

@@ -69,7 +69,7 @@ from callauction.written import fields_of, text_of
 EVENTS = ("new", "replace", "cancel", "uncross", "trade")
 SHARED = MOST_MEMBERS - 1
 """The numbers that members have; more members share them. Number 0 is the operator's."""
-SIDES = {"bid": Side.BID, "buy": Side.BID, "ask": Side.ASK, "sell": Side.ASK}
+FRAME_SIDES = {"bid": Side.BID, "buy": Side.BID, "ask": Side.ASK, "sell": Side.ASK}
 RESTRICTIONS = {"opening": Restriction.OPENING_ONLY, "closing": Restriction.CLOSING_ONLY}
 RESULTS = (*AUCTIONS, "interrupted")
 COLUMNS = (
@@ -244,7 +244,7 @@ class Journal:
         attrs = found.attrs
         for column in ("recorded", "lawful"):
             found[column] = [self.translated(text) for text in found[column]]
-        joined = found.join(self.entries, on="entry")[[*AUDIT]]
+        joined = found.join(self.entries, on="entry")[[*FRAME_AUDIT]]
         joined.attrs.update(attrs)
         return joined
 
@@ -267,7 +267,7 @@ class Journal:
         return limit if limit == "-" else str(self.grid.price(int(limit)))
 
 
-AUDIT = ("entry", "row", "time", "event", "order", "member", "recorded", "lawful")
+FRAME_AUDIT = ("entry", "row", "time", "event", "order", "member", "recorded", "lawful")
 """The columns of an audit, in the ids and prices of the frame."""
 _BESTS = re.compile(r"no price bid (\d+|-) ask (\d+|-)")
 _TICK = re.compile(r"\b(price|at) (\d+)")
@@ -308,7 +308,7 @@ class _Conversion:
         order, member = row.name("order"), row.name("member")
         if order in self.orders:
             raise row.fault("order", f"was entered before, in row {self.orders[order][2]}")
-        side = SIDES[row.word("side", SIDES)]
+        side = FRAME_SIDES[row.word("side", FRAME_SIDES)]
         restriction = Restriction.NONE
         if row.get("restriction") is not None:
             restriction = RESTRICTIONS[row.word("restriction", RESTRICTIONS)]
@@ -369,7 +369,7 @@ class _Conversion:
             return ""
         side = "none"
         if surplus:
-            side = SIDES[row.word("side", SIDES)].name.lower()
+            side = FRAME_SIDES[row.word("side", FRAME_SIDES)].name.lower()
         return f"price {tick} volume {volume} surplus {surplus} {side}"
 
     def _trade(self, row: FrameRow) -> None:

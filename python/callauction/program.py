@@ -15,7 +15,6 @@ FORMS = ("lines", "journal", "trades", "book")
 """The forms in which a day is printed (docs/FORMATS.md)."""
 OPTIONS = ("low", "high", "reference", "members", "open", "calls", "range")
 """What an order file's day is opened with, in the order of a day record."""
-VARIABLE = finder.VARIABLE
 NO_JOURNAL = "record 1: not a day record"
 
 

@@ -35,9 +35,9 @@ from callauction.words import (
     Uncrossed,
 )
 
-SIDES = tuple(Side)
+SIDES_BY_NUMBER = tuple(Side)
 """By its number, the side that a reply names."""
-KINDS, REFUSALS = tuple(AuctionKind), tuple(map(Refused, Refusal))
+KINDS_BY_NUMBER, REFUSALS_BY_NUMBER = tuple(AuctionKind), tuple(map(Refused, Refusal))
 """By its number less 1, the auction or the refusal that a reply names."""
 _REFUSED, _UNCROSSED = int(ReplyTag.REFUSED), int(ReplyTag.UNCROSSED)
 
@@ -128,7 +128,7 @@ def price(reply: Any) -> Price:
     made.tick = reply.tick
     made.volume = reply.volume
     made.surplus = reply.surplus
-    made.side = SIDES[reply.side]
+    made.side = SIDES_BY_NUMBER[reply.side]
     made.__class__ = Price
     found: Price = made
     return found
@@ -141,12 +141,12 @@ def _no_price(reply: Any) -> NoPrice:
 
 def _open_order(reply: Any) -> OpenOrder:
     limit = reply.tick if reply.has_tick else None
-    return OpenOrder(SIDES[reply.side], reply.quantity, limit, reply.visible)
+    return OpenOrder(SIDES_BY_NUMBER[reply.side], reply.quantity, limit, reply.visible)
 
 
 def _uncrossed(reply: Any) -> Uncrossed:
     found = price(reply) if reply.has_tick else None
-    return Uncrossed(KINDS[reply.auction - 1], found, reply.trades)
+    return Uncrossed(KINDS_BY_NUMBER[reply.auction - 1], found, reply.trades)
 
 
 def _no_reply(reply: Any) -> Reply:
@@ -164,7 +164,7 @@ _READERS: tuple[Callable[[Any], Reply], ...] = (
     lambda reply: Traded(reply.id, reply.ask, reply.quantity, reply.tick),
     _uncrossed,
     lambda reply: Interrupted(price(reply)),
-    lambda reply: REFUSALS[int(reply.refusal) - 1],
+    lambda reply: REFUSALS_BY_NUMBER[int(reply.refusal) - 1],
 )
 """By its tag, what reads a reply of the library."""
 
@@ -187,7 +187,7 @@ def not_entered(answer: int, check: bool) -> Refused:
         raise error_of(-lib.PYTHON_ERROR - answer)
     if check:
         raise RefusedError(Refusal(-answer))
-    return REFUSALS[-answer - 1]
+    return REFUSALS_BY_NUMBER[-answer - 1]
 
 
 def reply_of(record: numpy.void) -> Reply:
@@ -201,11 +201,11 @@ def reply_of(record: numpy.void) -> Reply:
     if not isinstance(record, numpy.void) or record.dtype != REPLY:
         raise TypeError("record must be an element of an array of REPLY or RECEIPT")
     reply = ffi.from_buffer("callauction_reply *", numpy.array(record))
-    is_reply = 1 <= reply.tag < len(_READERS) and reply.side < len(SIDES)
+    is_reply = 1 <= reply.tag < len(_READERS) and reply.side < len(SIDES_BY_NUMBER)
     if reply.tag == _UNCROSSED:
-        is_reply &= 1 <= reply.auction <= len(KINDS)
+        is_reply &= 1 <= reply.auction <= len(KINDS_BY_NUMBER)
     if reply.tag == _REFUSED:
-        is_reply &= 1 <= reply.refusal <= len(REFUSALS)
+        is_reply &= 1 <= reply.refusal <= len(REFUSALS_BY_NUMBER)
     if not is_reply:
         raise ValueError("record is no reply of an auction")
     return read(reply)
@@ -213,7 +213,7 @@ def reply_of(record: numpy.void) -> Reply:
 
 def state_of(found: Any) -> State:
     """Where the day is, as a struct of the library says."""
-    kind = KINDS[found.auction - 1] if found.in_call else None
+    kind = KINDS_BY_NUMBER[found.auction - 1] if found.in_call else None
     left = found.calls_left, found.calls_left_to_members
     return State(kind, bool(found.extended), found.reference, found.calls, *left)
 

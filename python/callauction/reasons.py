@@ -10,7 +10,7 @@ import pandas
 from callauction.tables import book_at
 
 ON_SIDE = {"bid": "on the bid side", "ask": "on the ask side"}
-MARKET, HIGHEST, LOWEST, SINGLE = "market", "highest", "lowest", "single"
+MARKET_RULE, HIGHEST_RULE, LOWEST_RULE, SINGLE_RULE = "market", "highest", "lowest", "single"
 """Rules that decide, as the column `rule` names them; the fifth is `reference`."""
 MOST_NAMED = 6
 """How many limits a sentence names one by one."""
@@ -77,7 +77,7 @@ def explain(
     price = book.price
     if price is None:
         return Explanation(_without_price(book))
-    if price["rule"] == MARKET:
+    if price["rule"] == MARKET_RULE:
         return Explanation([_market_alone(book, price), *_executed(book, price)])
     steps = [*_market_orders(book), _candidates(book), *_best(book)]
     steps += _decided(book, price, reference)
@@ -156,9 +156,9 @@ def _decided(book: Book, price: "pandas.Series", reference: int | None) -> list[
     have one demand and one supply, as each limit changes one of them.
     """
     name, rule = book.named(price["limit"]), price["rule"]
-    if rule == SINGLE:
+    if rule == SINGLE_RULE:
         return [f"It is the one best limit, so {name} is the price, whatever its surplus."]
-    if rule in (HIGHEST, LOWEST):
+    if rule in (HIGHEST_RULE, LOWEST_RULE):
         return [
             f"Both leave a surplus of {price['surplus']:,} {ON_SIDE[price['side']]}, so "
             f"the {rule}, {name}, is the price."

@@ -5,13 +5,13 @@ import pandas
 from callauction.arrays import COMMAND, RECEIPT, REPLY, Structs, replies_in, whole
 from callauction.words import CommandTag, Refusal, ReplyTag
 
-REFUSALS = {"place": "int64", "refusal": "int64", "name": "object"}
+REFUSAL_COLUMNS = {"place": "int64", "refusal": "int64", "name": "object"}
 """The columns of refusals; with the commands there are `member` and `command` too."""
 
 
 def refusals(replies: Structs, commands: Structs | None = None) -> pandas.DataFrame:
-    """Which commands of an `apply_many` were refused: a row for each (REFUSALS), none where none
-    was.
+    """Which commands of an `apply_many` were refused: a row for each (REFUSAL_COLUMNS), none where
+    none was.
 
     `replies` is its array of REPLY, or of a board's member of RECEIPT; `place` is an element of it,
     from 0, `refusal` the number of a Refusal and `name` its name. The array of `commands` adds who
@@ -23,7 +23,8 @@ def refusals(replies: Structs, commands: Structs | None = None) -> pandas.DataFr
     places = numpy.flatnonzero(replies["tag"] == ReplyTag.REFUSED)
     numbers = replies["refusal"][places]
     names = [Refusal(number).name for number in numbers]
-    found = pandas.DataFrame({"place": places, "refusal": numbers, "name": names}).astype(REFUSALS)
+    found = pandas.DataFrame({"place": places, "refusal": numbers, "name": names})
+    found = found.astype(REFUSAL_COLUMNS)
     if commands is None:
         return found
     whole("commands", commands, COMMAND, is_written=False)

@@ -78,6 +78,8 @@ RESTRICTION_WORDS = {
     "closing": Restriction.CLOSING_ONLY,
 }
 """The commands, sides and restrictions by their words in a file or a frame."""
+SIDES = tuple(SIDE_WORDS)
+"""The words of the sides."""
 
 
 class ReplyTag(enum.IntEnum):

@@ -20,9 +20,9 @@ def test_the_variable_comes_before_the_path(
     on_path = script(tmp_path / "callboard", "echo path")
     named = script(tmp_path / "other", "echo named")
     monkeypatch.setenv("PATH", str(tmp_path), prepend=":")
-    monkeypatch.setenv(program.VARIABLE, str(named))
+    monkeypatch.setenv(finder.VARIABLE, str(named))
     assert Day(b"").printed() == "named\n"
-    monkeypatch.delenv(program.VARIABLE)
+    monkeypatch.delenv(finder.VARIABLE)
     held = script(tmp_path / "held", "echo held")
     monkeypatch.setattr(finder, "HELD", held)
     assert program.program() == str(held)
@@ -33,7 +33,7 @@ def test_the_variable_comes_before_the_path(
 def test_else_it_is_the_one_of_the_repository(
     tmp_path: Path, monkeypatch: pytest.MonkeyPatch
 ) -> None:
-    monkeypatch.delenv(program.VARIABLE, raising=False)
+    monkeypatch.delenv(finder.VARIABLE, raising=False)
     monkeypatch.setenv("PATH", str(tmp_path))
     monkeypatch.setattr(finder, "HELD", tmp_path / "none")
     monkeypatch.setattr(finder, "BUILT", tmp_path / "callboard")
@@ -44,7 +44,7 @@ def test_else_it_is_the_one_of_the_repository(
 
 
 def test_a_name_without_a_program_is_told(tmp_path: Path, monkeypatch: pytest.MonkeyPatch) -> None:
-    monkeypatch.setenv(program.VARIABLE, str(tmp_path / "none"))
+    monkeypatch.setenv(finder.VARIABLE, str(tmp_path / "none"))
     with pytest.raises(FailedError, match="^CALLBOARD names no program: ") as none:
         Day(b"").printed()
     assert none.value.status == 3
@@ -55,11 +55,11 @@ def test_a_run_that_failed_is_told(
     tmp_path: Path, monkeypatch: pytest.MonkeyPatch, status: int, text: str
 ) -> None:
     failing = script(tmp_path / "x", f"echo {text} >&2; exit {status}")
-    monkeypatch.setenv(program.VARIABLE, str(failing))
+    monkeypatch.setenv(finder.VARIABLE, str(failing))
     with pytest.raises(FailedError, match=f"^{text}$") as failed:
         Day(b"1,ask\n").printed("book")
     assert failed.value.status == status
-    monkeypatch.setenv(program.VARIABLE, str(script(tmp_path / "x", "kill -9 $$")))
+    monkeypatch.setenv(finder.VARIABLE, str(script(tmp_path / "x", "kill -9 $$")))
     with pytest.raises(FailedError, match="ended with status -9"):
         Day(b"").printed()
 

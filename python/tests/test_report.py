@@ -6,7 +6,7 @@ import sys
 from pathlib import Path
 
 import pytest
-from callauction import pages, program, report
+from callauction import finder, pages, report
 from callauction.__main__ import main, watched
 from callauction.program import Day
 from callauction.tables import read_journal
@@ -264,7 +264,7 @@ def test_help_is_printed(name: str, capsys: pytest.CaptureFixture[str]) -> None:
 def test_a_missing_program_is_told(
     monkeypatch: pytest.MonkeyPatch, capsys: pytest.CaptureFixture[str]
 ) -> None:
-    monkeypatch.setenv(program.VARIABLE, "/none")
+    monkeypatch.setenv(finder.VARIABLE, "/none")
     assert main(["audit", str(CHANGED)]) == 3
     assert capsys.readouterr().err == "callauction: CALLBOARD names no program: /none\n"
 

@@ -10,9 +10,9 @@ from typing import Protocol
 
 from callauction.venue.gains import Value
 from callauction.venue.names import folded
+from callauction.words import SIDES
 
 HOWS = ("none", "keep", "shuffle", "chance", "schedule", "list")
-SIDES = ("bid", "ask")
 FROM_GERMAN = {
     "seite": "side", "preis": "price", "wert": "price", "menge": "quantity", "stück": "quantity",
     "runde": "round", "kauf": "bid", "verkauf": "ask",

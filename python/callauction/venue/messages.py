@@ -11,12 +11,11 @@ from callauction.limits import MOST_NUMBER
 from callauction.prices import BadCellError, decimal_of
 from callauction.venue.config import MOST_TRADERS, InstrumentTerms
 from callauction.venue.fields import PRICE, shown
-from callauction.words import MARKET
+from callauction.words import MARKET, SIDES
 
 MOST_MESSAGE_BYTES = 4096
 MOST_MESSAGE = (1 << 53) - 1
 """The greatest number of a message: the greatest whole number that every JSON reader keeps."""
-SIDES = ("bid", "ask")
 RESTRICTIONS = ("", "opening", "closing")
 TOPICS = ("states", "orders", "fills", "trades", "rounds", "ladder", "payoffs")
 ORDER_FIELDS = {

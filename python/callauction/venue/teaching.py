@@ -28,7 +28,7 @@ from typing import Any
 from callauction.limits import MOST_QUANTITY
 from callauction.venue.auctions import Auctions
 from callauction.venue.fields import SENTENCE, ConfigError, Fields, flaw_of
-from callauction.venue.handing import HOWS, SIDES, HandError, ListedValue, Rule, named, rows_of
+from callauction.venue.handing import HOWS, HandError, ListedValue, Rule, named, rows_of
 from callauction.venue.instrument import Instrument
 from callauction.venue.json_types import Json
 from callauction.venue.log import SOURCE
@@ -40,6 +40,7 @@ from callauction.venue.robots import MOST_ROBOTS, ROBOT_KINDS
 from callauction.venue.tokens import new_code
 from callauction.venue.treatments import MOST_CALL_SECONDS, Treatment, treatment_of
 from callauction.venue.venue import Venue
+from callauction.words import SIDES
 
 MOST_ROUNDS = 10_000
 STEPS = {
