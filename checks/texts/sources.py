@@ -50,9 +50,6 @@ STILL_TWICE = {
     "plot": {
         "MOST_MARKED", "WORDS",
     },
-    "venue": {
-        "CHANCE",
-    },
 }  # fmt: skip
 """By its folder in python/callauction the names of two modules that haven't got another one yet."""
 SHARED = {"Lib", "Answers", "Invariants", "Proof"}

@@ -4,13 +4,13 @@ the indicative price, and the uncross.
 import asyncio
 import contextlib
 import dataclasses
-import random
 import re
 from collections.abc import Callable
 from typing import Any, Self
 
 from callauction.venue import clock, config, views
 from callauction.venue.book import OPERATOR, Book
+from callauction.venue.chance import CHANCE
 from callauction.venue.engine import Engine
 from callauction.venue.lasting import going_on
 from callauction.venue.log import SOURCE
@@ -72,7 +72,6 @@ class Auctions:
         self.on_change: Callable[[], None] = lambda: None
         self.on_late: Callable[[], None] = lambda: None
         self.has_venue_halted: Callable[[], bool] = lambda: False
-        self._random = random.SystemRandom()
         self._uncrosses, self._is_uncrossing = 0, False
         self._has_stood = False  # its clock, since it was looked at last
 
@@ -133,7 +132,7 @@ class Auctions:
         if not self._book.is_known:
             raise PhaseError("the last uncross isn't seen yet")
         now = clock.now()
-        started = self.state.started(now, self.plan, self._random.random())
+        started = self.state.started(now, self.plan, CHANCE.random())
         self.began, self.course, self.has_begun = now, [], True
         self._enter(started)
 

@@ -4,10 +4,10 @@ those that are there, kept or shuffled.
 import csv
 import dataclasses
 import io
-import random
 from collections.abc import Iterable, Mapping, Sequence
 from typing import Protocol
 
+from callauction.venue.chance import CHANCE
 from callauction.venue.gains import Value
 from callauction.venue.names import folded
 from callauction.words import SIDES
@@ -20,7 +20,6 @@ FROM_GERMAN = {
 """What German words of a list of values mean."""
 COLUMNS = ("name", "side", "price", "quantity", "round")
 """The columns of a list of values, of which the last may be left out."""
-CHANCE = random.SystemRandom()
 
 
 class HandError(ValueError):

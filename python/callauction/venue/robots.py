@@ -2,10 +2,10 @@
 a time by chance from when it has one.
 """
 import asyncio
-import random
 from collections.abc import Callable, Iterator
 
 from callauction.venue import clock
+from callauction.venue.chance import CHANCE
 from callauction.venue.gains import Value
 from callauction.venue.halts import Halts
 from callauction.venue.instrument import Instrument
@@ -26,7 +26,6 @@ ENTRY_SECONDS = 10.0
 MOST_SHARE = 0.7
 MOST_ROBOTS = 200
 QUANTITIES = range(10, 101, 10)
-CHANCE = random.SystemRandom()
 Submit = Callable[[Member, Order], "tuple[asyncio.Future[Entry], bool]"]
 """What sends a message of a member. Raises MessageError."""
 Turn = tuple[str, str, str]
