@@ -39,11 +39,6 @@ LIMITS = {
     268_435_456: "the most bytes of a journal",
 }
 STILL_TWICE = {
-    "fix": {
-        "AROUND", "CANCEL_REASONS", "CLOSE_SECONDS", "CONDITIONS", "DELETE", "ENDED", "OTHER",
-        "PAUSE", "REASONS", "SESSION", "SIDES", "SOH", "SOURCE", "STATUSES", "TYPES", "UNKNOWN",
-        "USAGE",
-    },
     "market": {
         "AUDIT", "BLOCK", "PLAIN",
     },

@@ -70,7 +70,7 @@ async def test_a_connection_that_ends_is_looked_at_until_it_is_lost(
     monkeypatch: pytest.MonkeyPatch,
 ) -> None:
     """It is closed once; what it hadn't taken as it was lost is nothing to wait for."""
-    monkeypatch.setattr(wires, "CLOSE_SECONDS", SOON)
+    monkeypatch.setattr(wires, "LINGER_SECONDS", SOON)
     those: dict[int, wires.Wire] = {}
     wire = wires.Wire(cast(Any, types.SimpleNamespace(wires=those)))
     those[wire.number], slow = wire, Slow()

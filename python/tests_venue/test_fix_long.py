@@ -108,7 +108,7 @@ def test_one_that_takes_longer_than_a_message_may(
     tmp_path: pathlib.Path, monkeypatch: pytest.MonkeyPatch
 ) -> None:
     """The request is as old then as QuickFIX lets none be."""
-    monkeypatch.setattr(settings, "DEFAULT", settings.DEFAULT + "MaxLatency=1\n")
+    monkeypatch.setattr(settings, "DEFAULT_SETTINGS", settings.DEFAULT_SETTINGS + "MaxLatency=1\n")
     peer, count = Speaker(tmp_path, FIX44), 600
     for number in range(count):
         peer.engine.send(peer.session, "8", [(17, f"XYZ.{number}"), (58, "x" * 200)])

@@ -9,7 +9,9 @@ import sys
 import pytest
 import served
 from callauction.fix import feeds, given, orders, refusals, requests, seats
-from callauction.fix.tags import CODES, DAY, FIXT, GOOD_TILL_CANCEL, LIMIT, MARKET, Exec, Status
+from callauction.fix.tags import (
+    CODES, DAY, FIXT, GOOD_TILL_CANCEL, LIMIT, MARKET, OTHER_REASON, Exec, Status,
+)
 from fixing import Pairs
 from test_fix_slips import Speaker, begin, refusal
 from test_fix_tags import FROM, HEAD, NEEDED, NOTHING, OF_ALL, OF_ORDERS, PARTIES
@@ -147,9 +149,9 @@ def test_all_messages_are_there(page: Page) -> None:
 
 
 REASONS = {
-    *refusals.REASONS.values(), *orders.REJECTED.values(),
-    *(refusals.UNKNOWN_SYMBOL, refusals.UNKNOWN, refusals.DUPLICATE, refusals.ENDED),
-    *(refusals.QUANTITY, refusals.OTHER),
+    *refusals.ORDER_REASONS.values(), *orders.REJECTED.values(),
+    *(refusals.UNKNOWN_SYMBOL, refusals.UNKNOWN_ORDER, refusals.DUPLICATE, refusals.ORDER_ENDED),
+    *(refusals.WRONG_QUANTITY, OTHER_REASON),
 }
 EXPECTED = {
     ("D", 54): {*CODES.values()},
@@ -161,23 +163,26 @@ EXPECTED = {
     ("9", 39): {*Status},
     ("8", 150): {*Exec, Status.NEW, Status.CANCELED, Status.REJECTED, Status.EXPIRED},
     ("8", 103): REASONS,
-    ("9", 102): {*refusals.CANCEL_REASONS.values(), *orders.NOT_CHANGED.values(), refusals.OTHER},
+    ("9", 102): {*refusals.CANCEL_REASONS.values(), *orders.NOT_CHANGED.values(), OTHER_REASON},
     ("9", 434): {"1", "2"},
     ("q", 530): {requests.OF_ONE, requests.OF_ALL},
     ("AF", 585): {requests.OF_ONE, requests.OF_ALL},
     ("r", 531): {refusals.NOT_CANCELLED, requests.OF_ONE, requests.OF_ALL},
-    ("r", 532): {*refusals.MASS_REASONS.values(), refusals.OTHER},
+    ("r", 532): {*refusals.MASS_REASONS.values(), OTHER_REASON},
     ("V", 263): {feeds.ONCE, feeds.ON, feeds.OFF},
     ("V", 264): {*feeds.DEPTHS},
     ("V", 265): {feeds.WHOLE, feeds.CHANGES},
-    ("V", 269): {*feeds.TYPES},
-    ("W", 269): {*feeds.TYPES, feeds.EMPTY[0][1]},
-    ("W", 277): {*feeds.CONDITIONS.values()},
-    ("X", 279): {feeds.NEW, feeds.CHANGE, feeds.DELETE},
+    ("V", 269): {*feeds.ENTRY_TYPES},
+    ("W", 269): {*feeds.ENTRY_TYPES, feeds.EMPTY[0][1]},
+    ("W", 277): {*feeds.TRADE_CONDITIONS.values()},
+    ("X", 279): {feeds.UPDATE_NEW, feeds.UPDATE_CHANGE, feeds.UPDATE_DELETE},
     ("Y", 281): {*refusals.DATA_REASONS.values(), "4"},
-    ("h", 340): {*feeds.STATUSES.values(), feeds.UNKNOWN, feeds.HALTED, refusals.PHASE_REFUSED},
+    ("h", 340): {
+        *feeds.PHASE_STATUSES.values(),
+        *(feeds.PHASE_UNKNOWN, feeds.PHASE_HALTED, refusals.PHASE_REFUSED),
+    },
     ("h", 625): {*feeds.OF_AUCTION.values(), feeds.AFTER},
-    ("h", 567): {"1", refusals.OTHER},
+    ("h", 567): {"1", OTHER_REASON},
     ("x", 559): {requests.LIST_OF_ONE, requests.LIST_OF_ALL},
     ("y", 560): {"0", refusals.INVALID, refusals.NO_INSTRUMENT},
     ("j", 380): {"3", seats.NOT_ALLOWED},

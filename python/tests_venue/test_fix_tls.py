@@ -12,7 +12,7 @@ from collections.abc import Callable, Iterator
 import fixing
 import pytest
 import served
-from callauction.fix.wires import CLOSE_SECONDS
+from callauction.fix.wires import LINGER_SECONDS
 from callauction.venue.gates import HEAD_SECONDS
 from fixing import SOH, Closed, Peer
 from patience import TIMED
@@ -132,9 +132,9 @@ def test_who_leaves_a_connection_open_is_ended(secure: Secure, left: Leave) -> N
     gone = left(secure)
     plain = socket.socket(fileno=gone.socket.detach())
     begin = time.monotonic()
-    plain.settimeout(CLOSE_SECONDS + MOST_LATE)
+    plain.settimeout(LINGER_SECONDS + MOST_LATE)
     with contextlib.suppress(ConnectionError):
         while plain.recv(1 << 16):
             pass
     plain.close()
-    assert time.monotonic() - begin < CLOSE_SECONDS + MOST_LATE
+    assert time.monotonic() - begin < LINGER_SECONDS + MOST_LATE

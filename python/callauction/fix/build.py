@@ -12,7 +12,7 @@ from collections.abc import Sequence
 
 from callauction import fix
 
-SOURCE = pathlib.Path(__file__).with_name("shim.cpp")
+SHIM_SOURCE = pathlib.Path(__file__).with_name("shim.cpp")
 SUFFIX = sysconfig.get_config_var("EXT_SUFFIX")
 QUICKFIX = pathlib.Path("/usr/include/quickfix")
 HEADERS = (QUICKFIX / "Session.h", pathlib.Path("/usr/include/pybind11/functional.h"))
@@ -37,13 +37,13 @@ class BuildError(Exception):
 def target() -> pathlib.Path:
     """Where the module is, or is to be."""
     named = os.environ.get(fix.VARIABLE)
-    return (pathlib.Path(named) if named else SOURCE.parent) / f"_quickfix{SUFFIX}"
+    return (pathlib.Path(named) if named else SHIM_SOURCE.parent) / f"_quickfix{SUFFIX}"
 
 
 def is_built() -> bool:
     """Whether the module is there, and no older than its source."""
     found = target()
-    return found.exists() and found.stat().st_mtime >= SOURCE.stat().st_mtime
+    return found.exists() and found.stat().st_mtime >= SHIM_SOURCE.stat().st_mtime
 
 
 def build(options: Sequence[str] = ()) -> pathlib.Path:
@@ -56,7 +56,7 @@ def build(options: Sequence[str] = ()) -> pathlib.Path:
     found.parent.mkdir(parents=True, exist_ok=True)
     begun = found.with_name(f"{found.name}.{os.getpid()}.new")
     include = ["-I", sysconfig.get_path("include"), "-isystem", str(QUICKFIX)]
-    words = ["g++", *OPTIONS, *options, *include, str(SOURCE), "-o", str(begun), "-lquickfix"]
+    words = ["g++", *OPTIONS, *options, *include, str(SHIM_SOURCE), "-o", str(begun), "-lquickfix"]
     ran = subprocess.run(words, capture_output=True, text=True)
     if ran.returncode != 0:
         raise BuildError(f"{ran.stderr.strip()}\n{MISSING}")

@@ -9,9 +9,9 @@ import pathlib
 import sys
 from xml.etree import ElementTree
 
-SOURCE = pathlib.Path(__file__).with_name("FIX44.xml")
+FIX44_DICTIONARY = pathlib.Path(__file__).with_name("FIX44.xml")
 TRANSPORT, APPLICATION = "FIXT11.xml", "FIX50SP2.xml"
-USAGE = """usage: python3 -P -m callauction.fix.dictionaries FOLDER
+DICTIONARIES_USAGE = """usage: python3 -P -m callauction.fix.dictionaries FOLDER
 Writes FIX44.xml, FIXT11.xml and FIX50SP2.xml for a client of QuickFIX into FOLDER, and makes it
 where it is missing."""
 VERSIONS = {
@@ -32,7 +32,7 @@ FIELDS = {
 
 def made(name: str) -> ElementTree.Element:
     """One of the two dictionaries of FIX 5.0SP2."""
-    found = copy.deepcopy(ElementTree.parse(SOURCE).getroot())
+    found = copy.deepcopy(ElementTree.parse(FIX44_DICTIONARY).getroot())
     found.attrib.clear()
     found.attrib.update(VERSIONS[name])
     messages = part(found, "messages")
@@ -61,7 +61,7 @@ def part(root: ElementTree.Element, name: str) -> ElementTree.Element:
 def write(folder: pathlib.Path) -> None:
     """Writes all three, into a folder that may be new. Raises OSError."""
     folder.mkdir(parents=True, exist_ok=True)
-    (folder / SOURCE.name).write_bytes(SOURCE.read_bytes())
+    (folder / FIX44_DICTIONARY.name).write_bytes(FIX44_DICTIONARY.read_bytes())
     for name in (TRANSPORT, APPLICATION):
         (folder / name).write_bytes(ElementTree.tostring(made(name)))
 
@@ -70,10 +70,11 @@ def main() -> int:
     """Writes the dictionaries; answers the status."""
     words = sys.argv[1:]
     if words in (["--help"], ["-h"]):
-        print(USAGE)
+        print(DICTIONARIES_USAGE)
         return 0
     if len(words) != 1 or not words[0] or words[0].startswith("-"):
-        print(f"callauction.fix.dictionaries: one folder is needed\n{USAGE}", file=sys.stderr)
+        print("callauction.fix.dictionaries: one folder is needed", file=sys.stderr)
+        print(DICTIONARIES_USAGE, file=sys.stderr)
         return 2
     try:
         write(pathlib.Path(words[0]))

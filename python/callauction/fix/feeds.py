@@ -8,9 +8,9 @@ from collections.abc import Callable, Sequence
 from typing import TYPE_CHECKING
 
 from callauction.fix.refusals import (
-    DEPTH, DUPLICATE, ENTRY_TYPE, OTHER, TOO_MUCH, UNSUPPORTED, UPDATE_TYPE, SeatError,
+    DEPTH, DUPLICATE, ENTRY_TYPE, TOO_MUCH, UNSUPPORTED, UPDATE_TYPE, SeatError,
 )
-from callauction.fix.tags import Given, Groups, Pairs, Tag, Type
+from callauction.fix.tags import OTHER_REASON, Given, Groups, Pairs, Tag, Type
 from callauction.venue.instrument import Instrument
 from callauction.venue.phases import Phase
 from callauction.venue.venue import Venue
@@ -26,15 +26,15 @@ WHOLE, CHANGES = "0", "1"
 """MDUpdateType."""
 DEPTHS = ("0", "1")
 """MarketDepth: all of the book, of which the best limits are shown alone, and these."""
-NEW, CHANGE, DELETE = "0", "1", "2"
+UPDATE_NEW, UPDATE_CHANGE, UPDATE_DELETE = "0", "1", "2"
 """MDUpdateAction."""
 SEEN_SECONDS = 1.0
 """How long the market of a program that doesn't answer is waited for, by all that is said after."""
 NO_FEED = "there is no subscription of this id"
 MOST_FEEDS = 64
 """What a session may ask for at a time."""
-UNKNOWN, HALTED = "0", "1"
-STATUSES = {
+PHASE_UNKNOWN, PHASE_HALTED = "0", "1"
+PHASE_STATUSES = {
     Phase.WAITING: "4",
     Phase.CALL: "2",
     Phase.EXTENDED: "2",
@@ -46,9 +46,9 @@ OF_AUCTION = dict(zip(AUCTIONS, ("2", "6", "4")))
 """TradingSessionSubID of an auction."""
 AFTER = "5"
 """The one of a day that is over."""
-TYPES = PRICE, VOLUME, IMBALANCE, BID, ASK = "Q", "B", "A", "0", "1"
+ENTRY_TYPES = PRICE, VOLUME, IMBALANCE, BID, ASK = "Q", "B", "A", "0", "1"
 """MDEntryType of what is indicated; Q is of FIX 5.0."""
-CONDITIONS = {"bid": "P", "ask": "Q"}
+TRADE_CONDITIONS = {"bid": "P", "ask": "Q"}
 """TradeCondition: more is bid, or more is asked."""
 EMPTY: Pairs = [(Tag.MD_ENTRY_TYPE, "J")]
 """The one row of a snapshot that has no other: an empty book; of FIX 5.0, as Q."""
@@ -113,10 +113,10 @@ def changes_of(market: str, before: Rows, after: Rows) -> list[Pairs]:
     """What a MarketDataIncrementalRefresh has of one market: what is gone first."""
     symbol = (Tag.SYMBOL, market)
     gone = [before[kind][0] for kind in before if kind not in after]
-    found: list[Pairs] = [[(Tag.MD_UPDATE_ACTION, DELETE), kind, symbol] for kind in gone]
+    found: list[Pairs] = [[(Tag.MD_UPDATE_ACTION, UPDATE_DELETE), kind, symbol] for kind in gone]
     for kind, row in after.items():
         if row != before.get(kind):
-            action = (Tag.MD_UPDATE_ACTION, CHANGE if kind in before else NEW)
+            action = (Tag.MD_UPDATE_ACTION, UPDATE_CHANGE if kind in before else UPDATE_NEW)
             found.append([action, row[0], symbol, *row[1:]])
     return found
 
@@ -134,7 +134,7 @@ def rows_of(board: Instrument, levels: Sequence[Level]) -> Rows:
         rows.append([(Tag.MD_ENTRY_TYPE, PRICE), (Tag.MD_ENTRY_PX, price(it.price)), volume])
         rows.append([(Tag.MD_ENTRY_TYPE, VOLUME), volume])
         surplus: Pairs = [(Tag.MD_ENTRY_TYPE, IMBALANCE), (Tag.MD_ENTRY_SIZE, str(it.surplus))]
-        side = CONDITIONS.get(it.side)
+        side = TRADE_CONDITIONS.get(it.side)
         rows.append(surplus + ([(Tag.TRADE_CONDITION, side)] if side else []))
     for kind, best in ((BID, it.bid), (ASK, it.ask)):
         if best is not None:
@@ -150,11 +150,11 @@ def phase_of(venue: Venue, board: Instrument) -> Pairs:
     state = board.auctions.state
     is_halted = board.engine.halted is not None or venue.halts.halted is not None
     text = "halted" if is_halted else "frozen" if state.frozen is not None else str(state.phase)
-    status = STATUSES[state.phase] if text == state.phase else HALTED
+    status = PHASE_STATUSES[state.phase] if text == state.phase else PHASE_HALTED
     found: Pairs = [(Tag.TRADING_SESSION_ID, board.identity.market)]
     if not board.looks.is_seen:
         is_new = text == state.phase
-        status, text = (UNKNOWN, "unknown") if is_new else (status, text)
+        status, text = (PHASE_UNKNOWN, "unknown") if is_new else (status, text)
         return [*found, (Tag.TRAD_SES_STATUS, status), (Tag.TEXT, text)]
     auction = OF_AUCTION.get(state.auction, AFTER)
     found += [(Tag.TRADING_SESSION_SUB_ID, auction), (Tag.TRAD_SES_STATUS, status)]
@@ -220,7 +220,7 @@ async def ask_data(seat: "Seat", asked: Pairs, given: Given, number: int) -> Non
     wire = seat.connections.on.get(seat)
     if how == OFF:
         if feeds.data.pop(request, None) is None:
-            raise SeatError(OTHER, NO_FEED)
+            raise SeatError(OTHER_REASON, NO_FEED)
         return
     types = frozenset(value for tag, value in asked if tag == Tag.MD_ENTRY_TYPE)
     update = given.get(Tag.MD_UPDATE_TYPE, WHOLE)
@@ -230,8 +230,8 @@ async def ask_data(seat: "Seat", asked: Pairs, given: Given, number: int) -> Non
         raise SeatError(DEPTH, "MarketDepth is 0 or 1: the best limits are shown alone")
     if update not in (WHOLE, CHANGES):
         raise SeatError(UPDATE_TYPE, "MDUpdateType is 0 or 1")
-    if not types <= {*TYPES}:
-        raise SeatError(ENTRY_TYPE, f"MDEntryType is one of {', '.join(TYPES)}")
+    if not types <= {*ENTRY_TYPES}:
+        raise SeatError(ENTRY_TYPE, f"MDEntryType is one of {', '.join(ENTRY_TYPES)}")
     named = (seat.named_board(value) for tag, value in asked if tag == Tag.SYMBOL)
     boards = [*dict.fromkeys(named)]
     data = Data(request, types, frozenset(it.identity.market for it in boards), update == WHOLE)
@@ -256,7 +256,7 @@ async def ask_phases(seat: "Seat", rows: Pairs, given: Given, number: int) -> No
     feeds, venue = seat.feeds, seat.venue
     if how == OFF:
         if feeds.phases.pop(request, None) is None:
-            raise SeatError(OTHER, NO_FEED)
+            raise SeatError(OTHER_REASON, NO_FEED)
         return
     if how not in (ONCE, ON):
         raise SeatError(UNSUPPORTED, "SubscriptionRequestType is 0, 1 or 2")

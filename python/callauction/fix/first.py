@@ -24,8 +24,8 @@ address = "127.0.0.1:{port}"
 ALICE = "Alice"
 BOB = "Bob"
 """
-SOH = b"\x01"
-AROUND = (8, 9, 10, 34, 49, 52, 56, 60)
+FIELD_END = b"\x01"
+NOT_PRINTED = (8, 9, 10, 34, 49, 52, 56, 60)
 SECONDS = 60.0
 
 
@@ -47,21 +47,21 @@ class Client:
         head = f"35={kind}|34={self._number}|49={self._comp_id}|52={now}|56=VENUE|"
         timed = f"|60={now}|" if kind == "D" else "|"
         body = (head + fields + timed).replace("|", "\x01").encode("ascii")
-        text = b"8=FIX.4.4" + SOH + b"9=%d" % len(body) + SOH + body
-        self._socket.sendall(text + b"10=%03d" % (sum(text) % 256) + SOH)
+        text = b"8=FIX.4.4" + FIELD_END + b"9=%d" % len(body) + FIELD_END + body
+        self._socket.sendall(text + b"10=%03d" % (sum(text) % 256) + FIELD_END)
         head, password, _ = fields.partition("554=")
         print(f"{self._comp_id} > 35={kind}|{head}{password and password + 'TOKEN'}")
 
     def hear(self) -> None:
         """Takes the next message. Raises FirstError and OSError."""
-        while SOH + b"10=" not in self._rest[:-4]:
+        while FIELD_END + b"10=" not in self._rest[:-4]:
             if not (block := self._socket.recv(1 << 16)):
                 raise FirstError(f"{self._comp_id}'s connection was ended")
             self._rest += block
-        text, _, rest = self._rest.partition(SOH + b"10=")
+        text, _, rest = self._rest.partition(FIELD_END + b"10=")
         self._rest = rest[4:]
-        fields = (it.decode("latin-1") for it in text.split(SOH))
-        shown = [it for it in fields if int(it.partition("=")[0]) not in AROUND]
+        fields = (it.decode("latin-1") for it in text.split(FIELD_END))
+        shown = [it for it in fields if int(it.partition("=")[0]) not in NOT_PRINTED]
         print(f"{self._comp_id} < {'|'.join(shown)}")
 
 

@@ -30,8 +30,8 @@ from callauction.venue.messages import MessageError
 from callauction.venue.serving import AddressError
 from callauction.venue.venue import Venue
 
-TICK, PAUSE = 1.0, 0.5
-CLOSE_SECONDS = 0.5
+TICK, START_PAUSE = 1.0, 0.5
+LAST_BYTES_SECONDS = 0.5
 """How long the end waits for the last bytes."""
 OTHER_FILES = 8
 OWED_SECONDS, OWED_PAUSE = 8.0, 0.02
@@ -123,7 +123,7 @@ class Front:
         """Finds what was sent and what was taken, and sends what wasn't; then sessions may begin.
         """
         while self._venue.starts.waiting:
-            await asyncio.sleep(PAUSE)
+            await asyncio.sleep(START_PAUSE)
         for seat in self._seats:
             await self._admit(seat)
             await self._recall(seat)
@@ -252,7 +252,7 @@ class Front:
             ending.until_done(self._connections.name),
             contextlib.suppress(TimeoutError),
         ):
-            async with asyncio.timeout(CLOSE_SECONDS):
+            async with asyncio.timeout(LAST_BYTES_SECONDS):
                 await self._outbound.written()
         self._end()
         self._sent.log.close()

@@ -5,10 +5,10 @@ for what the venue doesn't do.
 import re
 
 from callauction.fix.orders import SENTENCES, TIMES_OF_AUCTIONS, Held
-from callauction.fix.refusals import OTHER, QUANTITY, UNKNOWN_SYMBOL, UNSUPPORTED, SeatError
+from callauction.fix.refusals import UNKNOWN_SYMBOL, UNSUPPORTED, WRONG_QUANTITY, SeatError
 from callauction.fix.tags import (
-    CLOSING, CODES, DAY, GOOD_TILL_CANCEL, LIMIT, MARKET, OPENING, SECOND_LETTERS, SIDES, Given,
-    Tag, now,
+    CLOSING, CODES, DAY, GOOD_TILL_CANCEL, LIMIT, MARKET, OPENING, OTHER_REASON, SECOND_LETTERS,
+    SIDES, Given, Tag, now,
 )
 from callauction.limits import MOST_NUMBER
 from callauction.venue.instrument import Instrument
@@ -65,7 +65,7 @@ def price_of(given: Given) -> str:
     if kind == MARKET:
         return price
     if not (found := FLOAT.fullmatch(price)):
-        raise SeatError(OTHER, f"Price {price} is none such as 20.05")
+        raise SeatError(OTHER_REASON, f"Price {price} is none such as 20.05")
     whole, part = found.groups()
     return f"{whole or '0'}.{part}" if part else whole
 
@@ -77,8 +77,8 @@ def shares_of(given: Given, tag: int) -> int:
     if found := SHARES.fullmatch(given[tag]):
         return min(int(found[1][:MOST_DIGITS]), MOST_NUMBER)
     if tag == Tag.ORDER_QTY:
-        raise SeatError(QUANTITY, f"{SENTENCES[Refusal.BAD_QUANTITY]} whole shares")
-    raise SeatError(OTHER, SENTENCES[Refusal.BAD_PEAK])
+        raise SeatError(WRONG_QUANTITY, f"{SENTENCES[Refusal.BAD_QUANTITY]} whole shares")
+    raise SeatError(OTHER_REASON, SENTENCES[Refusal.BAD_PEAK])
 
 
 def peak_of(given: Given) -> str:
@@ -96,7 +96,7 @@ def left_of(total: int, held: Held) -> int:
     """What of a new total of an order is open. Raises SeatError where that was executed."""
     if held.filled and total <= held.filled:
         text = f"OrderQty is the total, and {held.filled} were executed: cancel what is left"
-        raise SeatError(OTHER, text)
+        raise SeatError(OTHER_REASON, text)
     return total - held.filled
 
 

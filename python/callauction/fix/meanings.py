@@ -8,14 +8,15 @@ from callauction.fix import feeds, refusals, requests
 from callauction.fix.orders import TOO_LATE
 from callauction.fix.seats import NOT_ALLOWED
 from callauction.fix.tags import (
-    CLOSING, DAY, GOOD_TILL_CANCEL, LIMIT, MARKET, NONE, OPENING, Exec, Status, Tag, Type,
+    CLOSING, DAY, GOOD_TILL_CANCEL, LIMIT, MARKET, NONE, OPENING, OTHER_REASON, SIDES, Exec, Status,
+    Tag, Type,
 )
 
 Values = Mapping[str, str]
 """What each message says, or each value of a tag."""
 HEAD = "head"
 """What is around each message, as a type of messages."""
-SESSION: Values = {
+BOTH_WAYS: Values = {
     Type.LOGON: "A Logon begins a connection, and is answered by one.",
     "0": "A Heartbeat says that somebody is there.",
     Type.TEST_REQUEST: "A TestRequest asks for a Heartbeat.",
@@ -194,15 +195,14 @@ SAYS_IN: Mapping[tuple[str, int], str] = {
     ("0", 112): "the word of the TestRequest",
 }
 """What a tag says in one message, where that is more, or something else."""
-SIDES = {"1": "bid", "2": "ask"}
 TIMES = {
     DAY: "the day, as where there is none",
     GOOD_TILL_CANCEL: "the day too, as no order is kept for another one",
     OPENING: "the opening auction alone",
     CLOSING: "the closing auction alone",
 }
-TYPES = {MARKET: "a market order, without 44", LIMIT: "a limit order, with 44"}
-STATUSES: Values = {
+ORDER_TYPE_MEANINGS = {MARKET: "a market order, without 44", LIMIT: "a limit order, with 44"}
+STATUS_MEANINGS: Values = {
     Status.NEW: "open",
     Status.PARTLY: "executed in part",
     Status.FILLED: "executed",
@@ -222,23 +222,23 @@ EXECS: Values = {
     Status.EXPIRED: "its auction or the day is over",
     Exec.STATUS: "how it is, to H, to AF, and to a D, G or F with 97=Y or 43=Y whose 11 was done",
 }
-REASONS = {
+ORDER_REASON_MEANINGS = {
     refusals.UNKNOWN_SYMBOL: "no such instrument",
     refusals.CLOSED: "no orders are taken now",
     refusals.TOO_MUCH: "above a limit",
-    refusals.ENDED: "its auction is over",
-    refusals.UNKNOWN: "no such order",
+    refusals.ORDER_ENDED: "its auction is over",
+    refusals.UNKNOWN_ORDER: "no such order",
     refusals.DUPLICATE: "the 11 was used",
     refusals.UNSUPPORTED: "a value that isn't taken here",
-    refusals.QUANTITY: "a wrong 38",
-    refusals.OTHER: "as 58 says",
+    refusals.WRONG_QUANTITY: "a wrong 38",
+    OTHER_REASON: "as 58 says",
 }
-CANCEL_REASONS = {
+CANCEL_REASON_MEANINGS = {
     TOO_LATE: "the order has ended",
     "1": "no such order",
     "2": "no orders are taken now, or the instrument has halted before it answered",
     "6": "the 11 was used",
-    refusals.OTHER: "as 58 says",
+    OTHER_REASON: "as 58 says",
 }
 OF_MANY = {requests.OF_ONE: "of the instrument 55", requests.OF_ALL: "of all, without 55"}
 SUBSCRIBED = {
@@ -254,24 +254,24 @@ ENTRIES = {
     feeds.ASK: "the best ask, where there is none",
 }
 SHOWN = {**ENTRIES, feeds.EMPTY[0][1]: "the one row where there is nothing to show"}
-CONDITIONS = {
-    feeds.CONDITIONS["bid"]: "more is bid",
-    feeds.CONDITIONS["ask"]: "more is asked",
+CONDITION_MEANINGS = {
+    feeds.TRADE_CONDITIONS["bid"]: "more is bid",
+    feeds.TRADE_CONDITIONS["ask"]: "more is asked",
 }
 PHASES = {
     "4": "waiting for the call",
     "2": "the call, in which orders are taken",
-    feeds.HALTED: "frozen or halted",
+    feeds.PHASE_HALTED: "frozen or halted",
     "5": "the call has ended",
     "3": "the day is over",
-    feeds.UNKNOWN: "not known yet",
+    feeds.PHASE_UNKNOWN: "not known yet",
     refusals.PHASE_REFUSED: "the request is refused",
 }
 AUCTIONS = {"2": "opening", "6": "intraday", "4": "closing", feeds.AFTER: "the day is over"}
 VALUES: Mapping[tuple[str, int], Values] = {
     (Type.ENTER, 54): SIDES,
-    (Type.ENTER, 40): TYPES,
-    (Type.REPLACE, 40): TYPES,
+    (Type.ENTER, 40): ORDER_TYPE_MEANINGS,
+    (Type.REPLACE, 40): ORDER_TYPE_MEANINGS,
     (Type.ENTER, 59): TIMES,
     (Type.REPORT, 59): {**TIMES, DAY: "the day"},
     (Type.MASS_CANCEL, 54): SIDES,
@@ -290,11 +290,11 @@ VALUES: Mapping[tuple[str, int], Values] = {
     },
     (Type.REPORT, 54): {**SIDES, refusals.NO_SIDE: "of no order"},
     (Type.REPORT, 40): {MARKET: "market", LIMIT: "limit"},
-    (Type.REPORT, 39): STATUSES,
+    (Type.REPORT, 39): STATUS_MEANINGS,
     (Type.REPORT, 150): EXECS,
-    (Type.REPORT, 103): REASONS,
-    (Type.CANCEL_REJECT, 39): STATUSES,
-    (Type.CANCEL_REJECT, 102): CANCEL_REASONS,
+    (Type.REPORT, 103): ORDER_REASON_MEANINGS,
+    (Type.CANCEL_REJECT, 39): STATUS_MEANINGS,
+    (Type.CANCEL_REJECT, 102): CANCEL_REASON_MEANINGS,
     (Type.CANCEL_REJECT, 434): {"1": "a cancel", "2": "a replace"},
     (Type.MASS_CANCELED, 531): {
         refusals.NOT_CANCELLED: "nothing was done",
@@ -304,17 +304,18 @@ VALUES: Mapping[tuple[str, int], Values] = {
     (Type.MASS_CANCELED, 532): {
         refusals.MASS_REASONS[refusals.UNKNOWN_SYMBOL]: "no such instrument",
         refusals.MASS_REASONS[refusals.UNSUPPORTED]: "a value that isn't taken here",
-        refusals.OTHER: "as 58 says",
+        OTHER_REASON: "as 58 says",
     },
     (Type.BUSINESS_REJECT, 380): {
         "3": "a type that isn't spoken here", NOT_ALLOWED: "`copy` has no orders",
     },
     (Type.SNAPSHOT, 269): SHOWN,
-    (Type.SNAPSHOT, 277): CONDITIONS,
+    (Type.SNAPSHOT, 277): CONDITION_MEANINGS,
     (Type.CHANGES, 269): ENTRIES,
-    (Type.CHANGES, 277): CONDITIONS,
+    (Type.CHANGES, 277): CONDITION_MEANINGS,
     (Type.CHANGES, 279): {
-        feeds.NEW: "new", feeds.CHANGE: "changed", feeds.DELETE: "gone, of which the kind is said",
+        feeds.UPDATE_NEW: "new", feeds.UPDATE_CHANGE: "changed",
+        feeds.UPDATE_DELETE: "gone, of which the kind is said",
     },
     (Type.REQUEST_REJECT, 281): {
         refusals.DATA_REASONS[refusals.UNKNOWN_SYMBOL]: "no such instrument",
@@ -327,7 +328,7 @@ VALUES: Mapping[tuple[str, int], Values] = {
     },
     (Type.PHASE, 340): PHASES,
     (Type.PHASE, 625): AUCTIONS,
-    (Type.PHASE, 567): {"1": "no such instrument", refusals.OTHER: "as 58 says"},
+    (Type.PHASE, 567): {"1": "no such instrument", OTHER_REASON: "as 58 says"},
     (Type.LIST, 560): {
         "0": "the list is right",
         refusals.INVALID: "559 isn't taken so",

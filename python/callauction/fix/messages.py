@@ -9,10 +9,10 @@ from xml.etree import ElementTree
 from callauction.fix import dictionaries
 from callauction.fix.dictionaries import APPLICATION, TRANSPORT, part
 from callauction.fix.meanings import (
-    FROM_VENUE, HEAD, IDLE, SAYS, SAYS_IN, SESSION, TO_VENUE, VALUES,
+    BOTH_WAYS, FROM_VENUE, HEAD, IDLE, SAYS, SAYS_IN, TO_VENUE, VALUES,
 )
 
-USAGE = """usage: python3 -P -m callauction.fix.messages
+MESSAGES_USAGE = """usage: python3 -P -m callauction.fix.messages
 Prints docs/made/FIX_MESSAGES.md: each message and tag that the venue speaks, and what it says."""
 INTRODUCTION = """\
 # The messages by FIX
@@ -107,7 +107,7 @@ def page() -> str:
         f"## Around each message\n\n{table_of(HEAD, messages.fields[HEAD])}",
         section("To the venue", TO_VENUE, messages),
         section("From the venue", FROM_VENUE, messages),
-        section("The session", SESSION, messages),
+        section("The session", BOTH_WAYS, messages),
     ]
     return "\n\n".join(parts) + "\n"
 
@@ -116,10 +116,10 @@ def main() -> int:
     """Prints the page; answers the status."""
     words = sys.argv[1:]
     if words in (["--help"], ["-h"]):
-        print(USAGE)
+        print(MESSAGES_USAGE)
         return 0
     if words:
-        print(f"callauction.fix.messages: it takes no words\n{USAGE}", file=sys.stderr)
+        print(f"callauction.fix.messages: it takes no words\n{MESSAGES_USAGE}", file=sys.stderr)
         return 2
     print(page(), end="")
     return 0

@@ -7,8 +7,8 @@ from collections.abc import Mapping, Sequence
 from decimal import Context, Decimal
 
 from callauction.fix.tags import (
-    CLOSING, CODES, DAY, GOOD_TILL_CANCEL, LIMIT, MARKET, NONE, OPENING, Exec, Groups, Pairs,
-    Status, Tag, Type, now,
+    CLOSING, CODES, DAY, GOOD_TILL_CANCEL, LIMIT, MARKET, NONE, OPENING, OTHER_REASON, Exec, Groups,
+    Pairs, Status, Tag, Type, now,
 )
 from callauction.fix.uncrosses import Seen
 from callauction.venue import views
@@ -43,10 +43,9 @@ HOW_ENDED = {
     Status.CANCELED: "is cancelled",
 }
 """How an order has ended."""
-OTHER = "99"
-ENTER, DELETE = "enter", "delete"
+ENTER_WORD, DELETE_WORD = "enter", "delete"
 TIMES_OF_AUCTIONS = {"opening": OPENING, "closing": CLOSING}
-ENDED = (Status.CANCELED, Status.REJECTED, Status.EXPIRED)
+ENDED_STATUSES = (Status.CANCELED, Status.REJECTED, Status.EXPIRED)
 NOT_KEPT = "no order is kept for another day or round"
 """What is said of one till cancelled that has expired."""
 MOST_PRICES = 4096
@@ -143,7 +142,7 @@ class Orders:
     def _taken(self, message: Message, entry: Entry, event: str) -> Report:
         """The report of an entry."""
         fields = entry.record.split(",")
-        if fields[1] == ENTER:
+        if fields[1] == ENTER_WORD:
             held = Held.of(self._board.key_at(entry.place), message, entry, fields[2:])
             return self._entered(held, entry, event)
         known = self._open.get(int(fields[2]))
@@ -153,7 +152,7 @@ class Orders:
 
     def _kept(self, held: Held | None, message: Message, entry: Entry, event: str) -> Report:
         """An order wasn't changed, perhaps as it has ended."""
-        asked = Asked.of(message, entry.record.split(",")[1] == DELETE)
+        asked = Asked.of(message, entry.record.split(",")[1] == DELETE_WORD)
         ended = self.of_client(message.member, asked.origin) if held is None else None
         reason = TOO_LATE if ended else reason_of(NOT_CHANGED, entry.reply)
         text = ended_text(ended) if ended and not ended.open else self._said(entry.reply)
@@ -185,7 +184,7 @@ class Orders:
         origin = message.note.get(ORIGIN, "")
         more = [(Tag.ORIG_CL_ORD_ID, origin)] if origin else []
         fields = entry.record.split(",")
-        if fields[1] == DELETE:
+        if fields[1] == DELETE_WORD:
             more += [(Tag.TEXT, message.note[SAID])] if SAID in message.note else []
             self._end(held, Status.CANCELED)
             return self.report(held, event, Status.CANCELED, [*more])
@@ -275,7 +274,7 @@ class Orders:
 
     def report(self, held: Held, event: str, kind: str, more: Pairs | None = None) -> Report:
         """An ExecutionReport of an order as it is now."""
-        left = 0 if held.status in ENDED else held.open
+        left = 0 if held.status in ENDED_STATUSES else held.open
         pairs: Pairs = [
             (Tag.ORDER_ID, held.name),
             (Tag.EXEC_ID, event),
@@ -341,7 +340,7 @@ def ended_text(held: Held, is_over: bool = False) -> str:
 
 def reason_of(reasons: Mapping[Refusal, str], reply: str) -> str:
     """The reason of FIX for a refusal of the program."""
-    return reasons.get(Refusal(int(reply.split(" ")[1])), OTHER)
+    return reasons.get(Refusal(int(reply.split(" ")[1])), OTHER_REASON)
 
 
 def refusal(

@@ -3,7 +3,7 @@ from typing import TYPE_CHECKING
 
 from callauction.fix.orders import CLIENT, ORIGIN, Asked, Report, refusal
 from callauction.fix.tags import (
-    CODES, DAY, EVENTS, FIXT, NONE, Exec, Given, Pairs, Status, Tag, Type,
+    CODES, DAY, EVENTS, FIXT, NONE, OTHER_REASON, Exec, Given, Pairs, Status, Tag, Type,
 )
 from callauction.venue.instrument import Instrument
 from callauction.venue.messages import MessageError
@@ -12,10 +12,11 @@ from callauction.venue.recovery import Message
 if TYPE_CHECKING:
     from callauction.fix.seats import Seat
 
-UNKNOWN_SYMBOL, CLOSED, TOO_MUCH, UNKNOWN, DUPLICATE, UNSUPPORTED = "1", "2", "3", "5", "6", "11"
-ENDED, QUANTITY = "4", "13"
+UNKNOWN_SYMBOL, CLOSED, TOO_MUCH = "1", "2", "3"
+UNKNOWN_ORDER, DUPLICATE, UNSUPPORTED = "5", "6", "11"
+ORDER_ENDED, WRONG_QUANTITY = "4", "13"
 """The reason where an order has ended: too late; where a quantity can't be one of an order."""
-REASONS = {
+ORDER_REASONS = {
     "unknown_instrument": UNKNOWN_SYMBOL,
     "not_now": CLOSED,
     "frozen": CLOSED,
@@ -24,8 +25,7 @@ REASONS = {
     "bad_message": UNSUPPORTED,
 }
 """OrdRejReason of what the venue refuses."""
-OTHER = "99"
-CANCEL_REASONS = {ENDED: "0", UNKNOWN: "1", CLOSED: "2", DUPLICATE: "6"}
+CANCEL_REASONS = {ORDER_ENDED: "0", UNKNOWN_ORDER: "1", CLOSED: "2", DUPLICATE: "6"}
 """CxlRejReason of an OrdRejReason."""
 MASS_REASONS = {UNKNOWN_SYMBOL: "1", UNSUPPORTED: "0"}
 """MassCancelRejectReason of an OrdRejReason."""
@@ -81,19 +81,20 @@ class PendingError(SeatError):
 
 def refuse(seat: "Seat", given: Given, event: str, fault: MessageError) -> None:
     """Says that nothing was done, and why."""
-    reason = fault.reason if isinstance(fault, SeatError) else REASONS.get(fault.code, OTHER)
-    status = fault.status if isinstance(fault, SeatError) else Status.REJECTED
+    reason, status = ORDER_REASONS.get(fault.code, OTHER_REASON), Status.REJECTED
+    if isinstance(fault, SeatError):
+        reason, status = fault.reason, fault.status
     kind = given[Tag.MSG_TYPE]
     if kind in (Type.ENTER, Type.CANCEL, Type.REPLACE) and fault.text not in UNUSED:
         seat.clients.keep(given, seat.epoch.number_of(int(given[Tag.MSG_SEQ_NUM])))
     if kind in (Type.CANCEL, Type.REPLACE):
         client, origin = given[Tag.CL_ORD_ID], given[Tag.ORIG_CL_ORD_ID]
         asked = Asked(client, origin, kind == Type.CANCEL)
-        code = CANCEL_REASONS.get(reason, OTHER)
+        code = CANCEL_REASONS.get(reason, OTHER_REASON)
         held = seat.held(given, origin)
         seat.reports.tell(refusal(seat.name, event, asked, held, code, fault.text, status))
     elif kind == Type.MASS_CANCEL:
-        code = MASS_REASONS.get(reason, OTHER)
+        code = MASS_REASONS.get(reason, OTHER_REASON)
         pairs: Pairs = [(Tag.MASS_CANCEL_RESPONSE, NOT_CANCELLED)]
         pairs += [(Tag.MASS_CANCEL_REJECT_REASON, code), (Tag.TEXT, fault.text)]
         tell_mass_cancelled(seat, given, event, pairs)
@@ -151,7 +152,7 @@ def refused_request(given: Given, event: str, reason: str) -> Pairs:
         (Tag.TRAD_SES_REQ_ID, given[Tag.TRAD_SES_REQ_ID]),
         (Tag.TRADING_SESSION_ID, given.get(Tag.TRADING_SESSION_ID, NO_SYMBOL)),
         (Tag.TRAD_SES_STATUS, PHASE_REFUSED),
-        (Tag.TRAD_SES_STATUS_REJ_REASON, "1" if is_unknown else OTHER),
+        (Tag.TRAD_SES_STATUS_REJ_REASON, "1" if is_unknown else OTHER_REASON),
     ]
 
 

@@ -15,7 +15,7 @@ from callauction.venue.logger import NOTICES
 from callauction.venue.phases import UNCROSSED
 from callauction.venue.recovery import Entry, Message
 
-PAUSE = 1.0
+AGAIN_PAUSE = 1.0
 """Seconds until the program is asked again for what an uncross did."""
 MOST_AGE = 2
 """Seconds after which the time in the log is none at which the report of a command was sent."""
@@ -89,7 +89,7 @@ class Stream:
                 break
             except DownloadError as fault:
                 NOTICES.error("what %s did isn't known yet: %s", self.orders.event(place), fault)
-                await asyncio.sleep(PAUSE)
+                await asyncio.sleep(AGAIN_PAUSE)
         self._trades += len(seen.trades)
         for report in self.orders.uncrossed(place, seen):
             self._tell(report)

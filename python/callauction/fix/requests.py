@@ -7,10 +7,10 @@ from typing import TYPE_CHECKING
 from callauction.fix.given import CURRENCY, is_sent_again, side_of
 from callauction.fix.orders import Held, Orders
 from callauction.fix.refusals import (
-    ALL, DUPLICATE, OTHER, UNKNOWN, UNSUPPORTED, USED, SeatError, tell_mass_answer,
+    ALL, DUPLICATE, UNKNOWN_ORDER, UNSUPPORTED, USED, SeatError, tell_mass_answer,
     tell_mass_cancelled,
 )
-from callauction.fix.tags import Exec, Given, Groups, Pairs, Tag, Type
+from callauction.fix.tags import OTHER_REASON, Exec, Given, Groups, Pairs, Tag, Type
 from callauction.venue.instrument import Instrument
 from callauction.venue.messages import MessageError
 from callauction.venue.recovery import Entry
@@ -62,9 +62,9 @@ async def cancel_all(seat: "Seat", rows: Pairs, given: Given, number: int) -> No
     texts = (f"{it.identity.market} ({faults[it].text})" for it in left)
     text = f"not cancelled, and still open: {', '.join(texts)}"
     if not seat.epoch.deleted[number] and (left or len(faults) == len(boards)):
-        raise SeatError(OTHER, text) if left else faults[boards[0]]
+        raise SeatError(OTHER_REASON, text) if left else faults[boards[0]]
     more: Pairs = [(Tag.MASS_CANCEL_RESPONSE, kind)]
-    more += [(Tag.MASS_CANCEL_REJECT_REASON, OTHER), (Tag.TEXT, text)] if left else []
+    more += [(Tag.MASS_CANCEL_REJECT_REASON, OTHER_REASON), (Tag.TEXT, text)] if left else []
     tell_mass_cancelled(seat, given, seat.epoch.refusal_of(number), more)
 
 
@@ -108,7 +108,7 @@ async def show_all(seat: "Seat", rows: Pairs, given: Given, number: int) -> None
         found += [(orders, it) for it in orders_of(seat, given, board)]
     text = f"halted, and what was sent isn't answered yet: {', '.join(late)}" if late else ""
     if not found:
-        raise SeatError(UNKNOWN, f"there is no open order{'; ' * bool(text)}{text}")
+        raise SeatError(UNKNOWN_ORDER, f"there is no open order{'; ' * bool(text)}{text}")
     request = (Tag.MASS_STATUS_REQ_ID, given[Tag.MASS_STATUS_REQ_ID])
     for place, (orders, held) in enumerate(found, 1):
         is_last = place == len(found)

@@ -15,10 +15,8 @@ from callauction.fix.epochs import Clients, Epoch, Number, key_of
 from callauction.fix.feeds import Feeds
 from callauction.fix.given import is_sent_again
 from callauction.fix.orders import CLIENT, Held, Report
-from callauction.fix.refusals import (
-    FILLED, MADE_BEFORE, OTHER, OTHER_DAY, SeatError, given_of, refuse,
-)
-from callauction.fix.tags import Given, Pairs, Tag, Type, seconds_of
+from callauction.fix.refusals import FILLED, MADE_BEFORE, OTHER_DAY, SeatError, given_of, refuse
+from callauction.fix.tags import OTHER_REASON, Given, Pairs, Tag, Type, seconds_of
 from callauction.venue import clock, tokens
 from callauction.venue.fix_terms import VENUE_COMP_ID
 from callauction.venue.instrument import Instrument
@@ -275,7 +273,7 @@ class Seat:
                 self.refuse_type(given, event)
             else:
                 if Tag.GAP_FILL in given:  # a gap is in the place of what came ahead of its turn
-                    raise SeatError(OTHER, FILLED)
+                    raise SeatError(OTHER_REASON, FILLED)
                 self._check_day(given)
                 await act(self, rows, given, number)
         except MessageError as fault:
@@ -293,7 +291,7 @@ class Seat:
         if time is None or (is_resend and given[Tag.CL_ORD_ID] in self.clients.numbers):
             return
         if seconds_of(time) + self.behind < self.venue.past.began - ROUNDED:
-            raise SeatError(OTHER, MADE_BEFORE if is_resend else OTHER_DAY)
+            raise SeatError(OTHER_REASON, MADE_BEFORE if is_resend else OTHER_DAY)
 
     def refuse_type(self, given: Given, event: str) -> None:
         """Says that it may not do this: a member may do all that the dictionary has."""
@@ -319,7 +317,7 @@ class Seat:
             board, message = self.epoch.lost.pop(number)
             event = self.epoch.refusal_of(number)
             if event not in self.epoch.told:
-                fault = SeatError(OTHER, NOT_DONE)
+                fault = SeatError(OTHER_REASON, NOT_DONE)
                 refuse(self, given_of(board, message, number), event, fault)
 
     # ---- boards, and the orders that are there

@@ -6,7 +6,7 @@ from callauction.fix import dictionaries
 from callauction.fix.tags import FIXT
 from callauction.venue.fix_terms import VENUE_COMP_ID
 
-DEFAULT = """[DEFAULT]
+DEFAULT_SETTINGS = """[DEFAULT]
 ConnectionType=acceptor
 SocketAcceptPort=0
 HeartBtInt=30
@@ -15,8 +15,12 @@ EndTime=00:00:00
 TimestampPrecision=3
 DataDictionary={folder}/FIX44.xml
 """
-SESSION = "[SESSION]\nBeginString={begin}\nSenderCompID={venue}\nTargetCompID={member}\n"
-OF_FIXT = """DefaultApplVerID=FIX.5.0SP2
+SESSION_SETTINGS = """[SESSION]
+BeginString={begin}
+SenderCompID={venue}
+TargetCompID={member}
+"""
+FIXT_SETTINGS = """DefaultApplVerID=FIX.5.0SP2
 TransportDataDictionary={folder}/FIXT11.xml
 AppDataDictionary={folder}/FIX50SP2.xml
 """
@@ -27,8 +31,8 @@ def settings_of(folder: pathlib.Path, sessions: Mapping[str, str]) -> str:
     are written to a folder, and read from there as QuickFIX begins. Raises OSError.
     """
     dictionaries.write(folder)
-    found = DEFAULT.format(folder=folder)
+    found = DEFAULT_SETTINGS.format(folder=folder)
     for member, begin in sessions.items():
-        found += SESSION.format(begin=begin, venue=VENUE_COMP_ID, member=member)
-        found += OF_FIXT.format(folder=folder) if begin == FIXT else ""
+        found += SESSION_SETTINGS.format(begin=begin, venue=VENUE_COMP_ID, member=member)
+        found += FIXT_SETTINGS.format(folder=folder) if begin == FIXT else ""
     return found

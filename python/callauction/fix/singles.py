@@ -9,7 +9,7 @@ from callauction.fix.given import (
 )
 from callauction.fix.orders import Held, ended_text
 from callauction.fix.refusals import (
-    DUPLICATE, ENDED, UNKNOWN, UNSUPPORTED, USED, PendingError, SeatError, tell_again,
+    DUPLICATE, ORDER_ENDED, UNKNOWN_ORDER, UNSUPPORTED, USED, PendingError, SeatError, tell_again,
 )
 from callauction.fix.tags import DAY, Exec, Given, Pairs, Status, Tag, Type
 from callauction.venue import messages
@@ -57,13 +57,13 @@ async def edit(seat: "Seat", rows: Pairs, given: Given, number: int) -> None:
     check_beside(given, seat.board(given))
     held, stream = await settled(seat, given, given[Tag.ORIG_CL_ORD_ID])
     if held is None:
-        raise SeatError(UNKNOWN, "there is no order of this OrigClOrdID")
+        raise SeatError(UNKNOWN_ORDER, "there is no order of this OrigClOrdID")
     check_side(given, held)
     if of_round := former_round(seat, given, stream):
-        raise SeatError(ENDED, f"{ended_text(held)}, and {of_round}")
+        raise SeatError(ORDER_ENDED, f"{ended_text(held)}, and {of_round}")
     if not held.open:
         is_over = seat.board(given).auctions.state.phase is Phase.OVER
-        raise SeatError(ENDED, ended_text(held, is_over))
+        raise SeatError(ORDER_ENDED, ended_text(held, is_over))
     asked: dict[str, Any] = {"type": "delete", "order": held.order, "number": number}
     if given[Tag.MSG_TYPE] == Type.REPLACE:
         check_kept(given, held)
@@ -79,7 +79,7 @@ async def show(seat: "Seat", rows: Pairs, given: Given, number: int) -> None:
     check_beside(given, seat.board(given))
     held, stream = await settled(seat, given, given[Tag.CL_ORD_ID])
     if held is None:
-        raise SeatError(UNKNOWN, "there is no order of this ClOrdID in this day")
+        raise SeatError(UNKNOWN_ORDER, "there is no order of this ClOrdID in this day")
     check_side(given, held)
     asked = Tag.ORD_STATUS_REQ_ID
     more: Pairs = [(asked, given[asked])] if asked in given else []

@@ -161,6 +161,8 @@ CODES = {side: code for code, side in SIDES.items()}
 MARKET, LIMIT = "1", "2"
 OPENING, CLOSING, DAY, GOOD_TILL_CANCEL = "2", "7", "0", "1"
 NONE = "NONE"
+OTHER_REASON = "99"
+"""The reason of a refusal for which FIX has no number."""
 SOH = "\x01"
 SECOND_LETTERS = len("20261126-09:00:00")
 EVENTS = {
@@ -171,7 +173,7 @@ EVENTS = {
     Type.LIST: Tag.SECURITY_RESPONSE_ID,
 }
 """Which tag of a message is the id of what it says, by which it is sent once."""
-AROUND = (8, 9, 10, 34, 35, 43, 49, 52, 56, 97, 122)
+HEADER_AND_TRAILER = (8, 9, 10, 34, 35, 43, 49, 52, 56, 97, 122)
 """The tags around what a message says."""
 OF_SIDES = (Tag.SIDE, Tag.ORDER_ID, Tag.CL_ORD_ID, Tag.ACCOUNT)
 """The tags of a side of a trade, which begins with the first."""
@@ -206,7 +208,7 @@ def event_in(given: Given, comp_id: str, epoch: str) -> str:
 
 def body_of(pairs: Pairs) -> tuple[Pairs, Groups]:
     """What a report says, without what is around it; the sides of a trade apart."""
-    body = [it for it in pairs if it[0] not in AROUND]
+    body = [it for it in pairs if it[0] not in HEADER_AND_TRAILER]
     place = next((at for at, it in enumerate(body) if it[0] == Tag.NO_SIDES), None)
     if place is None:
         return body, []

@@ -24,7 +24,7 @@ ANSWER_SECONDS = 5.0
 """How long the connection of a session that logs on once more may say nothing: then nobody is there
 any more, and the next Logon is taken.
 """
-CLOSE_SECONDS = 5.0
+LINGER_SECONDS = 5.0
 """How long a connection that was ended may stay where its client doesn't end it too."""
 UNREAD = f"it left more than {MOST_UNSENT} bytes unread"
 SILENT = f"it said nothing for {ANSWER_SECONDS:g} s, and its session logs on once more"
@@ -160,14 +160,14 @@ class Wire(asyncio.Protocol):
         """Ends once all was sent, and soon after that where its client doesn't end it too."""
         if not self._transport.is_closing():
             self._transport.close()
-            asyncio.get_running_loop().call_later(CLOSE_SECONDS, self._check_ended)
+            asyncio.get_running_loop().call_later(LINGER_SECONDS, self._check_ended)
 
     def _check_ended(self) -> None:
         """Ends at once, where all was sent and it is still there."""
         if self.number not in self._host.wires:
             return
         if self._transport.get_write_buffer_size():
-            asyncio.get_running_loop().call_later(CLOSE_SECONDS, self._check_ended)
+            asyncio.get_running_loop().call_later(LINGER_SECONDS, self._check_ended)
         else:
             self._transport.abort()
 
