@@ -159,18 +159,6 @@ def test_names_of_python_that_have_one_meaning(tmp_path: pathlib.Path) -> None:
     assert faults_of(sources.names_of_two_python_modules, tree) == []
 
 
-def test_a_name_that_has_one_meaning_by_now(
-    tmp_path: pathlib.Path, monkeypatch: pytest.MonkeyPatch
-) -> None:
-    """It leaves the list of those that have two."""
-    monkeypatch.setattr(sources, "STILL_TWICE", {"fix": {"SIDES", "TYPES"}})
-    texts = {"one": "SIDES = 1\nTYPES = 2\n", "other": "SIDES = 3\n"}
-    files = {f"python/callauction/fix/{name}.py": text for name, text in texts.items()}
-    assert faults_of(sources.names_of_two_python_modules, planted(tmp_path, **files)) == [
-        "TYPES has one meaning in python/callauction/fix: take it out of STILL_TWICE"
-    ]
-
-
 @pytest.mark.parametrize("files", [
     {"specs/Day.antt": "abbrev pub price : Day → ℕ\n", "src/day.rt": "pub fn price() -> u32 {\n"},
     {"src/day.rt": "fn price() -> u32 {\n", "src/line.rt": "pub fn price() -> u32 {\n"},

@@ -13,8 +13,7 @@
   begins with a capital letter, but for a type and the record that it is in contracts (MODELS).
 - No two modules of a crate have types or public functions of one name, nor public definitions and
   lemmas. A function may be named as the definition that it meets, and methods as those of others.
-- No two modules of a package of callauction have constants or types of one name, but for those that
-  have two meanings still (STILL_TWICE): that list may grow shorter alone.
+- No two modules of a package of callauction have constants or types of one name.
 - A limit of the market or of memory (LIMITS) isn't written as a number, where it isn't the value of
   a constant: in sources, definitions and proofs, but for tests, examples, comments and texts.
 - No name says buy or sell where docs/GLOSSARY.md says bid and ask.
@@ -38,15 +37,6 @@ LIMITS = {
     67_108_865: "the most bytes of a file, and one",
     268_435_456: "the most bytes of a journal",
 }
-STILL_TWICE = {
-    "market": {
-        "AUDIT", "BLOCK", "PLAIN",
-    },
-    "plot": {
-        "MOST_MARKED", "WORDS",
-    },
-}  # fmt: skip
-"""By its folder in python/callauction the names of two modules that haven't got another one yet."""
 SHARED = {"Lib", "Answers", "Invariants", "Proof"}
 MODELS = {"Leaders"}
 TYPE = re.compile(r"(?:pub(?:\([a-z]+\))? )?(?:struct|enum|trait|union) (?P<name>\w+)")
@@ -213,19 +203,13 @@ def names_of_python(tree: Tree) -> Iterator[tuple[str, str, pathlib.Path, int]]:
 
 
 def names_of_two_python_modules(tree: Tree) -> Iterator[str]:
-    """Public constants and types whose name two modules of a package of callauction have; and those
-    that are said to have two meanings still, and haven't.
-    """
+    """Public constants and types whose name two modules of a package of callauction have."""
     places: dict[tuple[str, str], dict[pathlib.Path, str]] = collections.defaultdict(dict)
     for folder, name, file, line in names_of_python(tree):
         places[folder, name].setdefault(file, f"{tree.name(file)}:{line}")
-    twice = {key for key, files in places.items() if len(files) > 1}
-    known = {(folder, name) for folder, names in STILL_TWICE.items() for name in names}
-    for key in sorted(twice - known):
-        yield f"{key[1]} has two meanings in a package: {', '.join(places[key].values())}"
-    folders = {folder for folder, _ in places}
-    for folder, name in sorted(it for it in known - twice if it[0] in folders):
-        yield f"{name} has one meaning in python/callauction/{folder}: take it out of STILL_TWICE"
+    for (_, name), files in sorted(places.items()):
+        if len(files) > 1:
+            yield f"{name} has two meanings in a package: {', '.join(files.values())}"
 
 
 def other_sides(tree: Tree) -> Iterator[str]:

@@ -153,7 +153,7 @@ def test_results_that_are_lost_with_their_worker_are_found_again(
     paths = write(tmp_path, TEXTS)
     with cluster(2, keys) as client:
         crew = workers.Cluster(client)
-        results = crew.results(paths, task.Request(runs.AUDIT, program))
+        results = crew.results(paths, task.Request(runs.AUDIT_FORM, program))
         found = next(results)
         until(lambda: not any(client.processing().values()))
         address, process = min(client.run(os.getpid).items())

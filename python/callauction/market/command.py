@@ -17,7 +17,7 @@ from callauction.market.log import RunLog
 from callauction.market.names import SUFFIX, line_of
 from callauction.market.processes import Processes
 from callauction.market.rows import Found, Row, write_rows
-from callauction.market.runs import AUDIT, files_of
+from callauction.market.runs import AUDIT_FORM, files_of
 from callauction.market.summary import Summary
 from callauction.market.task import MIB, Request
 from callauction.market.workers import MarketError, Workers, connected
@@ -27,7 +27,7 @@ from callauction.statuses import BAD_DAY, BAD_FILE, BROKEN_OFF, DONE, FAILED
 if TYPE_CHECKING:
     from distributed import Security
 
-SECURE, PLAIN = "tls://", "tcp://"
+SECURE_SCHEME, PLAIN_SCHEME = "tls://", "tcp://"
 ADDRESS = re.compile(r"t(?:ls|cp)://[^/\s]+:\d{1,5}")
 
 
@@ -93,13 +93,14 @@ def security_of(asked: argparse.Namespace) -> "Security | None":
         return None
     if not ADDRESS.fullmatch(scheduler):
         raise MarketError("a scheduler is named by --scheduler tls://HOST:PORT")
-    if scheduler.startswith(PLAIN):
+    if scheduler.startswith(PLAIN_SCHEME):
         if asked.insecure and not any(keys.values()):
             return None
         raise MarketError("whoever reaches a tcp:// port can run code there: tls://, or --insecure")
     for name, path in keys.items():
         if not path:
-            raise MarketError(f"{SECURE} needs --tls-ca, --tls-cert and --tls-key: no --tls-{name}")
+            needed = "--tls-ca, --tls-cert and --tls-key"
+            raise MarketError(f"{SECURE_SCHEME} needs {needed}: no --tls-{name}")
         try:
             open(path, "rb").close()
         except OSError as fault:
@@ -132,7 +133,7 @@ def request_of(asked: argparse.Namespace) -> Request:
     """What is asked of each file. Raises FileNotFoundError where this machine has no program and is
     to run it, and OSError where the folder for the outputs can't be made.
     """
-    forms: tuple[str, ...] = AUDIT
+    forms: tuple[str, ...] = AUDIT_FORM
     into = None
     if asked.verb == "run":
         forms, into = tuple(dict.fromkeys(asked.forms)), asked.into and os.path.abspath(asked.into)

@@ -7,18 +7,18 @@ AUCTIONS = "opening", "intraday", "closing"
 """The auctions of a day in their order, as in callauction.words, which takes long to import."""
 OVER = "over"
 """The state of a day whose closing auction ended."""
-BLOCK = 1 << 18
+OUTPUT_BLOCK = 1 << 18
 """How many bytes of the program's output are looked at together."""
 AUDIT_END = 5
 """How many lines an audit ends with: its counts, the verdict, and what a broken copy has behind."""
 BEHIND = rb"(incomplete: \d+ bytes follow entry \d+\n)?"
 """The last line of the audit of a broken copy."""
 COUNTS = re.compile(rb"entries (\d+)\ncompared (\d+)\nunlawful (\d+)\naudit (?:legal|bad \d+)\n")
-AUDIT = re.compile(
+AUDIT_TEXT = re.compile(
     rb"^(entries \d+\ncompared \d+\nunlawful \d+\naudit (?:legal|bad \d+)\n)" + BEHIND + rb"\Z",
     re.MULTILINE,
 )
-RESULTS = re.compile(
+RESULTS_TEXT = re.compile(
     rb"^(entries \d+\ncompared \d+\nunlawful \d+\naudit (?:legal|bad \d+)\n)"
     rb"((?:\d+: .*\n)*)(?:day (over)|in (opening|intraday|closing))\n" + BEHIND + rb"\Z",
     re.MULTILINE,
@@ -69,7 +69,7 @@ class Form(NamedTuple):
 def blocks_of(output: Readable) -> Blocks:
     """The output in blocks of whole lines. Where it is cut, the last line lacks its end."""
     rest = b""
-    while block := output.read(BLOCK):
+    while block := output.read(OUTPUT_BLOCK):
         end = block.rfind(b"\n") + 1
         if end:
             yield rest + block[:end]
@@ -87,7 +87,7 @@ def line_at(block: bytes, place: int) -> bytes:
 def read_audit(blocks: Blocks) -> Columns:
     """The counts, and the number of the first entry that differs. Raises OutputFault."""
     first, last = ends_of(blocks, AUDIT_END)
-    found = AUDIT.search(last)
+    found = AUDIT_TEXT.search(last)
     return read_counts(found[1] if found else b"") | read_first(first)
 
 
@@ -119,7 +119,7 @@ def read_results(blocks: Blocks) -> Columns:
     the journal isn't a broken copy. Raises OutputFault.
     """
     first, last = ends_of(blocks, RESULTS_END)
-    found = RESULTS.search(last)
+    found = RESULTS_TEXT.search(last)
     if not found:
         raise OutputFault("the program printed no audit with results")
     columns = read_counts(found[1]) | read_first(first) | {"auctions": 0, "trades": 0}

@@ -21,7 +21,7 @@ WORKER = "callauction.market.worker"
 """The module that a worker runs."""
 AHEAD = 3
 """How many files a worker has at once: one that the program runs on, one before, one after."""
-BLOCK = 1 << 16
+ANSWERS_BLOCK = 1 << 16
 """How many bytes of answers are read at a time."""
 
 
@@ -63,7 +63,7 @@ class Worker:
 
     def answers(self) -> list[Answer]:
         """What it says since this was asked. Raises EOFError where it has ended."""
-        text = os.read(self.out.fileno(), BLOCK)
+        text = os.read(self.out.fileno(), ANSWERS_BLOCK)
         if not text:
             raise EOFError
         self.rest += text

@@ -16,7 +16,7 @@ if TYPE_CHECKING:
     import pandas
     from distributed import Client
 
-AUDIT = ("results",)
+AUDIT_FORM = ("results",)
 """The form of an audit: the verdict, and the results of the day's auctions."""
 
 Path = str | os.PathLike[str]
@@ -106,11 +106,11 @@ def audit(
     program: Path | None = None,
 ) -> "pandas.DataFrame":
     """Which recorded replies of each journal are unlawful, how many were compared, and the prices
-    of its auctions: run with the form of AUDIT.
+    of its auctions: run with the form of AUDIT_FORM.
     """
     return run(
         paths,
-        AUDIT,
+        AUDIT_FORM,
         client,
         workers=workers,
         expect=expect,

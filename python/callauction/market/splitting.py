@@ -70,7 +70,7 @@ def picked(*names: str) -> Picker:
 ONLY, PEAK = CELLS.index("only"), CELLS.index("peak")
 ENTER = picked("side", "quantity", "limit", "peak", "only")
 WITH_PEAK = picked("side", "quantity", "limit", "peak")
-PLAIN = picked("side", "quantity", "limit")
+WITHOUT_PEAK = picked("side", "quantity", "limit")
 FIELDS = {
     "enter": ENTER,
     "change": picked("id", "quantity", "limit"),
@@ -219,7 +219,7 @@ def records_of(frame: "pandas.DataFrame", by: str) -> Iterator[tuple[str, str]]:
     for instrument, row in zip(texts(frame[by]), rows):
         pick = FIELDS.get(row[1], NONE)
         if pick is ENTER and not row[ONLY]:
-            pick = WITH_PEAK if row[PEAK] else PLAIN
+            pick = WITH_PEAK if row[PEAK] else WITHOUT_PEAK
         yield instrument, ",".join(pick(row)) + "\n"
 
 

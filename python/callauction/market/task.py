@@ -15,8 +15,8 @@ from typing import IO, NamedTuple
 
 from callauction.market.child import Child, StillRuns
 from callauction.market.forms import (
-    BLOCK,
     FORMS,
+    OUTPUT_BLOCK,
     Blocks,
     Columns,
     Form,
@@ -179,7 +179,7 @@ def run_form(
         yield Step.FINISH
         if status not in GOOD:
             errors.seek(0)
-            raise ProgramFault(fault_of(status, errors.read(BLOCK), request))
+            raise ProgramFault(fault_of(status, errors.read(OUTPUT_BLOCK), request))
     if isinstance(found, OutputFault):
         raise found
     return found, seconds

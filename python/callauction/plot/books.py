@@ -28,7 +28,7 @@ from callauction.tables import book_at
 MOST_BARS = 200
 """The volume of a book of no more limits has a bar at each; else it is the area under both curves.
 """
-MOST_MARKED = 30
+MOST_LARGE_MARKS = 30
 """More best limits than these have small marks."""
 REACH = 10
 """A reference of no more ticks beyond the book than this, or than the book is wide, is drawn in its
@@ -202,7 +202,7 @@ def _draw_best(axes: Axes, levels: pandas.DataFrame, named: Namer) -> None:
             numbers(best["limit"]),
             linestyle="",
             marker="D",
-            markersize=11 if len(best) <= MOST_MARKED else 4,
+            markersize=11 if len(best) <= MOST_LARGE_MARKS else 4,
             markerfacecolor="none",
             markeredgecolor=PRICE,
             label="best limits",

@@ -27,11 +27,11 @@ from callauction.plot.parts import (
 )
 from callauction.program import Day
 
-MOST_MARKED = 100
+MOST_MARKED_CALLS = 100
 """Calls of a day of no more have a mark each."""
 HEIGHTS = (3, 2)
 """How high the panels of the price and of the volume are, to one another."""
-WORDS = 9.0
+UNCROSS_FONT_SIZE = 9.0
 """The size of the words at uncrosses, in points."""
 
 
@@ -110,7 +110,7 @@ def _draw_shown(axes: Axes, volume_axes: Axes, shown: pandas.DataFrame, end: flo
     held = [*range(len(shown)), len(shown) - 1]
     prices = shown["price"].astype("float64").to_numpy()[held]
     _draw_without(axes, [0, *calls], numpy.array([True, *shown["price"].isna()]))
-    mark = "." if len(shown) <= MOST_MARKED else ""
+    mark = "." if len(shown) <= MOST_MARKED_CALLS else ""
     if shown["price"].notna().any():
         axes.step(
             calls, prices, where="post", color=DEMAND, marker=mark, markevery=slice(len(shown)),
@@ -219,7 +219,7 @@ def _draw_words(
             (2 if anchor == "left" else -2, 0),
             xycoords=("data", "axes fraction"),
             textcoords="offset points",
-            fontsize=WORDS,
+            fontsize=UNCROSS_FONT_SIZE,
             ha=anchor,
             va="top",
             color=REFERENCE,
@@ -233,7 +233,7 @@ def _places(axes: Axes, calls: list[int], words: list[str]) -> list[tuple[str, i
     ends: list[float] = []
     found = []
     for call, word in zip(calls, words):
-        at, long = (call - low) / (high - low) * width, len(word) * DIGIT * WORDS + 4
+        at, long = (call - low) / (high - low) * width, len(word) * DIGIT * UNCROSS_FONT_SIZE + 4
         anchor, begin = ("left", at) if at + long <= width else ("right", at - long)
         row = next((row for row, end in enumerate(ends) if end <= begin), len(ends))
         ends[row : row + 1] = [begin + long]

@@ -33,9 +33,9 @@ ROW = 13.0
 BESIDE_ROWS = 110.0
 """The height of what is above and below the rows of a new figure, in points."""
 COLORS = {"bid": DEMAND, "ask": SUPPLY}
-WORDS = 8.0
+BAR_FONT_SIZE = 8.0
 """The size of the words within bars and beside them, in points."""
-LINE = 1.25 * WORDS
+LINE = 1.25 * BAR_FONT_SIZE
 """The height of a line of such words, in points."""
 WIDEST = 11.0
 """The most inches of a new figure of an allocation."""
@@ -169,13 +169,13 @@ def _draw_rows(axes: Axes, rows: Sequence[_Row], color: str) -> None:
     quantities = [row.quantity for row in rows]
     axes.barh(places, quantities, color=PALE[color], label="open before")
     axes.barh(places, [row.executed for row in rows], color=color, label="executed")
-    axes.set_yticks(places, [row.name for row in rows], fontsize=WORDS)
+    axes.set_yticks(places, [row.name for row in rows], fontsize=BAR_FONT_SIZE)
     axes.set_ylim(0.5 - len(rows), 0.5)
     axes.set_xlabel("quantity (shares)")
     axes.spines[["top", "right"]].set_visible(False)
     axes.figure.draw_without_rendering()
     width = points(axes)[0]
-    words = max(len(row.words) for row in rows) * DIGIT * WORDS + 6
+    words = max(len(row.words) for row in rows) * DIGIT * BAR_FONT_SIZE + 6
     axes.set_xlim(0, max(quantities) * width / max(width - words, width / 4))
     for place, row in zip(places, rows):
         axes.annotate(
@@ -183,7 +183,7 @@ def _draw_rows(axes: Axes, rows: Sequence[_Row], color: str) -> None:
             (row.quantity, place),
             (3, 0),
             textcoords="offset points",
-            fontsize=WORDS,
+            fontsize=BAR_FONT_SIZE,
             va="center",
         )
 
@@ -316,7 +316,7 @@ def _draw_spans(axes: Axes, place: int, lengths: list[int], words: Words, color:
             "\n".join(lines),
             ha="center",
             va="center",
-            fontsize=WORDS,
+            fontsize=BAR_FONT_SIZE,
             color="white" if color else PRICE,
             rotation=0 if box.holds(lines, span) else 90,
         )
@@ -332,7 +332,7 @@ class _Box:
 
     def holds(self, words: tuple[str, ...], shares: int, is_upright: bool = False) -> bool:
         """Whether a bar of these shares has room for these words, which may be upright."""
-        long, high = max(map(len, words)) * DIGIT * WORDS + 8, len(words) * LINE + 4
+        long, high = max(map(len, words)) * DIGIT * BAR_FONT_SIZE + 8, len(words) * LINE + 4
         room = self.share * shares
         if is_upright:
             return high <= room and long <= self.height
