@@ -367,7 +367,7 @@ def test_whole_requests_take_turns_behind_members(tmp_path: pathlib.Path, kind: 
 @pytest.mark.asyncio
 async def test_a_right_code_waits_for_few_wrong_ones(monkeypatch: pytest.MonkeyPatch) -> None:
     now = [0.0]
-    monkeypatch.setattr(rates, "TURNS", 200.0)
+    monkeypatch.setattr(rates, "TURN_RATE", 200.0)
     guesses = Guesses(lambda: now[0])
     for place in range(rates.WRONG_BURST):
         assert await guesses.turn(f"10.0.0.{place}", str(place))
@@ -398,7 +398,7 @@ async def test_a_right_code_waits_for_few_of_many_addresses(
     """Guessers have a new address for each guess, of some networks, and fill all places; that one
     of their codes a second is within the rate makes nothing forgotten.
     """
-    monkeypatch.setattr(rates, "TURNS", 500.0)
+    monkeypatch.setattr(rates, "TURN_RATE", 500.0)
     now = [0.0]
     guesses = Guesses(lambda: now[0])
     for place in range(2 * rates.MOST_COUNTED_NAMES):
@@ -416,7 +416,7 @@ async def test_a_right_code_waits_for_few_of_many_addresses(
 
 @pytest.mark.asyncio
 async def test_who_guesses_most_gives_way(monkeypatch: pytest.MonkeyPatch) -> None:
-    monkeypatch.setattr(rates, "TURNS", 1000.0)
+    monkeypatch.setattr(rates, "TURN_RATE", 1000.0)
     monkeypatch.setattr(rates, "MOST_WAITING", 3)
     guesses = Guesses(lambda: 0.0)
     for _ in range(rates.WRONG_BURST + 1):
@@ -475,9 +475,9 @@ def test_a_class_joins_beside_guessers_of_its_address(tmp_path: pathlib.Path) ->
     with served.served(tmp_path, FAST) as venue:
         right, wrong, took = asyncio.run(lesson(venue))
         assert right == [200] * STUDENTS
-        assert took < STUDENTS / rates.TURNS + 5, took
+        assert took < STUDENTS / rates.TURN_RATE + 5, took
         seconds = time.monotonic() - begin
-        most = rates.WRONG_BURST + (rates.TURNS + rates.WRONG_RATE) * seconds
+        most = rates.WRONG_BURST + (rates.TURN_RATE + rates.WRONG_RATE) * seconds
         assert wrong.count(403) <= most, (wrong.count(403), seconds)
     text = (tmp_path / "venue/venue.log").read_text()
     lines = [json.loads(line) for line in text.splitlines()]

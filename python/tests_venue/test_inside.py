@@ -61,7 +61,7 @@ async def test_who_says_nothing_is_sent_away(client: Any, monkeypatch: pytest.Mo
 async def test_who_answers_no_heartbeat_is_sent_away(
     client: Any, inside: Venue, monkeypatch: pytest.MonkeyPatch
 ) -> None:
-    monkeypatch.setattr(connection, "HEARTBEAT", 0.2)
+    monkeypatch.setattr(connection, "HEARTBEAT_SECONDS", 0.2)
     _, token = await inside.join(inside.members.codes.by_name[""], "Anna")
     socket = await client.ws_connect("/api/socket", autoping=False)
     await socket.send_json({"type": "hello", "token": token})

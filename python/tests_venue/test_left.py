@@ -44,7 +44,7 @@ room.free = hanging("disk hangs", room.free)
 venue.LOOK_SECONDS = 0.2
 http.Site._schema = asked
 if IS_PATIENT:
-    serving.GRACE = front.LAST_BYTES_SECONDS = process.STOP_SECONDS = 100
+    serving.LINGER_SECONDS = front.LAST_BYTES_SECONDS = process.STOP_SECONDS = 100
 sys.argv[0] = "venue"
 sys.exit(main.main())
 """

@@ -126,10 +126,10 @@ class Node:
 def test_what_nobody_holds_is_collected_by_itself() -> None:
     """Also with these thresholds: memory doesn't grow by what connections leave."""
     before, there = gc.get_threshold(), weakref.WeakSet[Node]()
-    gc.set_threshold(*serving.COLLECTED)
+    gc.set_threshold(*serving.COLLECTOR_THRESHOLDS)
     try:
-        for _ in range(10 * serving.COLLECTED[0]):
+        for _ in range(10 * serving.COLLECTOR_THRESHOLDS[0]):
             there.add(Node())
     finally:
         gc.set_threshold(*before)
-    assert len(there) <= 2 * serving.COLLECTED[0]
+    assert len(there) <= 2 * serving.COLLECTOR_THRESHOLDS[0]

@@ -33,13 +33,13 @@ from callauction.venue.timekeeping import (
 from callauction.venue.venue import LOG, Venue
 
 TOKEN_ROLES = ("operator", "beamer")
-MOST_OF_LINE = 4096
+FIRST_LINE_BYTES = 4096
 """The bytes that the first line of a journal may have."""
 CROWDED = (
     "members: most {} is more than the {} who may trade one of several instruments: `group = {}` "
     "deals them into groups, each with boards of its own"
 )
-ROOM = 1 << 16
+START_BYTES = 1 << 16
 """The bytes that a start may take at least of the disk, for each instrument and for the log."""
 
 
@@ -56,7 +56,7 @@ def checked(
     is_there = folder.exists()
     if is_there:
         owned.make_folder(folder)
-    check_room(folder if is_there else folder.parent, ROOM * (len(day.instruments) + 1))
+    check_room(folder if is_there else folder.parent, START_BYTES * (len(day.instruments) + 1))
     if text := room.too_small(day, folder):
         yield f"warning: {text}"
     if not is_there:
@@ -307,7 +307,7 @@ def check_first(words: Sequence[str], journal: pathlib.Path, copy: pathlib.Path)
     if not owned.check_file(journal):
         return
     with journal.open("rb") as file:
-        first = file.readline(MOST_OF_LINE)
+        first = file.readline(FIRST_LINE_BYTES)
     if first.endswith(b"\n"):
         owned.write(copy, first)
         said = ran(*words)

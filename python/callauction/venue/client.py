@@ -22,7 +22,7 @@ from callauction.words import MARKET
 Price = str | Decimal
 Awaited = TypeVar("Awaited")
 FIRST_PAUSE, MOST_PAUSE = 0.05, 1.0
-FINAL = ("bad_token",)
+FINAL_ERRORS = ("bad_token",)
 """Errors of a hello after which no other one would do."""
 MOST_EVENTS = 1000
 
@@ -236,7 +236,7 @@ class AsyncClient:
         number = message.get("number")
         fault = VenueError(message["error"], message["text"]) if "error" in message else None
         if number is None:
-            if fault is not None and fault.code in FINAL:
+            if fault is not None and fault.code in FINAL_ERRORS:
                 self._fault = fault
             return
         _, answer = self._pending.get(number, ("", None))

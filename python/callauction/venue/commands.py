@@ -41,7 +41,7 @@ class Commands:
         self._terms, self._reserve, self.limits = terms, day.reserve, terms.limits(treatment)
         self._bound = day.bounds.of(terms.open, terms.calls, terms.grid.tick_size)
         self._engine, self._book, self._accounts = engine, book, accounts
-        self.codes: Callable[[], Collection[str]] = lambda: (shares.CLASS,)
+        self.codes: Callable[[], Collection[str]] = lambda: (shares.CLASS_CODE,)
         self._codes: Collection[str] = ()
         self._codes_end = 0.0
         self._full: set[str] = set()
@@ -167,7 +167,7 @@ class Commands:
         is_entered = record.startswith("enter")
         if left < 1 + is_entered:
             raise MessageError("no_calls")
-        last, bound = self._terms.calls // shares.LAST, self._bound
+        last, bound = self._terms.calls // shares.LAST_PART, self._bound
         if bound.last_calls is None or bound.calls >= self._terms.calls or left > last:
             return
         left, used = left - is_entered, self._used_by_code()
@@ -189,9 +189,9 @@ class Commands:
         if (now := time.monotonic()) >= self._codes_end:
             self._codes, self._codes_end = self.codes(), now + CODES_SECONDS
         found = {code: self._used(code) for code in self._codes}
-        if shares.CLASS in found:
+        if shares.CLASS_CODE in found:
             rest = (it for it in self._book.numbers if it not in found)
-            found[shares.CLASS] = sum(map(self._used, rest))
+            found[shares.CLASS_CODE] = sum(map(self._used, rest))
         return found
 
     def say_full(self) -> None:

@@ -25,7 +25,7 @@ MOST_UNANSWERED = 256
 HELLO_SECONDS = 10.0
 TOO_FAST_SECONDS = 0.1
 """How long a connection isn't read after a message that came too fast."""
-HEARTBEAT = 20.0
+HEARTBEAT_SECONDS = 20.0
 LEAVE_SECONDS = 5.0
 """How long a connection that is to end may take to it."""
 PING_RATE, PING_BURST = 4.0, 8
@@ -244,7 +244,7 @@ class Connection:
 async def connect(request: web.Request, venue: Venue, gates: Gates) -> web.WebSocketResponse:
     """A connection, from its begin to its end."""
     most = messages.MOST_MESSAGE_BYTES
-    socket = Socket(heartbeat=HEARTBEAT, max_msg_size=most, compress=False, autoping=False)
+    socket = Socket(heartbeat=HEARTBEAT_SECONDS, max_msg_size=most, compress=False, autoping=False)
     with contextlib.suppress(ConnectionError):
         try:
             await socket.prepare(request)

@@ -36,7 +36,7 @@ GERMAN_NAMES = {
     "members": "Namen", "results": "Ergebnisse", "trades": "Abschlüsse", "report": "Bericht",
 }  # fmt: skip
 """What downloads are called in German, where that is another word."""
-MOST_LETTERS = 40
+MOST_TITLE_LETTERS = 40
 """The letters of a lesson's title in the name of a file."""
 OF_BOARD = ("journal", "members")
 """The downloads that are of one board, and not of all rounds."""
@@ -52,17 +52,17 @@ had a value, and then one of all. Money and prices are decimal numbers of the cu
 TRADE_COLUMNS = (
     *("round", "instrument", "auction", "trade", "buyer", "seller", "quantity", "price", "amount"),
 )
-YES = ("no", "yes")
+NO_OR_YES = ("no", "yes")
 """What a table says of what isn't so, and of what is."""
 NAMES_FILE, RESULTS_FILE = ".members.csv", "results.csv"
 """What a day leaves at its end: for each board, behind its key, its members' names; its results."""
-ENDED = re.compile(r".*: callboard ended with status -(\d+)")
+ENDED_BY_SIGNAL = re.compile(r".*: callboard ended with status -(\d+)")
 NO_MEMORY = re.compile(
     r".*MemoryError\b.*|(.*: )?out of memory"
     "|.*: callboard can't be run: (Cannot allocate memory|Resource temporarily unavailable)"
 )
 """The last line of a process whose program was ended by a signal, or for which memory was short."""
-SAFELY = ("-P",) if sys.flags.safe_path else ()
+SAFE_PATH = ("-P",) if sys.flags.safe_path else ()
 """As this process, one that it starts takes no modules from the folder in which it was begun."""
 Titles = Callable[[str], str]
 """What gives the name that others read of a member by its name in the log."""
@@ -126,13 +126,13 @@ async def made_in(folder: str, kind: str, lesson: Lesson, language: str) -> byte
     if kind == "trades":
         return table(TRADE_COLUMNS, await trades_of(lesson, paths), language)
     asked = json.dumps(await asked_of(lesson, paths, language)).encode("utf-8")
-    words = [sys.executable, *SAFELY, "-m", "callauction.venue.report"]
+    words = [sys.executable, *SAFE_PATH, "-m", "callauction.venue.report"]
     return await output(words, asked)
 
 
 def file_of(kind: str, lesson: Lesson, board: Instrument, language: str = PLAIN) -> str:
     """The name of a download's file, by which those of many lessons are told apart."""
-    title = re.sub(r"\W+", "-", lesson.day.title)[:MOST_LETTERS].strip("-")
+    title = re.sub(r"\W+", "-", lesson.day.title)[:MOST_TITLE_LETTERS].strip("-")
     day = time.strftime("%Y-%m-%d", time.localtime(lesson.began))
     word = GERMAN_NAMES.get(kind, kind) if language == "de" else kind
     words = [title, day, *([board.identity.key] if kind in OF_BOARD else []), word]
@@ -176,7 +176,7 @@ async def output(words: Sequence[str], given: bytes) -> bytes:
 def passing_fault(status: int, last: str) -> str:
     """Why a process with this status and last line may end well another time; empty where it won't.
     """
-    found = ENDED.fullmatch(last)
+    found = ENDED_BY_SIGNAL.fullmatch(last)
     number = int(found[1]) if found else max(0, -status)
     if number:
         return f"its process was ended by signal {number}"
@@ -221,7 +221,7 @@ def results_of(lesson: Lesson) -> Iterator[SheetRow]:
         yield row
     for it in results.payoffs(lesson.day, lesson.rounds, those.values()):
         paid: SheetRow = {"round": "all", "name": plain(it.title), "gain": it.gain}
-        yield paid | {"payoff": it.paid, "removed": YES[it.is_removed]}
+        yield paid | {"payoff": it.paid, "removed": NO_OR_YES[it.is_removed]}
 
 
 def parts_of(lesson: Lesson) -> Iterator[tuple[Member, SheetRow]]:
@@ -234,7 +234,7 @@ def parts_of(lesson: Lesson) -> Iterator[tuple[Member, SheetRow]]:
             is_there = round_.group_of(member.name) == board.identity.group
             if has_part or (is_there and not member.is_removed):
                 head: SheetRow = {"name": plain(member.title), "robot": member.robot}
-                head["removed"] = YES[member.is_removed]
+                head["removed"] = NO_OR_YES[member.is_removed]
                 yield member, head | result_of(lesson.day, round_, board, member.name)
 
 
@@ -244,7 +244,7 @@ def result_of(day: config.DayTerms, round_: Round, board: Instrument, member: st
     found: SheetRow = {
         "round": round_.number,
         "title": plain(round_.treatment.title),
-        "practice": YES[round_.treatment.is_practice],
+        "practice": NO_OR_YES[round_.treatment.is_practice],
         "instrument": board.terms.name,
     }
     for side, shares, money in (("bid", "bought", "paid"), ("ask", "sold", "received")):

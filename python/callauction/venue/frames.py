@@ -9,7 +9,7 @@ tried.check()  # before anything of it is taken
 from aiohttp import FlowControlDataQueue, WSCloseCode, WSMessage, WSMsgType, web  # noqa: E402
 from aiohttp.http_websocket import WebSocketError, WebSocketReader, WebSocketWriter  # noqa: E402
 
-LIMIT = 1 << 16
+UNREAD_BYTES = 1 << 16
 """Bytes of messages that wait to be read, from twice of which on nothing more is read."""
 Frame = tuple[bool, int | None, bytearray, bool | None]
 
@@ -61,6 +61,6 @@ class Socket(web.WebSocketResponse):
         assert self._loop is not None
         self._ws_protocol, self._writer = protocol, writer
         self._reset_heartbeat()
-        self._reader = FlowControlDataQueue(request.protocol, LIMIT, loop=self._loop)
+        self._reader = FlowControlDataQueue(request.protocol, UNREAD_BYTES, loop=self._loop)
         request.protocol.set_parser(Reader(self._reader, self._max_msg_size))
         request.protocol.keep_alive(False)

@@ -13,7 +13,7 @@ from callauction.venue.rounds import by_side, dealt, is_even, small
 from callauction.venue.starts import Starts
 from callauction.venue.treatments import Treatment
 
-LATE = "%s joined late: group %s has %s of %s members, until the next round deals all anew"
+JOINED_LATE = "%s joined late: group %s has %s of %s members, until the next round deals all anew"
 
 
 class Groups:
@@ -148,7 +148,7 @@ class Groups:
         for member in newcomers:
             if member.group in small(sizes):
                 size = sizes[member.group]
-                NOTICES.warning(LATE, member.title, member.group, size, max(sizes.values()))
+                NOTICES.warning(JOINED_LATE, member.title, member.group, size, max(sizes.values()))
 
     def _deal_all(self, values: dict[str, Value]) -> None:
         """Deals all members to the groups, with as many in each who have values of one side."""

@@ -12,7 +12,7 @@ from callauction.venue.gains import Value
 from callauction.venue.names import folded
 from callauction.words import SIDES
 
-HOWS = ("none", "keep", "shuffle", "chance", "schedule", "list")
+HANDING_WAYS = ("none", "keep", "shuffle", "chance", "schedule", "list")
 FROM_GERMAN = {
     "seite": "side", "preis": "price", "wert": "price", "menge": "quantity", "stück": "quantity",
     "runde": "round", "kauf": "bid", "verkauf": "ask",
@@ -59,7 +59,7 @@ class ListedValue:
 class Rule:
     """How values are handed out, with prices as decimal texts: `chance` from low to high, half of
     the members buying; `schedule`, one price of demand or supply after the other; `list`, rows; or
-    one of HOWS that needs nothing else.
+    one of HANDING_WAYS that needs nothing else.
     """
 
     how: str = "keep"

@@ -19,7 +19,7 @@ HEADERS = {
 TLS_HEADERS = {"Strict-Transport-Security": "max-age=31536000"}
 """Where it is reached by TLS: browsers take nothing else of this name for a year."""
 NO_REQUEST = "this is no request by HTTP, or a line of its head is longer than 8190 bytes"
-GRACE = 1.0
+LINGER_SECONDS = 1.0
 """How long connections that end are waited for."""
 
 
@@ -44,7 +44,7 @@ class ConnectionHandler(web.RequestHandler):
             access_log=None,  # type: ignore[arg-type]
             auto_decompress=False,
             keepalive_timeout=IDLE_SECONDS,
-            lingering_time=GRACE,
+            lingering_time=LINGER_SECONDS,
             logger=NOTICES,
         )
 

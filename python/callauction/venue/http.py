@@ -29,8 +29,8 @@ from callauction.venue.venue import Venue
 from callauction.venue.wrong_codes import WrongCodes
 
 Handler = Callable[[web.Request], Awaitable[web.StreamResponse]]
-HERE = pathlib.Path(__file__).resolve().parent
-TYPES = {
+VENUE_FOLDER = pathlib.Path(__file__).resolve().parent
+CONTENT_TYPES = {
     ".html": "text/html",
     ".css": "text/css",
     ".js": "text/javascript",
@@ -38,8 +38,8 @@ TYPES = {
     ".json": "application/json",
 }
 PAGES = {"/": "member.html", "/teacher": "teacher.html", "/beamer": "beamer.html"}
-MOST_BODY = 65_536
-STATUSES = {
+MOST_BODY_BYTES = 65_536
+ERROR_STATUSES = {
     "bad_token": 401,
     "bad_code": 403,
     "not_allowed": 403,
@@ -57,12 +57,12 @@ STATUSES = {
 AGAIN = ("join_later", "not_made")
 """What may be asked for once more, after JOIN_SECONDS."""
 SOCKET_PATH = "/api/socket"
-MOST_NAME = 40
-GUESSED = (
+MOST_NAME_LETTERS = 40
+"""How much is written down of a name that came with a wrong code."""
+CODES_GUESSED = (
     "codes are guessed, lastly from %s: each waits for its turn, also a right one; "
     "Close joining on the teacher's page once all have joined"
 )
-"""How much is written down of a name that came with a wrong code."""
 
 
 @dataclasses.dataclass
@@ -110,13 +110,13 @@ class Site:
         self, venue: Venue, program: str, hosts: frozenset[str], gates: Gates | None = None
     ) -> None:
         self._venue, self._program, self._doors = venue, program, Doors(hosts)
-        self._files = {path.name: path for path in (HERE / "pages").iterdir()}
+        self._files = {path.name: path for path in (VENUE_FOLDER / "pages").iterdir()}
         self._gates = Gates() if gates is None else gates
         self._guesses, self._wrong_codes = Guesses(), WrongCodes(venue.log)
 
     def application(self) -> web.Application:
         """What aiohttp serves."""
-        found = web.Application(middlewares=[self._guarded], client_max_size=MOST_BODY)
+        found = web.Application(middlewares=[self._guarded], client_max_size=MOST_BODY_BYTES)
         found.on_response_prepare.append(heads.mark)
         found.on_shutdown.append(self._wrong_codes.end)
         for path, name in PAGES.items():
@@ -144,7 +144,8 @@ class Site:
         except MessageError as fault:
             body = {"error": fault.code, "text": fault.text} | fault.more
             later = {"Retry-After": f"{JOIN_SECONDS:.0f}"} if fault.code in AGAIN else {}
-            return web.json_response(body, status=STATUSES.get(fault.code, 400), headers=later)
+            status = ERROR_STATUSES.get(fault.code, 400)
+            return web.json_response(body, status=status, headers=later)
         except web.HTTPException:
             raise
         except ConnectionError:
@@ -173,8 +174,9 @@ class Site:
         except TimeoutError:
             raise web.HTTPRequestTimeout(text="the request takes too long") from None
         except web.HTTPRequestEntityTooLarge:
-            text = f"a body has at most {MOST_BODY} bytes"
-            raise web.HTTPRequestEntityTooLarge(MOST_BODY, MOST_BODY, text=text) from None
+            most = MOST_BODY_BYTES
+            text = f"a body has at most {most} bytes"
+            raise web.HTTPRequestEntityTooLarge(most, most, text=text) from None
         except (ClientPayloadError, HttpProcessingError):
             raise MessageError("bad_message", "the body isn't what its head says") from None
         with self._gates.served(request.transport):
@@ -206,12 +208,12 @@ class Site:
         path = self._files.get(name)
         if path is None:
             raise web.HTTPNotFound
-        kind = TYPES.get(path.suffix, "application/octet-stream")
+        kind = CONTENT_TYPES.get(path.suffix, "application/octet-stream")
         return web.Response(body=path.read_bytes(), content_type=kind, charset="utf-8")
 
     async def _schema(self, request: web.Request) -> web.Response:
         """What the messages are."""
-        return web.json_response(body=(HERE / "schema.json").read_bytes())
+        return web.json_response(body=(VENUE_FOLDER / "schema.json").read_bytes())
 
     # ---- who may be anybody
 
@@ -240,10 +242,10 @@ class Site:
         except MessageError as fault:
             if fault.code == "bad_code":
                 are_many = self._guesses.wrong(*who)
-                self._wrong_codes.note(name[:MOST_NAME], are_many)
+                self._wrong_codes.note(name[:MOST_NAME_LETTERS], are_many)
                 NOTICES.info("a wrong code, from %s", request.remote, extra={"of": "codes"})
                 if are_many:
-                    NOTICES.warning(GUESSED, request.remote, extra={"of": "guesses"})
+                    NOTICES.warning(CODES_GUESSED, request.remote, extra={"of": "guesses"})
             raise
         NOTICES.info("a member joined, from %s", request.remote, extra={"member": member.name})
         again = member.devices > 1

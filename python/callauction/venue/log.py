@@ -24,7 +24,7 @@ Line = dict[str, Any]
 Then = Callable[[], None]
 SOURCE: contextvars.ContextVar[str] = contextvars.ContextVar("source", default="")
 """The address of whom a request is served, empty where it is the venue itself."""
-FIELDS: dict[str, dict[str, type]] = {
+LINE_FIELDS: dict[str, dict[str, type]] = {
     "start": {"instrument": str, "entries": int},
     "mark": {"instrument": str, "entries": int},
     "sent": {"instrument": str, "member": str, "number": int, "record": str},
@@ -100,7 +100,7 @@ def read_lines(text: bytes, name: str) -> list[Line]:
 
 def fields_of(line: Line) -> list[tuple[str, type]]:
     """The fields that a line has to have by its kind, and the kind of each."""
-    found: list[tuple[str, type]] = [("kind", str), *FIELDS.get(line["kind"], {}).items()]
+    found: list[tuple[str, type]] = [("kind", str), *LINE_FIELDS.get(line["kind"], {}).items()]
     return found + [("instrument", str)] * ("instrument" in line)
 
 

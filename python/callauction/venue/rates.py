@@ -39,11 +39,11 @@ class Bucket:
 
 WRONG_RATE, WRONG_BURST = 1.0, 60
 """Wrong codes of all together, a second and at once, before each code waits for its turn."""
-TURNS = 20.0
+TURN_RATE = 20.0
 """Codes that are looked at in a second from then on."""
 MOST_WAITING = 200
 MOST_COUNTED_NAMES = 10_000
-WIDE = 16, 32
+WIDE_NETWORK_BITS = 16, 32
 """The bits of a wide network of IPv4 and of IPv6: few guessers have many of them."""
 Rank = tuple[int, int, int, int]
 
@@ -110,7 +110,7 @@ class Guesses:
     async def _take_turns(self) -> None:
         """Lets one after the other."""
         while self._waiting:
-            await asyncio.sleep(1 / TURNS)
+            await asyncio.sleep(1 / TURN_RATE)
             while self._waiting and not self._give(min(self._waiting), True):
                 pass
 
@@ -125,7 +125,7 @@ class Guesses:
 
 def names_of(address: str, connection: str) -> tuple[str, str, str]:
     """By what wrong codes are counted: the connection, its address, and the wide network of it."""
-    return connection, network_of(address), network_of(address, *WIDE)
+    return connection, network_of(address), network_of(address, *WIDE_NETWORK_BITS)
 
 
 def network_of(address: str, bits_of_4: int = 32, bits_of_6: int = 64) -> str:

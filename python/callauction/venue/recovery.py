@@ -20,7 +20,7 @@ from callauction.venue.leftovers import Program
 from callauction.venue.log import Line, taking
 
 JOURNAL_BLOCK = 1 << 18
-COMMIT = 4096
+COMMIT_BYTES = 4096
 """The bytes that the program writes at a time: it gives up no more than that behind whole lines."""
 OTHER_FIRST = "the journal is another one: its first line isn't the day's"
 OTHER_ENTRIES = "the journal is another one: its entries differ from the day's from the first on"
@@ -178,7 +178,7 @@ def added_in(text: str) -> int:
     lines, _, rest = text.partition("\0")
     rest = rest.rstrip("\0")
     cut = len(lines) - (lines.rfind("\n") + 1)
-    if not rest or cut + 1 + len(rest) <= COMMIT:
+    if not rest or cut + 1 + len(rest) <= COMMIT_BYTES:
         return 0
     added = rest.lstrip("\0").removesuffix("\n").split("\n")
     return len(added) if all(map(ENTRY.fullmatch, added)) else 0

@@ -190,7 +190,7 @@ def table_of(
 def cell_of(column: str, value: str, language: str) -> object:
     """A cell: a decimal number goes to the right in its column, also where it is below 0."""
     text = sheets.cell(column, value, language)
-    return Number(text) if text and column in sheets.DECIMAL else text
+    return Number(text) if text and column in sheets.DECIMAL_COLUMNS else text
 
 
 def auctions_of(day: Day) -> list[tuple[int, pandas.DataFrame]]:
@@ -210,7 +210,7 @@ def replies_of(day: Day) -> dict[int, str]:
 def reference_before(day: Day, command: int) -> int:
     """The reference price before a command, in ticks: the last price, or the first reference."""
     first = day.content.decode("ascii").partition("\n")[0]
-    found = int(first.split(",")[REFERENCE])
+    found = int(first.split(",")[REFERENCE_FIELD])
     for place, reply in replies_of(day).items():
         priced = PRICED.match(reply)
         if place < command and priced and priced[1] != "interrupted":
@@ -218,7 +218,7 @@ def reference_before(day: Day, command: int) -> int:
     return found
 
 
-REFERENCE = 3
+REFERENCE_FIELD = 3
 """The field of a day record that has the reference."""
 
 

@@ -10,14 +10,16 @@ journal; in the log its own line, a mark, and a point of the indicative price.
 """
 BYTES_OF_FIX = 1024
 """About what it takes beside that by FIX: what the log notes of it, and its reports."""
-LOW = 64 << 20
+LOW_BYTES = 64 << 20
 """From how many bytes on that are left a venue warns of a disk that gets full."""
 MIB = 1 << 20
-ALLOWED = (
+DISK_TOO_SMALL = (
     "{}: its disk has {} MiB left, and by the day's limits {} commands may take {} MiB more: make "
     "room, or lessen `calls`"
 )
-NEARLY_FULL = "the disk of {} has {} MiB left: make room before it is full, which halts the day"
+DISK_NEARLY_FULL = (
+    "the disk of {} has {} MiB left: make room before it is full, which halts the day"
+)
 
 
 def commands_of(day: config.DayTerms) -> int:
@@ -56,4 +58,4 @@ def too_small(day: config.DayTerms, folder: pathlib.Path) -> str:
     needed = allowed(day) - taken(folder)
     if needed <= has:
         return ""
-    return ALLOWED.format(folder, has // MIB, commands_of(day), -(-needed // MIB))
+    return DISK_TOO_SMALL.format(folder, has // MIB, commands_of(day), -(-needed // MIB))

@@ -14,7 +14,7 @@ from callauction.venue.messages import MessageError
 from callauction.venue.phases import Phase, PhaseError
 from callauction.venue.treatments import Treatment
 
-FEW = 3
+FEW_MEMBERS = 3
 """How many members of a group find hardly anybody to trade with."""
 RESUME_FIRST = "it isn't known what {} has: resume first, or begin anyway"
 
@@ -253,7 +253,7 @@ def small(sizes: Mapping[int, int]) -> list[int]:
     have twice as many or more.
     """
     most = max(sizes.values(), default=0)
-    return [group for group, size in sizes.items() if size <= FEW and 2 * size <= most]
+    return [group for group, size in sizes.items() if size <= FEW_MEMBERS and 2 * size <= most]
 
 
 def by_side(names: Iterable[str], values: Mapping[str, Value]) -> list[str]:

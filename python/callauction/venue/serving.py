@@ -19,7 +19,7 @@ from aiohttp import web
 from callauction.statuses import FAILED
 from callauction.venue import addresses, ending, gates, listening, notices, owned, supervising
 from callauction.venue.begun import date_of
-from callauction.venue.heads import GRACE, ConnectionHandler
+from callauction.venue.heads import LINGER_SECONDS, ConnectionHandler
 from callauction.venue.http import Site
 from callauction.venue.logger import NOTICES
 from callauction.venue.process import kill_all
@@ -29,13 +29,13 @@ MOST_OF_METRICS = 32
 """Connections of those who look at metrics: operations has few, and a flood there takes no files
 from members.
 """
-MOST_PEM = 1 << 20
+MOST_PEM_BYTES = 1 << 20
 """The bytes that a file of a certificate or of a key may have."""
 OTHER_KEY = frozenset({"KEY_VALUES_MISMATCH", "KEY_TYPE_MISMATCH", "NO_CERTIFICATE_ASSIGNED"})
 """What OpenSSL says of a key that is another certificate's, of the same kind or another."""
-HOSTS = ("DNS", "IP Address")
+HOST_NAME_KINDS = ("DNS", "IP Address")
 """The kinds of names in a certificate by which it is for a host."""
-COLLECTED = 10_000, 5, 2
+COLLECTOR_THRESHOLDS = 10_000, 5, 2
 """After how many more objects, and how often that, Python's collector looks at the youngest, at
 those of some age, and at all.
 """
@@ -45,7 +45,7 @@ DAY_SECONDS = 86_400.0
 DAY_IS_OVER = "the day is over: no call can start; the next round can, or --folder NEW begins anew"
 END_SECONDS = 4.5
 """How long after a signal the venue ends, whatever hangs."""
-ENDING = (signal.SIGHUP, signal.SIGINT, signal.SIGTERM)
+END_SIGNALS = (signal.SIGHUP, signal.SIGINT, signal.SIGTERM)
 """The signals that may come once more while it ends."""
 
 
@@ -108,8 +108,8 @@ class Address:
             return None
         found = ssl.create_default_context(ssl.Purpose.CLIENT_AUTH)
         try:
-            cert = owned.whole(pathlib.Path(self.cert), MOST_PEM)
-            key = owned.whole(pathlib.Path(self.key or ""), MOST_PEM, judge=owned.check_key)
+            cert = owned.whole(pathlib.Path(self.cert), MOST_PEM_BYTES)
+            key = owned.whole(pathlib.Path(self.key or ""), MOST_PEM_BYTES, judge=owned.check_key)
             found.load_cert_chain(self.cert, self.key, refuse_to_ask)
             check_time(self.cert)
         except owned.OwnerError as fault:
@@ -204,7 +204,8 @@ def ends_of(cert: str) -> float:
 
 def names_of(cert: str) -> list[str]:
     """The hosts for which a certificate is: names and addresses."""
-    return [value for kind, value in decoded(cert).get("subjectAltName", ()) if kind in HOSTS]
+    named = decoded(cert).get("subjectAltName", ())
+    return [value for kind, value in named if kind in HOST_NAME_KINDS]
 
 
 def decoded(cert: str) -> dict[str, Any]:
@@ -262,11 +263,11 @@ class Pages:
             self._listener.close()
 
     async def end(self) -> None:
-        """Ends all connections, once their requests are answered or GRACE has passed."""
+        """Ends all connections, once their requests are answered or LINGER_SECONDS has passed."""
         with ending.until_done(self._gates.name):
             await self._runner.shutdown()
             if self._runner.server is not None:
-                await self._runner.server.shutdown(GRACE)
+                await self._runner.server.shutdown(LINGER_SECONDS)
             await self._runner.cleanup()
 
 
@@ -398,7 +399,7 @@ def collect_rarely() -> None:
     and so does nearly all that an order leaves. Each look holds up all orders.
     """
     gc.freeze()
-    gc.set_threshold(*COLLECTED)
+    gc.set_threshold(*COLLECTOR_THRESHOLDS)
 
 
 def measures(venue: Venue, found: gates.Gates, fronts: Sequence[Front]) -> web.Application:
@@ -456,7 +457,7 @@ def stopped_by_signals() -> asyncio.Event:
             asked.release()
         loop.call_soon_threadsafe(stopped.set)
 
-    for number in ENDING:
+    for number in END_SIGNALS:
         signal.signal(number, stop)
     return stopped
 
@@ -489,5 +490,5 @@ async def serve(
         finally:
             counting.cancel()
             gc.freeze()  # to look at all that a long day has left would take many seconds
-            for number in ENDING:  # nothing is left for one more to end
+            for number in END_SIGNALS:  # nothing is left for one more to end
                 signal.signal(number, signal.SIG_IGN)

@@ -8,17 +8,17 @@ name finds some too, however many came before it; of little LITTLE, and at most 
 """
 from collections.abc import Mapping
 
-CLASS = ""
+CLASS_CODE = ""
 """The code that all names share who have none of their own."""
-LAST = 4
+LAST_PART = 4
 """The last part of a day's commands is a quarter."""
-PART, LITTLE = 16, 20
+NAME_PART, LITTLE = 16, 20
 """A name has a sixteenth of what is left; or so many, where that is at most a quarter of it."""
 
 
 def most_of(left: int) -> int:
     """How many commands one name may have had that has one more of these that are left."""
-    return max(left // PART, min(LITTLE, -(-left // LAST)))
+    return max(left // NAME_PART, min(LITTLE, -(-left // LAST_PART)))
 
 
 def most(member: str, used: Mapping[str, int], left: int, last: int, of_name: int) -> int:
@@ -26,8 +26,8 @@ def most(member: str, used: Mapping[str, int], left: int, last: int, of_name: in
     ones, and is never to have more than `of_name` then; under each code as many were `used`.
     """
     equal = last // max(1, len(used))
-    parts = {code: equal if code == CLASS else min(equal, of_name) for code in used}
-    code = member if member in used else CLASS
+    parts = {code: equal if code == CLASS_CODE else min(equal, of_name) for code in used}
+    code = member if member in used else CLASS_CODE
     kept = sum(max(0, parts[it] - used[it]) for it in used if it != code)
     rest = min(of_name, most_of(max(0, left - kept)))
-    return rest if code == CLASS else max(rest, parts[code])
+    return rest if code == CLASS_CODE else max(rest, parts[code])

@@ -10,11 +10,11 @@ PLAIN = ""
 SHEET_LANGUAGES = (PLAIN, "en", "de")
 SIGNATURE = "\ufeff"
 """By it a spreadsheet knows that a file is UTF-8."""
-DECIMAL = frozenset(
+DECIMAL_COLUMNS = frozenset(
     ("value", "paid", "received", "gain", "possible", "efficiency", "payoff", "price", "amount")
 )
 """The columns that are decimal numbers."""
-HEADS = {
+GERMAN_HEADS = {
     "round": "Runde", "title": "Titel", "practice": "Übung", "instrument": "Wertpapier",
     "name": "Name", "robot": "Roboter", "side": "Seite", "value": "Wert", "quantity": "Menge",
     "bought": "gekauft", "paid": "bezahlt", "sold": "verkauft", "received": "erhalten",
@@ -24,7 +24,7 @@ HEADS = {
     "removed": "entfernt",
 }  # fmt: skip
 """What the columns are in German."""
-CELLS = {
+GERMAN_CELLS = {
     "round": {"all": "alle"},
     "practice": {"yes": "ja", "no": "nein"},
     "removed": {"yes": "ja", "no": "nein"},
@@ -51,16 +51,16 @@ def table(columns: Sequence[str], rows: Iterable[SheetRow], language: str = PLAI
 
 def head(column: str, language: str) -> str:
     """What heads a column."""
-    return HEADS[column] if language == "de" else column
+    return GERMAN_HEADS[column] if language == "de" else column
 
 
 def cell(column: str, value: object, language: str) -> str:
     """A cell of a column."""
     if language != "de":
         return str(value)
-    if column in DECIMAL:
+    if column in DECIMAL_COLUMNS:
         return decimal(str(value), language)
-    return CELLS.get(column, {}).get(str(value), str(value))
+    return GERMAN_CELLS.get(column, {}).get(str(value), str(value))
 
 
 def decimal(text: str, language: str) -> str:

@@ -28,7 +28,7 @@ from typing import Any
 from callauction.limits import MOST_QUANTITY
 from callauction.venue.auctions import Auctions
 from callauction.venue.fields import SENTENCE, ConfigError, Fields, flaw_of
-from callauction.venue.handing import HOWS, HandError, ListedValue, Rule, named, rows_of
+from callauction.venue.handing import HANDING_WAYS, HandError, ListedValue, Rule, named, rows_of
 from callauction.venue.instrument import Instrument
 from callauction.venue.json_types import Json
 from callauction.venue.log import SOURCE
@@ -350,8 +350,8 @@ def rule_of(message: dict[str, Any]) -> Rule:
     """How a message wants values to be handed out. Raises MessageError, HandError."""
     default = "list" if {"values", "file"} & {*message} else "chance"
     how = text_of(message, "how", default)
-    if how not in HOWS[2:]:
-        raise MessageError("bad_message", f"how is one of {', '.join(HOWS[2:])}")
+    if how not in HANDING_WAYS[2:]:
+        raise MessageError("bad_message", f"how is one of {', '.join(HANDING_WAYS[2:])}")
     if how == "shuffle":
         return Rule(how)
     if how == "list":

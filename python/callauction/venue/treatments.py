@@ -8,7 +8,7 @@ from typing import Any, Self
 
 from callauction.limits import MOST_QUANTITY
 from callauction.venue.fields import SENTENCE, TABLE, Fields
-from callauction.venue.handing import HOWS, HandError, ListedValue, Rule, rows_of
+from callauction.venue.handing import HANDING_WAYS, HandError, ListedValue, Rule, rows_of
 
 MOST_CALL_SECONDS = 86_400
 BOOKS = ("closed", "open")
@@ -98,7 +98,7 @@ def rule_of(fields: Fields, read: Read | None) -> Rule:
     except HandError as fault:
         raise fields.fault(f"file {file}:" if read else "file", str(fault)) from None
     return Rule(
-        how=fields.choice("values", HOWS, default.how),
+        how=fields.choice("values", HANDING_WAYS, default.how),
         low=fields.price("low"),
         high=fields.price("high"),
         quantity=fields.whole("quantity", default.quantity, 1, MOST_QUANTITY),

@@ -5,14 +5,15 @@ import aiohttp
 
 from callauction.statuses import FAILED
 
-WANTED = "3.8"
+AIOHTTP_VERSION = "3.8"
 
 
 def check() -> None:
     """Raises ImportError where it is another aiohttp."""
-    if not aiohttp.__version__.startswith(f"{WANTED}."):
-        text = f"aiohttp {aiohttp.__version__} is installed, and the venue needs {WANTED}"
-        raise ImportError(f"{text}: Debian 12 has it, or pip install 'aiohttp=={WANTED}.*'")
+    if not aiohttp.__version__.startswith(f"{AIOHTTP_VERSION}."):
+        text = f"aiohttp {aiohttp.__version__} is installed, and the venue needs {AIOHTTP_VERSION}"
+        wanted = f"pip install 'aiohttp=={AIOHTTP_VERSION}.*'"
+        raise ImportError(f"{text}: Debian 12 has it, or {wanted}")
 
 
 def check_start() -> None:

@@ -95,7 +95,7 @@ class Venue:
         later = [name for name, it in members.items() if it is None]
         names = [*here, *later][: config.MOST_TRADERS]
         has_class = self.day.members.is_open or "" in self.members.codes.by_name
-        return [*[shares.CLASS] * has_class, *names]
+        return [*[shares.CLASS_CODE] * has_class, *names]
 
     def _changed(self, board: Instrument) -> None:
         """A program halted or runs again, or the venue."""
@@ -174,9 +174,9 @@ class Venue:
         """Says once that the disk gets full, until there is room again."""
         with contextlib.suppress(OSError):
             left = room.free(self.folder)
-            if left < room.LOW and not self._is_low:
-                NOTICES.warning(room.NEARLY_FULL.format(self.folder, left // room.MIB))
-            self._is_low = left < (2 * room.LOW if self._is_low else room.LOW)
+            if left < room.LOW_BYTES and not self._is_low:
+                NOTICES.warning(room.DISK_NEARLY_FULL.format(self.folder, left // room.MIB))
+            self._is_low = left < (2 * room.LOW_BYTES if self._is_low else room.LOW_BYTES)
 
     def _begun(self, work: Coroutine[Any, Any, None]) -> asyncio.Task[None]:
         """A task of the venue, which ends with it, or where the log can't be written."""
