@@ -13,7 +13,7 @@ import served
 from browsing import SCREEN, opened
 from callauction.venue import Client, clock
 from callauction.venue.log import Line
-from callauction.venue.timekeeping import BEHIND, SET, direction_of, set_since
+from callauction.venue.timekeeping import CLOCK_BEHIND, CLOCK_SET, direction_of, set_since
 from test_faults import on_a_clock
 
 CALL = 900
@@ -177,7 +177,7 @@ def test_a_check_of_a_clock_that_was_set_ahead(tmp_path: pathlib.Path) -> None:
 def test_which_way_a_clock_is() -> None:
     assert direction_of(-86400.0, " of") == "86400.0 s behind"
     rest = " the venue's and its log's, which is that of the start"
-    found = SET % direction_of(-86400.0, " of")
+    found = CLOCK_SET % direction_of(-86400.0, " of")
     assert found == f"the machine's clock is 86400.0 s behind{rest}"
-    assert SET % direction_of(5.0, " of") == f"the machine's clock is 5.0 s ahead of{rest}"
-    assert (BEHIND % 3.5).startswith("the clock is 3.5 s behind ")
+    assert CLOCK_SET % direction_of(5.0, " of") == f"the machine's clock is 5.0 s ahead of{rest}"
+    assert (CLOCK_BEHIND % 3.5).startswith("the clock is 3.5 s behind ")

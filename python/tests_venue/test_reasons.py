@@ -1,6 +1,5 @@
 """What the venue says why: the German pages say it in German."""
 import ast
-import pathlib
 import re
 from collections.abc import Iterator
 from typing import Any
@@ -11,7 +10,9 @@ from browsing import Page, opened, joins
 from callauction.venue import messages
 from callauction.venue.downloads import NotNowError
 from callauction.venue.recovery import LONGER, OTHER_ENTRIES, OTHER_FIRST
-from callauction.venue.timekeeping import AHEAD, AWAY, DOES, STOOD
+from callauction.venue.timekeeping import (
+    ENDED_BY_CLOCK, ENDED_SINCE, ENDED_WHILE_HALTED, WHAT_COMES,
+)
 
 PACKAGE = served.PACKAGE / "callauction/venue"
 SAID = {"bad_message", "bad_phase", "bad_name", "above_limit", "not_covered", "no_shares"}
@@ -118,14 +119,15 @@ def test_each_reason_is_said_in_german(page: Page) -> None:
      "Titel: 'a<b' enthält <, > oder ein Steuerzeichen"),
     ("text has <, > or a control character", "hier steht <, > oder ein Steuerzeichen"),
     ("there is no member Ann {} from 1 to 2", "Ann {} from 1 to 2 ist kein Mitglied"),
-    (AHEAD.format(7200.5, "XYZ"),
+    (ENDED_BY_CLOCK.format(7200.5, "XYZ"),
      "die Uhr ist der letzten Zeile des Protokolls 7.200,5 s voraus, der Aufruf von XYZ danach zu "
      "Ende"),
-    (AWAY.format(7200.5, "XYZ"),
+    (ENDED_SINCE.format(7200.5, "XYZ"),
      "die letzte Zeile des Protokolls ist 7.200,5 s alt, der Aufruf von XYZ seitdem zu Ende"),
-    (STOOD.format("XYZ"), "der Aufruf von XYZ ging zu Ende, während es ausgesetzt war"),
-    (DOES[False], "„Verlängern“ hilft"),
-    (DOES[True].format(30), "er geht noch 30 s weiter, dann wird der Preis ermittelt"),
+    (ENDED_WHILE_HALTED.format("XYZ"),
+     "der Aufruf von XYZ ging zu Ende, während es ausgesetzt war"),
+    (WHAT_COMES[False], "„Verlängern“ hilft"),
+    (WHAT_COMES[True].format(30), "er geht noch 30 s weiter, dann wird der Preis ermittelt"),
     (str(NotNowError("its process was ended by signal 9")),
      "das geht gerade nicht, der Prozess wurde durch Signal 9 beendet: noch einmal versuchen"),
     (str(NotNowError("memory is short")),

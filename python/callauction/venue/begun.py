@@ -14,10 +14,10 @@ from callauction.venue.log import Line, taking
 
 TERMS = ("low", "high", "reference", "range", "open", "calls", "currency")
 """What an instrument has to have as it was, beside its name and its tick size."""
-PARTS = {"is_synced": "sync", "plan": "phases", "bounds": "limits"}
-PARTS |= {"rounds": "round", "instruments": "instrument"}
+DAY_FILE_KEYS = {"is_synced": "sync", "plan": "phases", "bounds": "limits"}
+DAY_FILE_KEYS |= {"rounds": "round", "instruments": "instrument"}
 """The keys of a day's file whose fields have other names."""
-ANEW = "--folder NEW begins anew"
+BEGIN_ANEW = "--folder NEW begins anew"
 """What may be done instead."""
 
 
@@ -30,7 +30,7 @@ class OtherTermsError(OtherDayError):
 
     def __init__(self, folder: pathlib.Path, why: str) -> None:
         self.fault = f"{folder} was begun with another day: {why}"
-        super().__init__(f"{self.fault}; {ANEW}")
+        super().__init__(f"{self.fault}; {BEGIN_ANEW}")
 
 
 def date_of(moment: float) -> str:
@@ -41,7 +41,7 @@ def date_of(moment: float) -> str:
 def kept(day: config.DayTerms) -> Line:
     """What is written down of a day: the terms of its instruments, and a sum of each part."""
     parts = {
-        PARTS.get(field.name, field.name): sum_of(getattr(day, field.name))
+        DAY_FILE_KEYS.get(field.name, field.name): sum_of(getattr(day, field.name))
         for field in dataclasses.fields(day)
     }
     found: Line = {"instruments": {it.name: terms_of(it) for it in day.instruments}}
@@ -102,14 +102,14 @@ def check_sessions(
     if (given := next((it for it in others if has_logged_on(it, folder)), None)) is not None:
         text = f"is {named(now[given])}, and was {named(before[given])} in {folder}"
         remedy = "a CompID stays its own for the day: give the other one a new CompID"
-        raise OtherDayError(f"fix: sessions: {given!r} {text}; {remedy}; {ANEW}")
+        raise OtherDayError(f"fix: sessions: {given!r} {text}; {remedy}; {BEGIN_ANEW}")
     owners = owners_in(lines)
     last = sessions_in(known[-1])
     gone = next((it for it, name in last.items() if it not in now and name in owners), None)
     if gone is not None:
         text = f"is missing, by which the member {last[gone]!r} has sent orders in {folder}"
         remedy = "put it back, or remove that member first by the operator's page"
-        raise OtherDayError(f"fix: sessions: {gone!r} {text}; {remedy}; {ANEW}")
+        raise OtherDayError(f"fix: sessions: {gone!r} {text}; {remedy}; {BEGIN_ANEW}")
 
 
 def has_sessions(lines: Iterable[Line]) -> bool:

@@ -28,7 +28,7 @@ from callauction.venue.rounds import Round
 from callauction.venue.serving import DAY_IS_OVER, DAY_SECONDS, Address, AddressError, ends_of
 from callauction.venue.starts import starting
 from callauction.venue.timekeeping import (
-    BEHIND, LEAST_BEHIND, behind_of, set_since, warnings_of_clock,
+    CLOCK_BEHIND, LEAST_BEHIND, behind_of, set_since, warnings_of_clock,
 )
 from callauction.venue.venue import LOG, Venue
 
@@ -197,7 +197,7 @@ def checked_day(day: config.DayTerms, folder: pathlib.Path, lines: list[Line]) -
     if changed := begun.changes(day, lines, folder):
         yield f"changed since it was last opened: {', '.join(changed)}"
     if behind := behind_of(lines):
-        yield f"warning: {BEHIND % behind}"
+        yield f"warning: {CLOCK_BEHIND % behind}"
         return
     yield from (f"warning: {text}" for text in warnings_of_clock(0.0, set_since(lines)))
     for path in sorted(folder.glob(f"*{JOURNAL}")):

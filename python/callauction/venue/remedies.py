@@ -3,7 +3,7 @@ import errno
 import os
 
 from callauction.statuses import BAD_DAY, BAD_FILE, FAILED, UNLAWFUL
-from callauction.venue.begun import OtherDayError
+from callauction.venue.begun import BEGIN_ANEW, OtherDayError
 from callauction.venue.fields import ConfigError
 from callauction.venue.log import LogError, LogInUse, OtherVersion
 from callauction.venue.owned import OwnerError
@@ -15,11 +15,11 @@ from callauction.venue.tokens import TokenError
 
 NO_THREAD = "can't start new thread"
 """What Python says where there is no memory for one more."""
-NEW, BACK = "--folder NEW begins anew", "put the right file, or the last copy, back"
-USER, MEMORY = "let the user in who runs the venue", "end others, or give more memory"
+PUT_FILE_BACK = "put the right file, or the last copy, back"
+LET_USER_IN, GIVE_MEMORY = "let the user in who runs the venue", "end others, or give more memory"
 OF_FILES = {
-    errno.EACCES: USER,
-    errno.EAGAIN: MEMORY,
+    errno.EACCES: LET_USER_IN,
+    errno.EAGAIN: GIVE_MEMORY,
     errno.EDQUOT: "make room",
     errno.EEXIST: "move it away",
     errno.EFBIG: "take a shorter one",
@@ -32,22 +32,22 @@ OF_FILES = {
     errno.ENOENT: "make it, or name another",
     errno.ENOSPC: "make room",
     errno.ENOTDIR: "name another",
-    errno.EPERM: USER,
+    errno.EPERM: LET_USER_IN,
     errno.EROFS: "mount its disk to be written",
 }
 """What to do by the number of a fault of the system."""
 OF_PROGRAM = {
-    "journal in use by": f"or {NEW}",
-    "journal in use": f"end the program that has it, or {NEW}",
-    "journal of another day": f"take the day as it was, or {NEW}",
-    "journal open failed": f"put the venue's own file back, or {NEW}",
+    "journal in use by": f"or {BEGIN_ANEW}",
+    "journal in use": f"end the program that has it, or {BEGIN_ANEW}",
+    "journal of another day": f"take the day as it was, or {BEGIN_ANEW}",
+    "journal open failed": f"put the venue's own file back, or {BEGIN_ANEW}",
     "journal failed": "make room, or mend the disk",
-    "journal ": BACK,
-    "the program can't be run": f"name callboard by CALLBOARD; where it is that, {MEMORY}",
+    "journal ": PUT_FILE_BACK,
+    "the program can't be run": f"name callboard by CALLBOARD; where it is that, {GIVE_MEMORY}",
     "the program isn't callboard": "name callboard by CALLBOARD",
     "the program answers": "name the callboard of this version by CALLBOARD",
     "the program hasn't": "look whether the disk hangs",
-    "the program was ended by signal 9": MEMORY,
+    "the program was ended by signal 9": GIVE_MEMORY,
     "the program was ended": "install the program anew",
 }
 """What to do by the begin of what the program says, or what is said of it; the first that fits."""
@@ -68,11 +68,11 @@ def said(fault: Exception) -> tuple[str, int]:
     """
     match fault:
         case LogInUse():
-            return f"{fault}: end that one, or {NEW}", BAD_DAY
+            return f"{fault}: end that one, or {BEGIN_ANEW}", BAD_DAY
         case OtherVersion():
-            return f"{fault}: go on by that, or {NEW}", BAD_FILE
+            return f"{fault}: go on by that, or {BEGIN_ANEW}", BAD_FILE
         case LogError() | RecoveryError():
-            return f"{board_of(fault)}{fault}: {BACK}", BAD_FILE
+            return f"{board_of(fault)}{fault}: {PUT_FILE_BACK}", BAD_FILE
         case AddressError() | OtherDayError() | OwnerError():
             return str(fault), BAD_DAY
         case ConfigError() | TokenError():
@@ -83,7 +83,7 @@ def said(fault: Exception) -> tuple[str, int]:
             return said_of_file(fault), FAILED
         case RuntimeError() if str(fault) != NO_THREAD:
             raise fault
-    return f"out of memory: {MEMORY}", FAILED
+    return f"out of memory: {GIVE_MEMORY}", FAILED
 
 
 def said_of_program(fault: ProcessError) -> tuple[str, int]:

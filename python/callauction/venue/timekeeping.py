@@ -11,19 +11,23 @@ from callauction.venue.logger import NOTICES
 
 LEAST_BEHIND = 1.0
 """From how many seconds on a clock was set back since the log's last line."""
-BEHIND = "the clock is %s s behind the log's last line: calls go on with what was left of them then"
-SET_BEFORE = "the machine's clock was set %s since the last start: calls go on with what is left"
-SET = "the machine's clock is %s the venue's and its log's, which is that of the start"
-AHEAD = (
+CLOCK_BEHIND = (
+    "the clock is %s s behind the log's last line: calls go on with what was left of them then"
+)
+CLOCK_SET_BEFORE = (
+    "the machine's clock was set %s since the last start: calls go on with what is left"
+)
+CLOCK_SET = "the machine's clock is %s the venue's and its log's, which is that of the start"
+ENDED_BY_CLOCK = (
     "the machine's clock is {} s ahead of the log's last line, and the call of {} has ended by it"
 )
-AWAY = "the log's last line is {} s old, and the call of {} has ended since"
-STOOD = "the call of {} has ended while it had halted"
+ENDED_SINCE = "the log's last line is {} s old, and the call of {} has ended since"
+ENDED_WHILE_HALTED = "the call of {} has ended while it had halted"
 """What is said of a call whose end has passed before those who were away could do anything: at a
 start, where the machine was off in between and its clock may be wrong, and where it has run on; and
 at a board that goes on later.
 """
-DOES = "`extend` lets it go on", "it goes on for {} s, then it is uncrossed"
+WHAT_COMES = "`extend` lets it go on", "it goes on for {} s, then it is uncrossed"
 """What comes of such a call: of one that the operator uncrosses, and of one that is uncrossed by
 itself.
 """
@@ -63,10 +67,10 @@ class Timekeeper:
         anything, and what comes of it: both.
         """
         name, ahead = board.identity.name, round(clock.now() - self._last, 1)
-        why = (AWAY if self._is_same_boot else AHEAD).format(ahead, name)
+        why = (ENDED_SINCE if self._is_same_boot else ENDED_BY_CLOCK).format(ahead, name)
         if self.has_opened:
-            why = STOOD.format(name)
-        does = DOES[board.auctions.plan.is_automatic].format(board.auctions.grace)
+            why = ENDED_WHILE_HALTED.format(name)
+        does = WHAT_COMES[board.auctions.plan.is_automatic].format(board.auctions.grace)
         NOTICES.warning(f"{why}: {does}")
         board.engine.note("late", ahead=ahead)
         return why, does
@@ -76,7 +80,7 @@ class Timekeeper:
         ahead = round(clock.set_by(), 1)
         if abs(ahead - self._ahead) >= LEAST_BEHIND:
             self._ahead = ahead
-            NOTICES.warning(SET, direction_of(ahead, " of"))
+            NOTICES.warning(CLOCK_SET, direction_of(ahead, " of"))
             self._log.note(kind="clock_set", ahead=ahead)
 
     def note(self, boards: Iterable[Instrument]) -> None:
@@ -128,8 +132,8 @@ def set_since(lines: list[Line]) -> float:
 def warnings_of_clock(behind: float, ahead: float) -> list[str]:
     """What is said at a start of a clock that is behind the log's last line, or that was set."""
     if behind:
-        return [BEHIND % behind]
-    return [SET_BEFORE % direction_of(ahead)] if ahead else []
+        return [CLOCK_BEHIND % behind]
+    return [CLOCK_SET_BEFORE % direction_of(ahead)] if ahead else []
 
 
 def direction_of(ahead: float, of: str = "") -> str:
