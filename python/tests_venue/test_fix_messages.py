@@ -10,7 +10,7 @@ import pytest
 import served
 from callauction.fix import feeds, given, orders, refusals, requests, seats
 from callauction.fix.tags import (
-    CODES, DAY, FIXT, GOOD_TILL_CANCEL, LIMIT, MARKET, OTHER_REASON, Exec, Status,
+    DAY, FIXT, GOOD_TILL_CANCEL, LIMIT, MARKET, OTHER_REASON, SIDE_CODES, Exec, Status,
 )
 from fixing import Pairs
 from test_fix_slips import Speaker, begin, refusal
@@ -154,11 +154,14 @@ REASONS = {
     *(refusals.WRONG_QUANTITY, OTHER_REASON),
 }
 EXPECTED = {
-    ("D", 54): {*CODES.values()},
+    ("D", 54): {*SIDE_CODES.values()},
     ("D", 40): {MARKET, LIMIT},
-    ("D", 59): {*given.ONLY},
-    ("8", 54): {*CODES.values(), refusals.NO_SIDE},
-    ("8", 59): {*given.ONLY, *orders.TIMES_OF_AUCTIONS.values(), DAY, GOOD_TILL_CANCEL},
+    ("D", 59): {*given.RESTRICTIONS_BY_TIME},
+    ("8", 54): {*SIDE_CODES.values(), refusals.NO_SIDE},
+    ("8", 59): {
+        *(*given.RESTRICTIONS_BY_TIME, *orders.TIMES_OF_AUCTIONS.values()),
+        *(DAY, GOOD_TILL_CANCEL),
+    },
     ("8", 39): {*Status},
     ("9", 39): {*Status},
     ("8", 150): {*Exec, Status.NEW, Status.CANCELED, Status.REJECTED, Status.EXPIRED},

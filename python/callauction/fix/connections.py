@@ -21,9 +21,9 @@ from callauction.venue.messages import ERRORS
 from callauction.venue.serving import AddressError
 from callauction.venue.venue import Venue
 
-REFUSES = "Received BusinessMessageReject"
+CLIENT_REFUSES = "Received BusinessMessageReject"
 """How what the module says begins of what a client refuses, in texts of its own."""
-REFUSED = "a Logon is refused: "
+LOGON_REFUSED = "a Logon is refused: "
 """How what the module says of a Logon that isn't taken begins."""
 LOGOUT_SECONDS, LOGOUT_PAUSE = 1.0, 0.01
 """How long the answer to a Logout waits for what was said before: clients wait for 2 s or longer.
@@ -171,8 +171,8 @@ class Connections:
             if what == "begins":
                 self.seats[session].begins(said)
                 continue
-            source = f", from {wire.address}" if wire and said.startswith(REFUSED) else ""
-            form = REFUSES if said.startswith(REFUSES) else DIGITS.sub("", said)
+            source = f", from {wire.address}" if wire and said.startswith(LOGON_REFUSED) else ""
+            form = CLIENT_REFUSES if said.startswith(CLIENT_REFUSES) else DIGITS.sub("", said)
             kind = {"of": f"{what} {session} {form}{source}"}
             NOTICES.info("fix: %s %s %s%s", what, session, said, source, extra=kind)
         for session, given, rows in self.outbound.engine.said():

@@ -20,9 +20,12 @@ VERSIONS = {
 }
 CATEGORIES = {TRANSPORT: "admin", APPLICATION: "app"}
 """What the messages of each are, by `msgcat`."""
-MORE = {"Logon": {"DefaultApplVerID": "Y"}, "OrderMassCancelReport": {"MassActionReportID": "Y"}}
+ADDED_TO_MESSAGES = {
+    "Logon": {"DefaultApplVerID": "Y"},
+    "OrderMassCancelReport": {"MassActionReportID": "Y"},
+}
 """What messages of FIX 5.0SP2 have more, and whether they must."""
-FIELDS = {
+ADDED_FIELDS = {
     "ApplVerID": ("1128", "STRING"),
     "DefaultApplVerID": ("1137", "STRING"),
     "MassActionReportID": ("1369", "STRING"),
@@ -39,14 +42,14 @@ def made(name: str) -> ElementTree.Element:
     for message in [*messages]:
         if message.get("msgcat") != CATEGORIES[name]:
             messages.remove(message)
-        for field, required in MORE.get(message.get("name", ""), {}).items():
+        for field, required in ADDED_TO_MESSAGES.get(message.get("name", ""), {}).items():
             ElementTree.SubElement(message, "field", name=field, required=required)
     if name == TRANSPORT:
         ElementTree.SubElement(part(found, "header"), "field", name="ApplVerID", required="N")
     else:
         part(found, "header").clear()
         part(found, "trailer").clear()
-    for field, (number, kind) in FIELDS.items():
+    for field, (number, kind) in ADDED_FIELDS.items():
         ElementTree.SubElement(part(found, "fields"), "field", number=number, name=field, type=kind)
     return found
 

@@ -6,7 +6,7 @@ import itertools
 from collections.abc import Collection, Container
 from typing import NamedTuple, Self
 
-from callauction.fix.given import MOST_LETTERS, check_client
+from callauction.fix.given import MOST_ID_LETTERS, check_client
 from callauction.fix.orders import NUMBER, SINCE, entry_event
 from callauction.fix.refusals import UNUSED
 from callauction.fix.tags import (
@@ -15,9 +15,9 @@ from callauction.fix.tags import (
 from callauction.venue.instrument import Instrument
 from callauction.venue.recovery import Entry, Message
 
-PART, EPOCH = 32, 64
+PART_BIT, EPOCH_BIT = 32, 64
 """At which bit the part of a message and the epoch of a session begin."""
-MASK = (1 << (EPOCH - PART)) - 1
+NUMBER_MASK = (1 << (EPOCH_BIT - PART_BIT)) - 1
 OF_CLIENTS = (Type.CANCEL_REJECT, Type.MASS_CANCELED)
 """Messages that answer one whose ClOrdID is used then, beside reports."""
 OF_MASS = (11, 54, 55, 58, 530, 531, 532, 533)
@@ -26,7 +26,7 @@ OF_MASS = (11, 54, 55, 58, 530, 531, 532, 533)
 
 def key_of(message: int, part: int = 0, epoch: int = 0) -> int:
     """A Number as one number, which is the MsgSeqNum where nothing else is said."""
-    return message | part << PART | epoch << EPOCH
+    return message | part << PART_BIT | epoch << EPOCH_BIT
 
 
 class Number(NamedTuple):
@@ -46,9 +46,9 @@ class Number(NamedTuple):
     @classmethod
     def of(cls, key: int) -> Self:
         """The number of a key."""
-        if key <= MASK:
+        if key <= NUMBER_MASK:
             return cls(key)
-        return cls(key & MASK, key >> PART & MASK, key >> EPOCH)
+        return cls(key & NUMBER_MASK, key >> PART_BIT & NUMBER_MASK, key >> EPOCH_BIT)
 
 
 class Epoch:
@@ -179,7 +179,7 @@ class Clients:
         """The id of a message is its own for the day, also where it was refused, but as too long or
         for UNUSED; a mass cancel's with what is said to it.
         """
-        if len(client := given[Tag.CL_ORD_ID]) <= MOST_LETTERS:
+        if len(client := given[Tag.CL_ORD_ID]) <= MOST_ID_LETTERS:
             self.numbers.setdefault(client, own)
             if answer:
                 self.mass.setdefault(client, answer)
@@ -191,7 +191,7 @@ class Clients:
             return
         given = dict(pairs)
         client = given.get(Tag.CL_ORD_ID, "")
-        if len(client) <= MOST_LETTERS and given.get(Tag.TEXT) not in UNUSED:
+        if len(client) <= MOST_ID_LETTERS and given.get(Tag.TEXT) not in UNUSED:
             said = [it for it in pairs if it[0] != Tag.TRANSACT_TIME]
             self.refused.setdefault(client, (kind, said))
 

@@ -7,25 +7,25 @@ import re
 from callauction.fix.orders import SENTENCES, TIMES_OF_AUCTIONS, Held
 from callauction.fix.refusals import UNKNOWN_SYMBOL, UNSUPPORTED, WRONG_QUANTITY, SeatError
 from callauction.fix.tags import (
-    CLOSING, CODES, DAY, GOOD_TILL_CANCEL, LIMIT, MARKET, OPENING, OTHER_REASON, SECOND_LETTERS,
-    SIDES, Given, Tag, now,
+    CLOSING, DAY, GOOD_TILL_CANCEL, LIMIT, MARKET, OPENING, OTHER_REASON, SECOND_LETTERS, SIDES,
+    SIDE_CODES, Given, Tag, now,
 )
 from callauction.limits import MOST_NUMBER
 from callauction.venue.instrument import Instrument
 from callauction.words import MARKET as AT_MARKET
 from callauction.words import Refusal
 
-MOST_LETTERS = 64
-ONLY = {OPENING: "opening", CLOSING: "closing", DAY: "", GOOD_TILL_CANCEL: ""}
+MOST_ID_LETTERS = 64
+RESTRICTIONS_BY_TIME = {OPENING: "opening", CLOSING: "closing", DAY: "", GOOD_TILL_CANCEL: ""}
 MOST_DIGITS = len(str(MOST_NUMBER)) + 1
-SHARES = re.compile(r"0*(0|[1-9][0-9]*)(?:\.0*)?")
-FLOAT = re.compile(r"(?=\.?[0-9])([0-9]{0,30})(?:\.([0-9]{0,30}))?")
+SHARES_TEXT = re.compile(r"0*(0|[1-9][0-9]*)(?:\.0*)?")
+PRICE_TEXT = re.compile(r"(?=\.?[0-9])([0-9]{0,30})(?:\.([0-9]{0,30}))?")
 """A price by the standard: 20.05, 20., .05."""
 CURRENCY = re.compile("[A-Z]{3}")
 """A currency that FIX can say."""
-PLAIN = {"1", "2", "5"}
+PLAIN_EXECUTION = {"1", "2", "5"}
 """ExecInst of orders that are as all are: not held, work, held."""
-SHARE = "CS"
+COMMON_STOCK = "CS"
 """The SecurityType of instruments: common stock."""
 DAY_LETTERS = SECOND_LETTERS - len("-09:00:00")
 """The letters of a time that are its date."""
@@ -40,14 +40,15 @@ def is_sent_again(given: Given) -> bool:
 
 def check_client(given: Given) -> None:
     """Raises SeatError where an id is too long."""
-    if len(given[Tag.CL_ORD_ID]) > MOST_LETTERS:
-        raise SeatError(UNSUPPORTED, f"ClOrdID has at most {MOST_LETTERS} letters")
+    if len(given[Tag.CL_ORD_ID]) > MOST_ID_LETTERS:
+        raise SeatError(UNSUPPORTED, f"ClOrdID has at most {MOST_ID_LETTERS} letters")
 
 
 def check_side(given: Given, held: Held) -> None:
     """Raises SeatError where a message names another side than its order's."""
-    if given[Tag.SIDE] != CODES[held.side]:
-        raise SeatError(UNSUPPORTED, f"Side (54) isn't the order's, which is {CODES[held.side]}")
+    own = SIDE_CODES[held.side]
+    if given[Tag.SIDE] != own:
+        raise SeatError(UNSUPPORTED, f"Side (54) isn't the order's, which is {own}")
 
 
 def side_of(given: Given) -> str:
@@ -64,7 +65,7 @@ def price_of(given: Given) -> str:
         raise SeatError(UNSUPPORTED, "OrdType is 1, or 2 with a Price")
     if kind == MARKET:
         return price
-    if not (found := FLOAT.fullmatch(price)):
+    if not (found := PRICE_TEXT.fullmatch(price)):
         raise SeatError(OTHER_REASON, f"Price {price} is none such as 20.05")
     whole, part = found.groups()
     return f"{whole or '0'}.{part}" if part else whole
@@ -74,7 +75,7 @@ def shares_of(given: Given, tag: int) -> int:
     """A quantity of whole shares, of an order or its peak; one above all limits is the greatest.
     Raises SeatError.
     """
-    if found := SHARES.fullmatch(given[tag]):
+    if found := SHARES_TEXT.fullmatch(given[tag]):
         return min(int(found[1][:MOST_DIGITS]), MOST_NUMBER)
     if tag == Tag.ORDER_QTY:
         raise SeatError(WRONG_QUANTITY, f"{SENTENCES[Refusal.BAD_QUANTITY]} whole shares")
@@ -115,13 +116,13 @@ def check_beside(given: Given, board: Instrument) -> None:
     if given.get(Tag.SECURITY_ID, given[Tag.SYMBOL]) != given[Tag.SYMBOL]:
         text = "SecurityID (48) isn't the Symbol (55), by which alone instruments are known"
         raise SeatError(UNKNOWN_SYMBOL, text)
-    if given.get(Tag.SECURITY_TYPE, SHARE) != SHARE:
-        raise SeatError(UNSUPPORTED, f"SecurityType (167) is {SHARE}")
+    if given.get(Tag.SECURITY_TYPE, COMMON_STOCK) != COMMON_STOCK:
+        raise SeatError(UNSUPPORTED, f"SecurityType (167) is {COMMON_STOCK}")
     currency = board.terms.currency
     if CURRENCY.fullmatch(currency) and given.get(Tag.CURRENCY, currency) != currency:
         text = f"Currency (15) isn't the instrument's, which is {currency}"
         raise SeatError(UNSUPPORTED, text)
-    if not {*given.get(Tag.EXEC_INST, "").split()} <= PLAIN:
+    if not {*given.get(Tag.EXEC_INST, "").split()} <= PLAIN_EXECUTION:
         raise SeatError(UNSUPPORTED, "ExecInst (18) is of 1, 2 and 5, which change nothing")
     if Tag.EXPIRE_TIME in given and given[Tag.EXPIRE_TIME][:DAY_LETTERS] <= now()[:DAY_LETTERS]:
         text = "ExpireTime (126) isn't after today: an order ends by its auction, or a cancel"

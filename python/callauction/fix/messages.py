@@ -30,7 +30,7 @@ them. Times are UTC, `YYYYMMDD-HH:MM:SS` with or without a part of a second; pri
 All is of FIX 4.4 but 269=Q, 269=J and the tags 969, 1138, 1148 and 1149, which FIX 5.0 has, 8013 \
 as other venues have it, and the venue's own 20001.
 """
-TABLE = "| Tag | Name | Needed | What it says |\n|---|---|---|---|"
+TABLE_HEAD = "| Tag | Name | Needed | What it says |\n|---|---|---|---|"
 
 
 @dataclasses.dataclass(frozen=True)
@@ -62,7 +62,7 @@ class Messages:
         """The fields below an element, those of groups after their counts."""
         for it in element:
             name = it.get("name", "")
-            version = "in FIX 5.0SP2" if name in dictionaries.FIELDS else ""
+            version = "in FIX 5.0SP2" if name in dictionaries.ADDED_FIELDS else ""
             is_needed = it.get("required") == "Y"
             yield Field(self._tags[name], name, is_needed, depth, version)
             yield from self._of(it, depth + 1)
@@ -85,7 +85,7 @@ def table_of(kind: str, fields: list[Field]) -> str:
     idle = IDLE.get(kind, set())
     rows = [row_of(kind, it) for it in fields if it.tag not in idle]
     named = ", ".join(f"{it.tag} {it.name}" for it in fields if it.tag in idle)
-    parts = ["\n".join([TABLE, *rows])] if rows else []
+    parts = ["\n".join([TABLE_HEAD, *rows])] if rows else []
     parts += [f"These change nothing: {named}."] if named else []
     return "\n\n".join(parts)
 

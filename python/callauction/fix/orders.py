@@ -7,8 +7,8 @@ from collections.abc import Mapping, Sequence
 from decimal import Context, Decimal
 
 from callauction.fix.tags import (
-    CLOSING, CODES, DAY, GOOD_TILL_CANCEL, LIMIT, MARKET, NONE, OPENING, OTHER_REASON, Exec, Groups,
-    Pairs, Status, Tag, Type, now,
+    CLOSING, DAY, GOOD_TILL_CANCEL, LIMIT, MARKET, NONE, OPENING, OTHER_REASON, SIDE_CODES, Exec,
+    Groups, Pairs, Status, Tag, Type, now,
 )
 from callauction.fix.uncrosses import Seen
 from callauction.venue import views
@@ -233,7 +233,7 @@ class Orders:
         sides = []
         for number in (trade.bid, trade.ask):
             held = self._open[number]
-            side: Pairs = [(Tag.SIDE, CODES[held.side]), (Tag.ORDER_ID, held.name)]
+            side: Pairs = [(Tag.SIDE, SIDE_CODES[held.side]), (Tag.ORDER_ID, held.name)]
             side += [(Tag.CL_ORD_ID, held.client)] if held.client else []
             sides.append([*side, (Tag.ACCOUNT, held.member)])
         pairs: Pairs = [
@@ -281,7 +281,7 @@ class Orders:
             (Tag.EXEC_TYPE, kind),
             (Tag.ORD_STATUS, held.status),
             (Tag.SYMBOL, self._board.identity.market),
-            (Tag.SIDE, CODES[held.side]),
+            (Tag.SIDE, SIDE_CODES[held.side]),
             (Tag.ORDER_QTY, str(held.total)),
             (Tag.LEAVES_QTY, str(left)),
             (Tag.CUM_QTY, str(held.filled)),

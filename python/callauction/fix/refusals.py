@@ -3,7 +3,7 @@ from typing import TYPE_CHECKING
 
 from callauction.fix.orders import CLIENT, ORIGIN, Asked, Report, refusal
 from callauction.fix.tags import (
-    CODES, DAY, EVENTS, FIXT, NONE, OTHER_REASON, Exec, Given, Pairs, Status, Tag, Type,
+    DAY, EVENTS, FIXT, NONE, OTHER_REASON, SIDE_CODES, Exec, Given, Pairs, Status, Tag, Type,
 )
 from callauction.venue.instrument import Instrument
 from callauction.venue.messages import MessageError
@@ -202,7 +202,7 @@ def given_of(board: Instrument, message: Message, number: int) -> Given:
         return given | {Tag.MSG_TYPE: Type.MASS_CANCEL}
     given |= {Tag.CL_ORD_ID: message.note.get(CLIENT, NONE), Tag.SYMBOL: board.identity.market}
     if word == "enter":
-        given |= {Tag.SIDE: CODES[fields[0]], Tag.ORDER_QTY: fields[1]}
+        given |= {Tag.SIDE: SIDE_CODES[fields[0]], Tag.ORDER_QTY: fields[1]}
         return given | {Tag.MSG_TYPE: Type.ENTER}
     given |= {Tag.ORIG_CL_ORD_ID: message.note.get(ORIGIN, NONE)}
     return given | {Tag.MSG_TYPE: Type.CANCEL if word == "delete" else Type.REPLACE}

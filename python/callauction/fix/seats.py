@@ -35,11 +35,11 @@ TOO_FAST_SECONDS = 0.05
 NOT_ALLOWED = "6"
 """The BusinessRejectReason of what a session may not do."""
 NOT_DONE = "it wasn't executed before its venue or program ended, and a gap came in its place"
-COMMANDS = (Type.ENTER, Type.CANCEL, Type.REPLACE, Type.MASS_CANCEL)
+COMMAND_TYPES = (Type.ENTER, Type.CANCEL, Type.REPLACE, Type.MASS_CANCEL)
 """Messages that change orders."""
-LOST: Given = {}
+CONNECTION_LOST: Given = {}
 """What comes in a session's queue when its connection is lost, whose orders are to end with it."""
-ROUNDED = 1.0
+ROUNDED_SECONDS = 1.0
 """Seconds by which the time of a client may be off, whose parts of a second it needn't say."""
 Act = Callable[[Any, Pairs, Given, int], Awaitable[None]]
 """What takes the messages of a type: of a seat, by the fields of their groups in their order, all
@@ -70,8 +70,8 @@ class Inbound:
 
     def first(self) -> int | None:
         """The number of the first message that wasn't taken yet."""
-        came = (int(given[Tag.MSG_SEQ_NUM]) for given, _ in self._came if given is not LOST)
-        return next(came, None)
+        came = (given for given, _ in self._came if given is not CONNECTION_LOST)
+        return next((int(given[Tag.MSG_SEQ_NUM]) for given in came), None)
 
     def put(self, given: Given, rows: Pairs) -> None:
         """The session says this; it is taken in its `turn`."""
@@ -84,7 +84,8 @@ class Inbound:
     def drop(self) -> None:
         """Forgets what waits for its turn; what follows from a lost connection is done."""
         taken = [self._came[0]] if self.is_taking else []
-        self._came = collections.deque([*taken, *(it for it in self._came if it[0] is LOST)])
+        lost = (it for it in self._came if it[0] is CONNECTION_LOST)
+        self._came = collections.deque([*taken, *lost])
 
     def turn(self) -> None:
         """Takes what came: new orders at once where nothing has to be waited for."""
@@ -185,7 +186,7 @@ class Seat:
     def lost(self) -> None:
         """Its connection has ended, or had as the venue began."""
         if self.cancels:
-            self.inbound.put(LOST, [])
+            self.inbound.put(CONNECTION_LOST, [])
             self.inbound.turn()
 
     async def idle(self) -> None:
@@ -233,7 +234,7 @@ class Seat:
 
     def _enters(self, given: Given) -> bool:
         """Takes a new order where nothing has to be waited for: whether it did."""
-        if given is LOST or given[Tag.MSG_TYPE] != Type.ENTER or Tag.GAP_FILL in given:
+        if given is CONNECTION_LOST or given[Tag.MSG_TYPE] != Type.ENTER or Tag.GAP_FILL in given:
             return False
         number, member, epoch = int(given[Tag.MSG_SEQ_NUM]), self.member, self.epoch
         event, is_known = epoch.refusal_of(number), given[Tag.CL_ORD_ID] in self.clients.numbers
@@ -254,7 +255,7 @@ class Seat:
 
     async def _take(self, given: Given, rows: Pairs) -> None:
         """Takes a message, unless it was taken before."""
-        if given is LOST:
+        if given is CONNECTION_LOST:
             await self.commands.withdraw()
             return
         kind = given[Tag.MSG_TYPE]
@@ -284,13 +285,13 @@ class Seat:
         of that day would have it done today. That is by when it was sent first, or, where it has a
         new number and its ClOrdID isn't known, by when it was made.
         """
-        if not is_sent_again(given) or given[Tag.MSG_TYPE] not in COMMANDS:
+        if not is_sent_again(given) or given[Tag.MSG_TYPE] not in COMMAND_TYPES:
             return
         is_resend = given.get(Tag.POSS_DUP) != "Y"
         time = given.get(Tag.TRANSACT_TIME if is_resend else Tag.ORIG_SENDING_TIME)
         if time is None or (is_resend and given[Tag.CL_ORD_ID] in self.clients.numbers):
             return
-        if seconds_of(time) + self.behind < self.venue.past.began - ROUNDED:
+        if seconds_of(time) + self.behind < self.venue.past.began - ROUNDED_SECONDS:
             raise SeatError(OTHER_REASON, MADE_BEFORE if is_resend else OTHER_DAY)
 
     def refuse_type(self, given: Given, event: str) -> None:

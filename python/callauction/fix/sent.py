@@ -28,7 +28,7 @@ MOST_AT_ONCE = 16
 """How many sessions have their turn, and how many reports wait, before the log, the program and the
 clients are given what there is.
 """
-FAILED = "what it was to be sent couldn't be given to it"
+NOT_GIVEN = "what it was to be sent couldn't be given to it"
 Outgoing = tuple[int, bytes, int, bool]
 """What is to be sent: on which connection, the bytes, up to which number, whether it ends then."""
 New = tuple[int, bytes, bool]
@@ -277,7 +277,7 @@ def give(wire: "Wire", data: bytes, is_last: bool) -> None:
         wire.send(data, is_last)
     except Exception:
         NOTICES.critical("fix: a connection of %s has failed", wire.address, exc_info=True)
-        asyncio.get_running_loop().call_soon(wire.cut, FAILED)
+        asyncio.get_running_loop().call_soon(wire.cut, NOT_GIVEN)
 
 
 def comp_id_of(session: str) -> str:

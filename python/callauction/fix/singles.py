@@ -4,8 +4,8 @@ OrderStatusRequest.
 from typing import TYPE_CHECKING, Any
 
 from callauction.fix.given import (
-    ONLY, check_beside, check_client, check_kept, check_side, is_sent_again, left_of, peak_of,
-    price_of, shares_of, side_of,
+    RESTRICTIONS_BY_TIME, check_beside, check_client, check_kept, check_side, is_sent_again,
+    left_of, peak_of, price_of, shares_of, side_of,
 )
 from callauction.fix.orders import Held, ended_text
 from callauction.fix.refusals import (
@@ -35,11 +35,11 @@ def enter_new(seat: "Seat", given: Given, number: int) -> None:
     """Sends an order whose ClOrdID is new. Raises MessageError."""
     check_client(given)
     time = given.get(Tag.TIME_IN_FORCE, DAY)
-    if time not in ONLY:
+    if time not in RESTRICTIONS_BY_TIME:
         raise SeatError(UNSUPPORTED, "TimeInForce is 0, 1, 2 or 7")
     asked: dict[str, Any] = {
         "side": side_of(given),
-        "only": ONLY[time],
+        "only": RESTRICTIONS_BY_TIME[time],
         "quantity": shares_of(given, Tag.ORDER_QTY),
         "price": price_of(given),
     }

@@ -157,7 +157,7 @@ are in the dictionary's order.
 Given = dict[int, str]
 """A message by its tags, the last one of each."""
 SIDES = {"1": "bid", "2": "ask"}
-CODES = {side: code for code, side in SIDES.items()}
+SIDE_CODES = {side: code for code, side in SIDES.items()}
 MARKET, LIMIT = "1", "2"
 OPENING, CLOSING, DAY, GOOD_TILL_CANCEL = "2", "7", "0", "1"
 NONE = "NONE"

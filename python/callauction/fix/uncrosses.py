@@ -10,9 +10,9 @@ from callauction.venue.downloads import DownloadError
 from callauction.venue.instrument import Instrument
 from callauction.venue.phases import OVER
 
-RESERVE = ("--reserve", "0")
+NO_RESERVE = ("--reserve", "0")
 """Each command of the journal was taken, those that were kept for the operator too."""
-MOST_SECONDS = 60.0
+PROGRAM_SECONDS = 60.0
 """How long the program may take."""
 Open = dict[int, views.MemberOrder]
 
@@ -35,12 +35,12 @@ async def seen_at(board: Instrument, program: str, place: int, known: int) -> Se
     Raises DownloadError.
     """
     records = await asyncio.to_thread(asked_of, board, place, known)
-    words = [program, "--live", *RESERVE, *board.terms.words()]
+    words = [program, "--live", *NO_RESERVE, *board.terms.words()]
     try:
-        async with asyncio.timeout(MOST_SECONDS):
+        async with asyncio.timeout(PROGRAM_SECONDS):
             said = await replay.output(words, records)
     except TimeoutError:
-        raise DownloadError(f"the program hasn't ended for {MOST_SECONDS:g} s") from None
+        raise DownloadError(f"the program hasn't ended for {PROGRAM_SECONDS:g} s") from None
     except OSError as fault:
         raise DownloadError(str(fault)) from None
     return await asyncio.to_thread(seen_in, said)
