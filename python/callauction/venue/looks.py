@@ -3,7 +3,7 @@ orders is the program's alone.
 """
 import asyncio
 import time
-from collections.abc import Callable, Iterable
+from collections.abc import Callable, Iterable, Sequence
 
 from callauction.venue import config, views
 from callauction.venue.accounts import Accounts, Fill
@@ -125,18 +125,21 @@ class Looks:
         async with self._looking:  # a second look would see the same trades as new
             await self._look(has_ladder or self.wants_ladder())
 
+    def _records(self, asked: Sequence[str], has_ladder: bool) -> list[str]:
+        """What is asked of the program: its day, its new trades, and the orders of members."""
+        records = ["show", "show,day", f"show,trades,{len(self.trades) + 1}"]
+        records += [f"show,orders,{self._book.numbers[it]}" for it in asked]
+        return [*records, "show,ladder"] if has_ladder else records
+
     async def _look(self, has_ladder: bool) -> None:
         """Looks at the program, while nobody else does. Raises ProcessError."""
-        numbers, book = self._book.numbers, self._book
+        book = self._book
         wanted = [it for it in self.wanted() if it in self._stale]
-        asked = [it for it in wanted if it in numbers]
+        asked = [it for it in wanted if it in book.numbers]
         self._stale.difference_update(wanted)
         for member in asked:
             self.orders.pop(member, None)  # which nobody is shown meanwhile
-        records = ["show", "show,day", f"show,trades,{len(self.trades) + 1}"]
-        records += [f"show,orders,{numbers[it]}" for it in asked]
-        if has_ladder:
-            records.append("show,ladder")
+        records = self._records(asked, has_ladder)
         sees_book, is_hidden = not book.is_known, has_ladder and book.has_icebergs
         entries, count = book.entries, self._engine.journal.count
         sees_hidden = is_hidden and self._listed != count

@@ -141,23 +141,7 @@ class Process:
         """Starts the program: how many entries its journal has. Raises ProcessError. Where it is
         cancelled, the program has ended too.
         """
-        theirs, ours = os.pipe2(os.O_CLOEXEC)
-        self._pipe = Pipe(ours)
-        try:
-            self._child = await asyncio.create_subprocess_exec(
-                *self._words,
-                stdin=theirs,
-                stdout=asyncio.subprocess.PIPE,
-                stderr=asyncio.subprocess.PIPE,
-                start_new_session=True,
-                restore_signals=False,  # a file that is too long is a failed write, and no signal
-            )
-        except (OSError, RuntimeError) as fault:  # or no thread that waits for its end
-            self._pipe.close()
-            why = fault.strerror if isinstance(fault, OSError) else fault
-            raise ProcessError(f"the program can't be run: {why}", FAILED) from None
-        finally:
-            os.close(theirs)
+        await self._begin()
         _running.add(self._child.pid)
         try:
             count = await asyncio.wait_for(self._entries(), START_SECONDS)
@@ -177,6 +161,26 @@ class Process:
         self._pipe.close()
         await self._left(STOP_SECONDS)
         raise self._fault(self._child.returncode or 0)
+
+    async def _begin(self) -> None:
+        """Begins the process. Raises ProcessError."""
+        theirs, ours = os.pipe2(os.O_CLOEXEC)
+        self._pipe = Pipe(ours)
+        try:
+            self._child = await asyncio.create_subprocess_exec(
+                *self._words,
+                stdin=theirs,
+                stdout=asyncio.subprocess.PIPE,
+                stderr=asyncio.subprocess.PIPE,
+                start_new_session=True,
+                restore_signals=False,  # a file that is too long is a failed write, and no signal
+            )
+        except (OSError, RuntimeError) as fault:  # or no thread that waits for its end
+            self._pipe.close()
+            why = fault.strerror if isinstance(fault, OSError) else fault
+            raise ProcessError(f"the program can't be run: {why}", FAILED) from None
+        finally:
+            os.close(theirs)
 
     async def _entries(self) -> int | None:
         """How many entries it says that its journal has; None where it ends before."""
