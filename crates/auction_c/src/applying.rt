@@ -2,11 +2,12 @@
 ghost use Rattle.std.specs.Prelude.{◌≡◌, length};
 ghost use Rattle.auction_c.specs.Calling.{apply_struct, apply_structs};
 
-use crate::decoding::command_in;
+use crate::decoding::call_in;
 use crate::encoding::reply_out;
 use crate::errors::{DONE, FULL, NO_COMMAND};
 use crate::structs::{AuctionCommand, AuctionReply};
 use auction::Auction;
+use auction_terms::Reply;
 
 /// Applies the command, writes the reply, and answers `DONE`. Else it changes nothing, and answers `NO_COMMAND` for a
 /// struct that is none, `FULL` where no call is left to the member.
@@ -20,7 +21,8 @@ pub(crate) fn apply_one(
     ensures auction { auction.new ≡ (apply_struct reserve auction.old command.now reply.old).auction }
     ensures reply { reply.new ≡ (apply_struct reserve auction.old command.now reply.old).reply }
 {
-    let Some(decoded) = command_in(command) else {
+    let decoded = call_in(command);
+    let Some(call) = &decoded else {
         return NO_COMMAND;
     };
     if auction.is_full() {
@@ -29,7 +31,9 @@ pub(crate) fn apply_one(
     if auction.is_reserved_from(command.member, reserve) {
         return FULL;
     }
-    *reply = reply_out(auction.apply(command.member, decoded));
+    let mut answered = Reply::Deleted;
+    auction.answer_call(call, &mut answered);
+    *reply = reply_out(&answered);
     DONE
 }
 

@@ -1,9 +1,9 @@
 //! What the structs that come from C mean.
-ghost use Rattle.std.specs.Prelude.{◌≡◌};
+ghost use Rattle.std.specs.Prelude.{◌≡◌, IfSome, option_map};
 ghost use Rattle.auction_c.specs.Decoding as decoded_as;
 
 use crate::structs::{AuctionCommand, AuctionConfig};
-use auction_terms::{Command, Config, Limit, Restriction, Side};
+use auction_terms::{Call, Command, Config, Limit, Restriction, Side};
 
 /// The number that means all members.
 pub const ALL_MEMBERS: u32 = 256;
@@ -108,28 +108,59 @@ pub(crate) fn decoded_member(member: u32) -> Option<Option<u8>>
     }
 }
 
-/// The command that a struct is, if it is one.
-pub(crate) fn command_in(command: &AuctionCommand) -> Option<Command>
-    ensures { result ≡ decoded_as.command_in command.now }
+/// The call that a struct is, if it is one.
+#[inline]
+pub(crate) fn call_in(given: &AuctionCommand) -> Option<Call>
+    ensures command { option_map (λ call. call.command) result ≡ decoded_as.command_in given.now }
+    ensures member { IfSome result (λ call. call.member ≡ given.now.member) }
 {
-    match command.tag {
-        1 => Some(Command::Enter {
-            side: side_in(command.side)?,
-            restriction: decoded_restriction(command.restriction)?,
-            limit: limit_in(command.has_limit, command.limit)?,
-            quantity: command.quantity,
-            peak: peak_in(command.has_peak, command.peak)?,
+    let member = given.member;
+    match given.tag {
+        1 => Some(Call {
+            member,
+            command: Command::Enter {
+                side: side_in(given.side)?,
+                restriction: decoded_restriction(given.restriction)?,
+                limit: limit_in(given.has_limit, given.limit)?,
+                quantity: given.quantity,
+                peak: peak_in(given.has_peak, given.peak)?,
+            },
         }),
-        2 => Some(Command::Change {
-            id: command.id,
-            limit: limit_in(command.has_limit, command.limit)?,
-            quantity: command.quantity,
+        2 => Some(Call {
+            member,
+            command: Command::Change {
+                id: given.id,
+                limit: limit_in(given.has_limit, given.limit)?,
+                quantity: given.quantity,
+            },
         }),
-        3 => Some(Command::Delete { id: command.id }),
-        4 => Some(Command::OrderStatus { id: command.id }),
-        5 => Some(Command::Indicate),
-        6 => Some(Command::ReadTrade { number: command.id }),
-        7 => Some(Command::Uncross),
+        3 => Some(Call {
+            member,
+            command: Command::Delete { id: given.id },
+        }),
+        4 => Some(Call {
+            member,
+            command: Command::OrderStatus { id: given.id },
+        }),
+        5 => Some(Call {
+            member,
+            command: Command::Indicate,
+        }),
+        6 => Some(Call {
+            member,
+            command: Command::ReadTrade { number: given.id },
+        }),
+        7 => Some(Call {
+            member,
+            command: Command::Uncross,
+        }),
         _ => None,
     }
+}
+
+/// The command that a struct is, if it is one.
+pub(crate) fn command_in(given: &AuctionCommand) -> Option<Command>
+    ensures { result ≡ decoded_as.command_in given.now }
+{
+    Some(call_in(given)?.command)
 }

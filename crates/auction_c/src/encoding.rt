@@ -127,11 +127,11 @@ fn open_order_out(side: Side, limit: Limit, quantity: u64, visible: u64) -> Auct
 }
 
 /// A reply as C reads it. No two replies are the same there.
-pub(crate) fn reply_out(reply: Reply) -> AuctionReply
-    ensures value { result ≡ encoded_as.reply_out reply }
-    ensures reads_back { reply_back result ≡ reply }
+pub(crate) fn reply_out(reply: &Reply) -> AuctionReply
+    ensures value { result ≡ encoded_as.reply_out reply.now }
+    ensures reads_back { reply_back result ≡ reply.now }
 {
-    match reply {
+    match *reply {
         Reply::Entered { id } => AuctionReply { id, ..tagged(1) },
         Reply::Changed { kept } => AuctionReply {
             kept: u8::from(kept),

@@ -86,6 +86,6 @@ pub(crate) fn entry_out(entry: Entry) -> AuctionEntry
 {
     AuctionEntry {
         command: command_out(entry.member, entry.command),
-        reply: reply_out(entry.reply),
+        reply: reply_out(&entry.reply),
     }
 }

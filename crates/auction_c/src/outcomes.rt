@@ -166,6 +166,6 @@ pub(crate) fn uncross_one(
     };
     listed.retain(|one| done.touches(&one.order));
     *copied = copy_outcomes(&done, &listed, outcomes);
-    *reply = reply_out(answer);
+    *reply = reply_out(&answer);
     DONE
 }

@@ -17,7 +17,7 @@ use crate::closing::Closing;
 use crate::evidence::{Front, Head};
 use crate::snapshot::Snapshot;
 use auction::Auction;
-use auction_terms::{Call, Command, Entry};
+use auction_terms::{Call, Command, Entry, Reply};
 use std::marker::Model;
 
 /// What every board has under its lock: the auction that gives the replies, the history of the day with the evidence of
@@ -99,17 +99,15 @@ impl BoardCore {
             return Err(fault);
         }
         let mut front = self.front.again();
+        let call = Call {
+            member: by.number(),
+            command,
+        };
         // The board alone adds a call, under its lock, so this adds always.
-        if !front.add(
-            &self.head,
-            Call {
-                member: by.number(),
-                command,
-            },
-        ) {
+        if !front.add(&self.head, call) {
             return Err(CallFault::Overtaken);
         }
-        Ok(self.write_down(by, command, front))
+        Ok(self.write_down(by, &call, front))
     }
 
     // Why a member's call can't be recorded, if it can't.
@@ -176,22 +174,24 @@ impl BoardCore {
     }
 
     // The part of a recorded call that can't fail: the evidence with it is there.
-    fn write_down(&mut self, by: &mut Account, command: Command, front: Front) -> Receipt
+    fn write_down(&mut self, by: &mut Account, call: &Call, front: Front) -> Receipt
         requires board { by.old.board ≡ self.old.board }
+        requires member { call.now.member ≡ by.old.view.number }
         requires room { length self.old.history < self.old.board.config.max_calls }
         requires book { front.book ≡ self.old.board.book }
-        requires front { front.log ≡ calls_of self.old.history ++ call_by by.old.view.number command ∷ [] }
+        requires front { front.log ≡ calls_of self.old.history ++ call.now ∷ [] }
         requires follows { HasSeenBeginning self.old.board.members (calls_of self.old.history) by.old.view }
         requires counted { by.old.view.calls ≡ length (placed_calls (calls_of self.old.history) by.old.view.number) }
         ensures board { (self.new.board ≡ self.old.board) × (by.new.board ≡ by.old.board) }
-        ensures history { self.new.history ≡ self.old.history ++ entry by.old.view.number command result.reply ∷ [] }
-        ensures call { CallsOnce self.old.board.config by.old.view by.new.view command result }
+        ensures history { self.new.history
+            ≡ self.old.history ++ entry by.old.view.number call.now.command result.reply ∷ [] }
+        ensures call { CallsOnce self.old.board.config by.old.view by.new.view call.now.command result }
         ensures number { result.number ≡ length self.new.history }
         ensures story { by.new.view.seen ≡ calls_of self.new.history }
         ensures legal { IsLegal self.new.board.config self.new.history }
     {
-        let member = by.number();
-        let reply = self.auction.apply(member, command);
+        let mut reply = Reply::Deleted;
+        self.auction.answer_call(call, &mut reply);
         let display = self.auction.show();
         let number = self.auction.calls();
         by.count_call(
@@ -201,10 +201,10 @@ impl BoardCore {
                 display,
             },
         );
-        self.counted[usize::from(member)] += 1;
+        self.counted[usize::from(call.member)] += 1;
         self.history.push_reserved(Entry {
-            member,
-            command,
+            member: call.member,
+            command: call.command,
             reply,
         });
         self.front = front;

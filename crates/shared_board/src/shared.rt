@@ -110,11 +110,14 @@ impl Shared {
     pub(crate) fn publish(&self, view: Snapshot)
         requires { IsSnapshotOf self.now.locked view.front view.shown }
     {
-        let newest = self.newest.load(SeqCst) % 256;
         let calls = u64::from(view.shown.calls);
+        let mut at = self.newest.load(SeqCst) as usize % 256;
         let mut view = view;
-        for i in 0..self.copies.len() {
-            let at = (newest as usize % self.copies.len() + 1 + i) % self.copies.len();
+        for _ in 0..self.copies.len() {
+            at = at.wrapping_add(1);
+            if at >= self.copies.len() {
+                at = 0;
+            }
             match write_copy(&self.copies[at], view) {
                 None => {
                     self.newest.store(calls * 256 + at as u64 % 256, SeqCst);

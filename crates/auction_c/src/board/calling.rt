@@ -7,7 +7,7 @@ use crate::encoding::{display_out, reply_out};
 use crate::errors::{DONE, FULL, board_fault_out};
 use crate::structs::{AuctionReceipt, AuctionShown};
 use auction_terms::Command;
-use board_terms::{Receipt, Shown};
+use board_terms::Shown;
 use shared_board::SharedMember;
 
 /// Calls the command, and writes its receipt.
@@ -27,10 +27,9 @@ pub(crate) fn call_one(
 {
     match member.call(command, reserve) {
         Ok(answer) => {
-            let Receipt { number, reply } = answer;
             *receipt = AuctionReceipt {
-                reply: reply_out(reply),
-                number,
+                reply: reply_out(&answer.reply),
+                number: answer.number,
             };
             DONE
         }

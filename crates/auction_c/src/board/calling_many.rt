@@ -7,7 +7,6 @@ use crate::decoding::command_in;
 use crate::encoding::reply_out;
 use crate::errors::{DONE, NO_COMMAND, board_fault_out};
 use crate::structs::{AuctionCommand, AuctionReceipt};
-use board_terms::Receipt;
 use shared_board::{BoardFault, SharedMember, TakenBoard};
 
 // Calls the command in the struct, and writes its receipt.
@@ -31,10 +30,9 @@ fn call_struct(
     };
     match member.call_taken(locked, decoded, reserve) {
         Ok(answer) => {
-            let Receipt { number, reply } = answer;
             *receipt = AuctionReceipt {
-                reply: reply_out(reply),
-                number,
+                reply: reply_out(&answer.reply),
+                number: answer.number,
             };
             DONE
         }

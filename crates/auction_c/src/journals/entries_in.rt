@@ -193,7 +193,7 @@ fn decoded_reply(reply: &AuctionReply) -> Option<Reply>
     ensures { result ≡ recorded_as.decoded_reply reply.now }
 {
     let back = reply_back(reply);
-    if reply_out(back) == *reply && is_fully_printed(back) {
+    if reply_out(&back) == *reply && is_fully_printed(back) {
         return Some(back);
     }
     None

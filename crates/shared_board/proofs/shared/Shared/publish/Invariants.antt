@@ -2,5 +2,5 @@
 use Rattle.board_terms.specs.BoardViews.{IsSnapshotOf}
 use Rattle.shared_board.proofs.shared.Shared.publish.Given as goal
 
-abbrev pub invariant-loop-i : goal.invariant-loop-i
-invariant-loop-i l = IsSnapshotOf l.self.locked l.view.front l.view.shown
+abbrev pub invariant-loop : goal.invariant-loop
+invariant-loop l = IsSnapshotOf l.self.locked l.view.front l.view.shown
