@@ -236,6 +236,9 @@ def test_two_presses_are_one(lesson: dict[str, Any], tmp_path: pathlib.Path) -> 
         assert page.runs(asked, "/api/join") == 1
     venue.do("remove", member="Hasty")
     teacher.clicks("#tab-auction")
+    if teacher.is_off("[data-do=freeze]"):  # where no test above has begun a call
+        venue.do("start")
+        teacher.waits(lambda it: not it.is_off("[data-do=freeze]"))
     before = teacher.runs(asked, "/api/operator")
     teacher.runs(twice, "[data-do=freeze]")
     teacher.waits(lambda it: not it.is_off("[data-do=thaw]"))
