@@ -31,6 +31,7 @@ import passes  # noqa: E402
 import program as building  # noqa: E402
 import proved_binaries  # noqa: E402
 import runner  # noqa: E402
+import tasks  # noqa: E402
 import together  # noqa: E402
 import toolchain  # noqa: E402
 import version  # noqa: E402
@@ -507,7 +508,7 @@ def test_a_task_that_hangs_is_ended(scheduled: Scheduled, text: str) -> None:
 def test_a_part_that_hangs_fails(plant: Plant) -> None:
     planted = plant("one hangs", "two passes")
     script = planted.script.read_text()
-    limit = "\nrunner.MOST_SECONDS = 1.0\nrunner.PARTS"
+    limit = "\nimport tasks\ntasks.MOST_SECONDS = 1.0\nrunner.PARTS"
     planted.script.write_text(script.replace("\nrunner.PARTS", limit))
     status, lines = planted.run("-j", "1")
     assert status == 1 and lines[-1] == "3 passed, 1 failed"
@@ -660,10 +661,10 @@ def test_wrong_bodies_are_tried_once(
     (tmp_path / "crates/low/must-fail/a.edit").write_text("")
     every = edits.all_edits(tmp_path)
     monkeypatch.setattr(edits, "all_edits", lambda: every)
-    assert runner.tried_elsewhere({"ci", "layout"}) == []
-    assert runner.tried_elsewhere({"ci", "bodies"}) == ["low"]
+    assert tasks.tried_elsewhere({"ci", "layout"}) == []
+    assert tasks.tried_elsewhere({"ci", "bodies"}) == ["low"]
     monkeypatch.setattr(built, "TOP", tmp_path)
-    gate.copy(tmp_path / "left", runner.tried_elsewhere({"ci", "bodies"}))
+    gate.copy(tmp_path / "left", tasks.tried_elsewhere({"ci", "bodies"}))
     assert [*tmp_path.glob("left/**/*.edit")] == []
     gate.copy(tmp_path / "all", [])
     assert (tmp_path / "all/crates/low/must-fail/a.edit").is_file()
