@@ -11,7 +11,7 @@ sys.path.insert(0, str(built.TOP / "build"))
 import beside  # noqa: E402
 import debian  # noqa: E402
 import needs  # noqa: E402
-from builds import CLOCK, LIBRARIES, LIBRARY, PROGRAM, TESTS  # noqa: E402
+from build_tasks import CLOCK, LIBRARIES, LIBRARY, PROGRAM, TESTS  # noqa: E402
 from package import PACKAGE, PREFIX, Package  # noqa: E402
 
 PYTEST = "PYTEST"
@@ -47,9 +47,9 @@ class Part:
         return PRODUCTS.intersection(re.split("[ =]", self.command))
 
 
-FEW = " -p checks.one_of_each"
+FEW = " -p checks.first_case_of_each_test"
 """What has pytest run one case of each test."""
-KINDS = " -p one_of_each_kind"
+KINDS = " -p first_test_of_each_kind"
 """What has pytest run one test of each kind."""
 TYPED = "env MYPY_CACHE_DIR=../out/mypy/"
 """Has mypy, run in python/, keep for the next short run what it found, in a folder of this name."""
@@ -84,7 +84,7 @@ def on_cases(name: str, what: str, tools: str = "", is_alone: bool = False) -> P
 
 PARTS = [
     Part("layout", "names, links, sizes and columns of texts", LAYOUT, "git rt", "pytest"),
-    Part("edits", "wrong bodies fit their files and are listed", "checks/wrong-bodies --fit"),
+    Part("edits", "wrong bodies fit their files and are listed", "checks/try-wrong-bodies --fit"),
     Part(
         "promises",
         "where each promise of README is kept",
@@ -104,7 +104,7 @@ PARTS = [
     Part(
         BODIES,
         "wrong bodies over what ci proves",
-        f"nice checks/wrong-bodies --over {LIBRARIES}",
+        f"nice checks/try-wrong-bodies --over {LIBRARIES}",
         "rt",
         is_proof=True,
         short="",

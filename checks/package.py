@@ -23,7 +23,7 @@ import layout  # noqa: E402
 import passes  # noqa: E402
 import version  # noqa: E402
 from beside import Fault, Task  # noqa: E402
-from builds import LIBRARY, PROGRAM  # noqa: E402
+from build_tasks import LIBRARY, PROGRAM  # noqa: E402
 
 PACKAGE = "PACKAGE"
 """A word of a command that means the folder of the package for Python."""

@@ -32,7 +32,7 @@ import changed  # noqa: E402
 import machine  # noqa: E402
 import proved_binaries  # noqa: E402
 from beside import Schedule, Task  # noqa: E402
-from builds import LIBRARIES, PROGRAM, Builds  # noqa: E402
+from build_tasks import LIBRARIES, PROGRAM, Builds  # noqa: E402
 from check_parts import (  # noqa: E402
     BODIES, GATE, PARTS, Missing, Part, chosen, installed, look_for_tools, short,
 )  # fmt: skip

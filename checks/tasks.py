@@ -7,7 +7,7 @@ import debian
 import edits
 import gate
 from beside import Product, Task
-from builds import Builds
+from build_tasks import Builds
 from check_parts import BODIES, CRATES, GATE, PRODUCTS, PYTEST, Part
 from package import Package
 

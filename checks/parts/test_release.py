@@ -110,7 +110,7 @@ def built(pytestconfig: pytest.Config, program: str) -> dict[str, str]:
 @pytest.fixture(scope="session")
 def is_short(pytestconfig: pytest.Config) -> bool:
     """Whether this is a short run."""
-    return bool(pytestconfig.pluginmanager.has_plugin("checks.one_of_each"))
+    return bool(pytestconfig.pluginmanager.has_plugin("checks.first_case_of_each_test"))
 
 
 def run(
@@ -629,7 +629,7 @@ def test_the_wheel(
     assert str(venv) in found and done(found.strip(), input=ORDERS) == ANSWERS
     words = [python, "-P", "-m", "pytest", "-q", "-x", "-c", TOP / "python/pyproject.toml"]
     words += [TOP / "python/tests", "-k", "not notebook and not lesson"]
-    words += ["-p", "one_of_each_kind"] if is_short else []
+    words += ["-p", "first_test_of_each_kind"] if is_short else []
     env = {"HYPOTHESIS_STORAGE_DIRECTORY": str(tmp_path / "hypothesis"), "MPLBACKEND": "Agg"}
     env |= {"PYTHONDONTWRITEBYTECODE": "1", "HOME": str(tmp_path)}
     env |= {"PYTHONPATH": str(TOP / "checks")} if is_short else {}

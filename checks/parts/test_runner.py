@@ -19,7 +19,7 @@ TOP = pathlib.Path(__file__).resolve().parent.parent.parent
 sys.path[:0] = [str(TOP / "checks"), str(TOP / "build")]
 
 import beside  # noqa: E402
-import builds  # noqa: E402
+import build_tasks  # noqa: E402
 import built  # noqa: E402
 import changed  # noqa: E402
 import edits  # noqa: E402
@@ -571,7 +571,7 @@ def built_files(tmp_path: pathlib.Path, monkeypatch: pytest.MonkeyPatch) -> path
     """
     for name in ("PROGRAM", "TESTS", "CLOCK", "ARCHIVE"):
         monkeypatch.setattr(built, name, tmp_path / "usual" / name)
-    monkeypatch.setattr(builds, "KEPT", tmp_path / "kept")
+    monkeypatch.setattr(build_tasks, "KEPT", tmp_path / "kept")
     monkeypatch.setattr(built, "newest_source", lambda: time.time() - 1000)
     for folder, names in {
         "usual": ("PROGRAM", "ARCHIVE"),
@@ -587,12 +587,12 @@ EVERY = {"PROGRAM", "TESTS", "CLOCK", "LIBRARY"}
 
 
 def test_what_is_built_without_the_gate(three: pathlib.Path) -> None:
-    found = builds.Builds(EVERY, False, False, three)
+    found = build_tasks.Builds(EVERY, False, False, three)
     assert found.there == {"PROGRAM", "LIBRARY"}
     assert found.path("PROGRAM") == str(three / "usual/PROGRAM")
     assert [task.name for task in found.tasks()] == ["build_tests", "build_clock"]
     os.utime(three / "usual/PROGRAM", (1, 1))  # older than the sources
-    later = [*builds.Builds(EVERY, False, False, three).tasks()]
+    later = [*build_tasks.Builds(EVERY, False, False, three).tasks()]
     assert [(task.name, *task.needs) for task in later] == [
         ("build_program",),
         ("build_tests", "PROGRAM"),
@@ -601,23 +601,24 @@ def test_what_is_built_without_the_gate(three: pathlib.Path) -> None:
 
 
 def test_what_is_built_after_the_gate(three: pathlib.Path) -> None:
-    found = builds.Builds(EVERY, False, True, three)
+    found = build_tasks.Builds(EVERY, False, True, three)
     assert found.there == EVERY and [*found.tasks()] == []
     assert found.path("TESTS") == str(three / "kept/TESTS")
     (three / "kept/TESTS").unlink()
-    assert builds.Builds(EVERY, False, True, three).path("PROGRAM") == str(three / "usual/PROGRAM")
+    usual = build_tasks.Builds(EVERY, False, True, three).path("PROGRAM")
+    assert usual == str(three / "usual/PROGRAM")
 
 
 def test_what_is_built_by_the_gate(
     three: pathlib.Path, monkeypatch: pytest.MonkeyPatch
 ) -> None:
-    found = builds.Builds(EVERY, True, False, three)
+    found = build_tasks.Builds(EVERY, True, False, three)
     assert found.there == set()
     (task,) = found.tasks()
-    assert (task.name, *task.needs) == ("build_library", builds.PROVED)
+    assert (task.name, *task.needs) == ("build_library", build_tasks.PROVED)
     made = {product.name: product for product in found.of_gate()}
     assert made["PROGRAM"].lines == {"rt: callboard proved"}
-    assert "rt: auction proved" in made[builds.PROVED].lines
+    assert "rt: auction proved" in made[build_tasks.PROVED].lines
     monkeypatch.setattr(built, "TOP", three)
     with pytest.raises(OSError):
         made["PROGRAM"].take()
@@ -647,7 +648,7 @@ def test_over_which_binaries_a_run_was(
     seconds = passes.Seconds(three / "seconds.txt", three / "none")
     results = runner.Results([], False, seconds, passed)
     results.passed = 7
-    runner.keep_binaries(results, builds.Builds(EVERY, True, False, three), parts)
+    runner.keep_binaries(results, build_tasks.Builds(EVERY, True, False, three), parts)
     assert written == ([("7 passed, 0 failed", parts)] if is_kept else [])
 
 
@@ -673,8 +674,8 @@ def test_wrong_bodies_are_tried_once(
 def test_libraries_are_kept_for_wrong_bodies(
     three: pathlib.Path, monkeypatch: pytest.MonkeyPatch
 ) -> None:
-    monkeypatch.setattr(builds, "libraries", lambda: ["low", "high"])
-    found = builds.Builds({"LIBRARIES"}, True, False, three)
+    monkeypatch.setattr(build_tasks, "libraries", lambda: ["low", "high"])
+    found = build_tasks.Builds({"LIBRARIES"}, True, False, three)
     (made,) = [product for product in found.of_gate() if product.name == "LIBRARIES"]
     assert made.lines == {"rt: low proved", "rt: high proved"} and not made.is_at_end
     for name in ("low", "high"):
@@ -684,14 +685,14 @@ def test_libraries_are_kept_for_wrong_bodies(
         made.take()
     assert (three / "kept/libraries/high/high.rlib/format").read_text() == "high"
     assert found.path("LIBRARIES") == str(three / "kept/libraries")
-    assert builds.Builds({"LIBRARIES"}, False, True, three).there == {"LIBRARIES"}
-    assert builds.Builds({"LIBRARIES"}, False, False, three).there == set()
+    assert build_tasks.Builds({"LIBRARIES"}, False, True, three).there == {"LIBRARIES"}
+    assert build_tasks.Builds({"LIBRARIES"}, False, False, three).there == set()
     found.drop_libraries()
-    assert builds.Builds({"LIBRARIES"}, False, True, three).there == set()
+    assert build_tasks.Builds({"LIBRARIES"}, False, True, three).there == set()
 
 
 def test_libraries_are_those_that_others_stand_on() -> None:
-    found = builds.libraries()
+    found = build_tasks.libraries()
     assert {"auction_terms", "program_runs"} <= {*found}
     assert not {"callboard", "auction_c"} & {*found}
 
@@ -1041,8 +1042,8 @@ def test_with_a_folder_too(case: int, tmp_path: object) -> None:
 @pytest.mark.parametrize(
     "plugin, said",
     [
-        ("one_of_each", "4 passed, 3 deselected"),
-        ("one_of_each_kind", "4 passed, 10 deselected"),
+        ("first_case_of_each_test", "4 passed, 3 deselected"),
+        ("first_test_of_each_kind", "4 passed, 10 deselected"),
     ],
 )
 def test_one_of_each(plugin: str, said: str, tmp_path: pathlib.Path) -> None:

@@ -2,7 +2,7 @@
 same fixtures, as a venue, its pages in a browser, or a session of FIX.
 """
 import pytest
-from one_of_each import keep_firsts
+from first_case_of_each_test import keep_firsts
 
 
 def pytest_collection_modifyitems(config: pytest.Config, items: list[pytest.Item]) -> None:
