@@ -5,7 +5,7 @@ import os
 import pathlib
 import secrets
 
-from layout import Item
+from installed_files import Item
 
 LIST = "share/callauction/installed"
 """Where the list is, below the prefix."""

@@ -10,8 +10,8 @@ and of two crates that use a third it lets the second wait. So each is proved in
 out/build/rooms/CRATE, with a copy of its text and of what was built below it, and what is made
 there is moved to the crate's own out/. On a terminal one line is rewritten; elsewhere each crate
 has a line of its own. What is proved is kept, so a build that was interrupted goes on where it
-stopped. How long each crate took is kept in out/build/seconds.txt, and the log of each in
-out/build/CRATE.log. A new clone takes build/seconds.txt for it, which `build/program.py
+stopped. How long each crate took is kept in out/build/crate_seconds.txt, and the log of each in
+out/build/CRATE.log. A new clone takes build/crate_seconds.txt for it, which `build/program.py
 --keep-seconds` makes of a run's. The status is 0 where all is built, 1 where a crate failed, which
 is named with its log, and 2 where a build can't begin.
 """
@@ -37,7 +37,7 @@ LOGS = TOP / "out/build"
 SECONDS = LOGS / "seconds.txt"
 ROOMS = LOGS / "rooms"
 NO_CRATES_HERE = ROOMS / "MODULE.bazel"  # a file that keeps `rt ci` out of the rooms
-KEPT_SECONDS = TOP / "build/seconds.txt"
+KEPT_SECONDS = TOP / "build/crate_seconds.txt"
 MOST_JOBS = 4  # that one crate can use
 UNKNOWN = 60.0  # seconds taken for a crate that no run has proved
 BESIDE_JOBS = 2  # of a crate that is proved beside those with the longest way
@@ -392,9 +392,8 @@ def main() -> int:
         prog="build/program.py", description="Proves and builds crates, the program first of all."
     )
     parser.add_argument("crates", nargs="*", metavar="CRATE", help="the program, where none is")
-    parser.add_argument(
-        "--keep-seconds", action="store_true", help="make build/seconds.txt of what is known here"
-    )
+    text = "make build/crate_seconds.txt of what is known here"
+    parser.add_argument("--keep-seconds", action="store_true", help=text)
     asked = parser.parse_args()
     for it in (signal.SIGINT, signal.SIGTERM):
         if signal.getsignal(it) is not signal.SIG_IGN:

@@ -19,7 +19,7 @@ import built
 sys.path.insert(0, str(built.TOP / "build"))
 
 import installed  # noqa: E402
-import layout  # noqa: E402
+import installed_files  # noqa: E402
 import passes  # noqa: E402
 import version  # noqa: E402
 from beside import Fault, Task  # noqa: E402
@@ -98,16 +98,16 @@ class Package:
         wanted, None where it is a binary. Raises OSError.
         """
         kind = self.kind()
-        lib = layout.MULTIARCH if kind is Kind.DEBIAN else "lib"
-        for item in layout.program_texts() if kind is not Kind.WHEEL else []:
-            place = layout.in_tarball(item.place) if kind is Kind.TARBALL else item.place
+        lib = installed_files.MULTIARCH if kind is Kind.DEBIAN else "lib"
+        for item in installed_files.program_texts() if kind is not Kind.WHEEL else []:
+            place = installed_files.in_tarball(item.place) if kind is Kind.TARBALL else item.place
             is_packed = kind is Kind.DEBIAN and "/man/" in place
             yield f"{place}.gz" if is_packed else place, item.content
         if kind is Kind.TARBALL:
             yield "CHANGELOG.md", (built.TOP / "CHANGELOG.md").read_bytes()
         if LIBRARY in HOLDS[kind]:
-            yield from ((item.place, item.content) for item in layout.library_texts(lib))
-            yield from ((f"{lib}/{name}", None) for name in layout.LIBRARY_FILES)
+            yield from ((item.place, item.content) for item in installed_files.library_texts(lib))
+            yield from ((f"{lib}/{name}", None) for name in installed_files.LIBRARY_FILES)
         if PACKAGE in HOLDS[kind]:
             yield from self.wanted_of_python()
         if kind is Kind.DEBIAN:
@@ -149,11 +149,11 @@ class Package:
         if not folder.is_dir():
             folder.mkdir()
             lib = self.files[LIBRARY].parent
-            for name in layout.LIBRARY_FILES:
+            for name in installed_files.LIBRARY_FILES:
                 (folder / name).symlink_to(lib / name)
             for name in ("callauction.h", "callauction.hpp"):
                 (folder / name).symlink_to(self.prefix / "include" / name)
-            text = layout.package_text("${pcfiledir}", ".", ".")
+            text = installed_files.package_text("${pcfiledir}", ".", ".")
             (folder / "callauction.pc").write_bytes(text)
         return folder
 

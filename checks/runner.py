@@ -6,10 +6,10 @@ it counts as many; else it counts one, by its status. Its output goes to out/che
 printed too where it failed, or with --show. A part that fails keeps no other from running, and one
 that hangs is ended after its time. One that measures times or fills memory runs alone. The longest
 are begun first: how long each took is kept in out/check/seconds.txt (a new clone goes by
-checks/seconds.txt), and what passed in out/check/passed.txt, for --resume. The status is 0 where
-all passed, 1 where something failed, 2 where a part, or a tool or a module of Python that the parts
-need, doesn't exist, or another ./check runs here; then no part runs; and 130 where the run was
-broken off.
+checks/part_seconds.txt), and what passed in out/check/passed.txt, for --resume. The status is 0
+where all passed, 1 where something failed, 2 where a part, or a tool or a module of Python that the
+parts need, doesn't exist, or another ./check runs here; then no part runs; and 130 where the run
+was broken off.
 """
 import argparse
 import contextlib
@@ -95,8 +95,8 @@ def run(parts: list[Part], asked: argparse.Namespace, rooms: pathlib.Path) -> in
 
 
 def seconds_of(logs: pathlib.Path) -> Seconds:
-    """How long parts took here, or where checks/seconds.txt was made. Raises OSError."""
-    return Seconds(logs / "seconds.txt", built.TOP / "checks/seconds.txt")
+    """How long parts took here, or where checks/part_seconds.txt was made. Raises OSError."""
+    return Seconds(logs / "seconds.txt", built.TOP / "checks/part_seconds.txt")
 
 
 def keep_binaries(results: Results, builds: Builds, parts: list[str]) -> None:
@@ -169,7 +169,7 @@ def words() -> argparse.Namespace:
     )
     parser.add_argument("--list", action="store_true", help="print the parts, and run none")
     parser.add_argument("--show", action="store_true", help="print all that the parts print")
-    text = "make checks/seconds.txt of how long parts took here, for new clones, and run none"
+    text = "make checks/part_seconds.txt of how long parts took here, for new clones, and run none"
     parser.add_argument("--keep-seconds", action="store_true", help=text)
     parser.add_argument(
         "-j",
@@ -208,7 +208,7 @@ def main() -> int:
     """Runs the parts that are asked for; answers the status."""
     asked = words()
     if asked.keep_seconds:
-        seconds_of(LOGS).write(built.TOP / "checks/seconds.txt", [part.name for part in PARTS])
+        seconds_of(LOGS).write(built.TOP / "checks/part_seconds.txt", [part.name for part in PARTS])
         return 0
     if asked.list:
         for part in PARTS:

@@ -27,7 +27,7 @@ from checks.built import TOP
 
 sys.path[:0] = [str(TOP / "checks"), str(TOP / "build")]
 
-import layout  # noqa: E402
+import installed_files  # noqa: E402
 import proved_binaries  # noqa: E402
 import runner  # noqa: E402
 import version  # noqa: E402
@@ -233,7 +233,7 @@ def use_by_cmake(prefix: pathlib.Path, folder: pathlib.Path) -> None:
 
 def test_cmake_finds_a_version_that_is_asked_for(tmp_path: pathlib.Path) -> None:
     """From the first one on, and no later than the end of a range."""
-    for item in layout.library_texts("lib"):
+    for item in installed_files.library_texts("lib"):
         place = tmp_path / "own" / item.place
         place.parent.mkdir(parents=True, exist_ok=True)
         place.write_bytes(item.content)

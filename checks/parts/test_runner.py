@@ -24,7 +24,7 @@ import built  # noqa: E402
 import changed  # noqa: E402
 import edits  # noqa: E402
 import gate  # noqa: E402
-import layout  # noqa: E402
+import installed_files  # noqa: E402
 import machine  # noqa: E402
 import package  # noqa: E402
 import passes  # noqa: E402
@@ -250,7 +250,7 @@ def test_the_longest_first(plant: Plant) -> None:
 def test_the_longest_first_in_a_new_clone(plant: Plant) -> None:
     planted = plant("short passes", "long passes", "longest passes")
     (planted.top / "checks").mkdir()
-    stored = planted.top / "checks/seconds.txt"
+    stored = planted.top / "checks/part_seconds.txt"
     stored.write_text("short 20.0\nlong 90.0\nlongest 900.0\n")
     planted.run("-j", "1")
     assert planted.begun() == ["longest", "long", "short"]
@@ -987,8 +987,8 @@ def test_a_part_that_is_named_is_not_left_out(tmp_path: pathlib.Path) -> None:
 def tarball_in(folder: pathlib.Path) -> pathlib.Path:
     """What a tarball holds, with a program that says that it has this version."""
     package_in(folder, "callboard")
-    for item in layout.program_texts():
-        path = folder / layout.in_tarball(item.place)
+    for item in installed_files.program_texts():
+        path = folder / installed_files.in_tarball(item.place)
         path.parent.mkdir(parents=True)
         path.write_bytes(item.content)
     shutil.copy(TOP / "CHANGELOG.md", folder)
