@@ -167,19 +167,29 @@ def _name(head: str) -> str:
 @dataclasses.dataclass
 class _Phase:
     """Where an instrument is: its last price in market data, and from which place on trades follow
-    one another, no row of an order being between, with the price and the number of the first.
+    one another, no row of an order being between, with the price and the number of the first, and
+    their result.
     """
 
     result: tuple[int, Message] | None = None
     trades: int = -1
     price: str = ""
     number: str = ""
-    is_done: bool = False
+    done: Message | None = None
 
     def is_result(self, found: Message) -> bool:
-        """Whether market data is the trades' result: it names an auction, or has their price."""
+        """Whether market data is the trades' result: it names an auction, or has their price; where
+        they have one, it names that auction too and says another thing of it.
+        """
         is_named = found.get("TradingSessionSubID", "") in _AUCTIONS
+        if self.done is not None:
+            return is_named and _session(found) == _session(self.done) and self._differs(found)
         return is_named or _number(found["LastPx"]) == _number(self.price)
+
+    def _differs(self, found: Message) -> bool:
+        """Whether market data says another thing than the result."""
+        done, said = self.done or {}, ("LastPx", "LastQty", IMBALANCE, "Side")
+        return any(_number(found[it]) != _number(done.get(it, "")) for it in said if it in found)
 
 
 class _Log:
@@ -304,7 +314,7 @@ class _Log:
         if phase.trades < 0:
             phase.trades, phase.number = len(self.rows), message.get(NUMBER, "")
             phase.price = message.get("LastPx", "")
-        if phase.result is not None and not phase.is_done and phase.is_result(phase.result[1]):
+        if phase.result is not None and phase.done is None and phase.is_result(phase.result[1]):
             self._result(phase, *phase.result)
 
     # ---- market data
@@ -337,7 +347,7 @@ class _Log:
         if own[1] in _AUCTIONS and is_none:
             self.empty[own] = len(self.rows), line, found
             return
-        if phase.trades >= 0 and not phase.is_done and phase.is_result(found):
+        if phase.trades >= 0 and phase.is_result(found):
             self._result(phase, line, found)
             return
         self.notes[INDICATIONS] += phase.result is not None
@@ -347,12 +357,12 @@ class _Log:
         """Puts a result above the first of its trades, with the number of that."""
         self._put(phase.trades - 0.5, line, found | {NUMBER: phase.number})
         self.held.add(_session(found))
-        phase.result, phase.is_done = None, True
+        phase.result, phase.done = None, found
 
     def _forget(self, phase: _Phase) -> None:
         """A row of an order parts what is before it from the trades behind it."""
         self.notes[INDICATIONS] += phase.result is not None
-        phase.result, phase.trades, phase.is_done = None, -1, False
+        phase.result, phase.trades, phase.done = None, -1, None
 
     # ---- the table
 
