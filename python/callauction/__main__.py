@@ -30,7 +30,7 @@ from callauction.verdict import command, shapes  # noqa: E402
 from callauction.verdict.columns import ColumnError, ExtractError  # noqa: E402
 
 if TYPE_CHECKING:
-    from callauction.course import Watch
+    from callauction.progress import Progress
     from callauction.journal import Journal
 
 SECONDS = 2
@@ -281,9 +281,9 @@ def _values(file: str | None) -> dict[int, float] | None:
     return dict(zip(found["order"].astype(int), found["value"].astype(float)))
 
 
-def _watch(unit: str) -> "Watch":
+def _watch(unit: str) -> "Progress":
     bar: Any = functools.partial(watched, unit=f" {unit}")  # mypy: a partial isn't generic
-    found: Watch = bar
+    found: Progress = bar
     return found
 
 

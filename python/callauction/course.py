@@ -3,7 +3,7 @@ reference price before a command. The day is played by an Auction, command by co
 """
 import dataclasses
 from collections.abc import Iterable
-from typing import TYPE_CHECKING, Protocol, TypeVar
+from typing import TYPE_CHECKING
 
 import numpy
 import pandas
@@ -11,6 +11,7 @@ import pandas
 from callauction.arrays import COMMAND, REPLY, Structs
 from callauction.limits import MOST_CALLS
 from callauction.program import Day
+from callauction.progress import Progress
 from callauction.tables import journal_of
 from callauction.words import (
     RESTRICTION_WORDS,
@@ -55,14 +56,6 @@ UNCROSSES = {
 executed as the price lay too far from the reference.
 """
 INTERRUPTED = "interrupted"
-Step = TypeVar("Step")
-
-
-class Watch(Protocol):
-    """What steps are taken through, such as a progress bar."""
-
-    def __call__(self, steps: Iterable[Step], /) -> Iterable[Step]:
-        ...
 
 
 @dataclasses.dataclass(frozen=True)
@@ -73,7 +66,7 @@ class Course:
     uncrosses: pandas.DataFrame
 
 
-def course_of(day: Day | pandas.DataFrame, watch: Watch = iter) -> Course:
+def course_of(day: Day | pandas.DataFrame, watch: Progress = iter) -> Course:
     """How the day of an order file, or of a journal or its frame (tables.JOURNAL), went. Raises
     ProgramError.
     """

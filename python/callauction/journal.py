@@ -31,8 +31,8 @@ from typing import Any
 import pandas
 
 from callauction.auction import Auction
-from callauction.course import Watch, references_of
 from callauction.cells import FrameError, cell_of
+from callauction.course import references_of
 from callauction.limits import MOST_CALLS, MOST_MEMBERS, MOST_OPEN, MOST_TICKS
 from callauction.prices import (
     BadCellError,
@@ -44,6 +44,7 @@ from callauction.prices import (
     whole_of,
 )
 from callauction.program import Day
+from callauction.progress import Progress
 from callauction.reasons import Explanation, explain
 from callauction.tables import audit_of, book_at, books_of, journal_of, trades_of
 from callauction.verdict.columns import OTHER_NAMES, refuse_unknown
@@ -415,7 +416,7 @@ def from_frame(
     high: object = None,
     range: object = None,
     ignore: Collection[str] = (),
-    watch: Watch = iter,
+    watch: Progress = iter,
 ) -> Journal:
     """The journal of a frame of order events (see the module).
 

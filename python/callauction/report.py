@@ -11,7 +11,7 @@ import pandas
 from matplotlib.figure import Figure
 
 from callauction import plot
-from callauction.course import INTERRUPTED, Course, Watch, course_of, references_of
+from callauction.course import INTERRUPTED, Course, course_of, references_of
 from callauction.gains import Gains, gains_of, shown
 from callauction.outcomes import members_of, outcomes_of, played
 from callauction.pages import (
@@ -27,6 +27,7 @@ from callauction.pages import (
     shown_cell,
 )
 from callauction.program import Day
+from callauction.progress import Progress
 from callauction.reasons import explain
 from callauction.tables import DAY, audit_of, book_at, books_of, journal_of, trades_of
 
@@ -37,7 +38,7 @@ Part = tuple[str, str]
 def html_of(
     day: Day,
     title: str = "A day of call auctions",
-    watch: Watch = iter,
+    watch: Progress = iter,
     values: Mapping[int, float] | None = None,
     tick_size: object = None,
     facts: Mapping[str, str] = {},

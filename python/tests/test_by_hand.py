@@ -5,7 +5,7 @@ import io
 from typing import Any
 
 import pytest
-from callauction.verdict import Reading, Verdict, audit_events
+from callauction.verdict import Reading, Verdict, audit_events, shapes
 
 HEADER = "event,order,member,side,price,quantity,peak,surplus,auction,trades,bid,ask"
 OPENING: dict[str, Any] = {"reference": "10.00", "tick_size": "0.01", "auctions": ["opening"]}
@@ -83,6 +83,35 @@ def test_an_order_that_has_not_all_of_its_lots_executed_is_a_doubt() -> None:
     verdict = audited(rows.format(5))
     assert verdict.word == "incomplete" and verdict.doubtful, str(verdict)
     assert audited(rows.format(3)).word == "unlawful"
+
+
+SURPLUS_OF_LOTS = """
+    new,A,Fink,bid,10.00,800,,,,,,
+    new,C,Adler,ask,9.50,300,,,,,,
+    new,D,Dorn,bid,10.00,8,,,,,,
+    new,E,Dorn,bid,9.40,5,,,,,,
+    uncross,,,bid,10.00,300,,{},opening,1,,
+    trade,,,,10.00,300,,,opening,,A,C"""
+
+
+@pytest.mark.parametrize("lot", [10, 50, 100])
+def test_orders_in_lots_that_only_the_surplus_shows_are_a_doubt(lot: int) -> None:
+    """A and D buy at 10.00, and 300 are executed: 500 of A are left, and D's 8 lots."""
+    verdict = audited(SURPLUS_OF_LOTS.format(500 + 8 * lot))
+    assert verdict.word == "incomplete", str(verdict)
+    assert [it.item for it in verdict.doubtful] == ["surplus"]
+    assert f"row 4's member in lots of {lot}?" in verdict.doubtful[0].doubt
+
+
+def test_a_surplus_of_another_number_of_lots_is_certain() -> None:
+    """1,299 is none that lots of D give, A and C have no lots of 1,000, and 100 shares of D beside
+    theirs are none.
+    """
+    assert audited(SURPLUS_OF_LOTS.format(1299)).word == "unlawful"
+    assert audited(SURPLUS_OF_LOTS.format(8500)).word == "unlawful"
+    whole = SURPLUS_OF_LOTS.replace(",8,", ",100,").replace("9.40,5,", "9.40,50,")
+    assert audited(whole.format(600)).word == "lawful"
+    assert audited(whole.format(1500)).word == "unlawful"
 
 
 # ---- an interruption that was published twice
@@ -337,3 +366,36 @@ def test_ids_of_trades_that_no_order_has_are_a_doubt_beside_a_replace(ids: tuple
     assert verdict.word == "incomplete", str(verdict)
     wrong = audited(FOREIGN.format(*ids).replace("25.73,850", "25.74,850"), NAMED, **terms)
     assert wrong.word == "unlawful", str(wrong)
+
+
+# ---- a result of market data that was published twice
+
+
+def fix_log(*results: str, is_last_late: bool) -> bytes:
+    """A log of FIX messages of the opening: A buys 300 of B's 300 at 10.00, with these volumes in
+    market data, all above the trade, or the last one below it.
+    """
+    head = "8=FIX.4.4|9=9|35={}|34={}|48=DE1|60=20261127-09:00:0{}"
+    order = "|37={}|17=X{}|150=0|54={}|40=2|44=10.00|38=300|151=300|59=0"
+    fill = "|37={}|17=X{}|150=F|54={}|31=10.00|32=300|151=0|880=T1|625=2"
+    data = "|625=2|268=2|269=Q|270=10.00|269=B|271={}"
+    rows = [("8", order.format("A", 1, 1)), ("8", order.format("B", 2, 2))]
+    rows += [("W", data.format(it)) for it in results]
+    fills = [("8", fill.format("A", 3, 1)), ("8", fill.format("B", 4, 2))]
+    at = len(rows) - is_last_late
+    rows[at:at] = fills
+    lines = (f"{head.format(it[0], at, at)}{it[1]}|10=1|" for at, it in enumerate(rows, 1))
+    return "".join(f"{line}\n" for line in lines).encode()
+
+
+@pytest.mark.parametrize("is_last_late", [False, True])
+def test_a_later_result_of_market_data_may_correct_one(is_last_late: bool) -> None:
+    reading = shapes.reading_of("fix")
+    words = {
+        volumes: audit_events(io.BytesIO(fix_log(*volumes, is_last_late=is_last_late)),
+                              **OPENING, reading=reading).word
+        for volumes in (("299", "300"), ("299", "298"), ("300",), ("299",))
+    }  # fmt: skip
+    print(words)
+    assert words == {("299", "300"): "incomplete", ("299", "298"): "unlawful",
+                     ("300",): "lawful", ("299",): "unlawful"}  # fmt: skip

@@ -9,9 +9,9 @@ from typing import BinaryIO
 import numpy
 import pandas
 
-from callauction.course import Watch
 from callauction.prices import argument, tick_size_of
 from callauction.program import Day
+from callauction.progress import Progress
 from callauction.verdict import restricted
 from callauction.verdict.coverage import Coverage
 from callauction.verdict.early import Early, doubt_times
@@ -25,8 +25,9 @@ from callauction.verdict.judging import Judge
 from callauction.verdict.mixed import (
     corrected, has_more, refuse_days, refuse_sums, with_late_results,
 )  # fmt: skip
-from callauction.verdict.otherwise import all_times, judged_day
+from callauction.verdict.otherwise import judged_day
 from callauction.verdict.reading import Reading
+from callauction.verdict.reorderings import all_times
 from callauction.verdict.rows import NEW, REPLACE, BadRow, Doubt, Rows
 from callauction.verdict.rules import Rules, range_of
 from callauction.verdict.table import Table
@@ -52,7 +53,7 @@ def audit_events(
     second_reference: object = None,
     second_range: object = None,
     reading: Reading = Reading(),
-    watch: Watch = iter,
+    watch: Progress = iter,
 ) -> Verdict:
     """The verdict on an extract: a frame or a CSV file with a row for each event
     (verdict.columns.EVENT_COLUMNS), read as `reading` says.
@@ -77,7 +78,7 @@ def audit_events(
     return judge(table, reading, rules, watch)
 
 
-def judge(table: Table, reading: Reading, rules: Rules, watch: Watch = iter) -> Verdict:
+def judge(table: Table, reading: Reading, rules: Rules, watch: Progress = iter) -> Verdict:
     """The verdict on a table. Raises ExtractError and ProgramError."""
     rows = rows_of(table, reading, rules.prices)
     rows.bad += short_rows(table, rows, reading)
@@ -85,7 +86,7 @@ def judge(table: Table, reading: Reading, rules: Rules, watch: Watch = iter) -> 
     return judge_rows(rows, rules, watch)
 
 
-def judge_rows(rows: Rows, rules: Rules, watch: Watch = iter) -> Verdict:
+def judge_rows(rows: Rows, rules: Rules, watch: Progress = iter) -> Verdict:
     """The verdict on the rows of a day. Raises ExtractError and ProgramError."""
     rows, rules = without_noise(with_results(rows), rules)
     whole = rows

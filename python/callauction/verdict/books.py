@@ -7,8 +7,8 @@ from collections.abc import Mapping
 import numpy
 import pandas
 
-from callauction.course import Watch
 from callauction.prices import argument
+from callauction.progress import Progress
 from callauction.verdict.audits import judge, rules_of
 from callauction.verdict.cells import Short
 from callauction.verdict.columns import EVENT_COLUMNS, ColumnError, ExtractError, refuse_unknown
@@ -25,7 +25,7 @@ from callauction.words import AUCTIONS
 
 
 def found_in(
-    files: Mapping[str, bytes], reading: Reading, asked: argparse.Namespace, watch: Watch
+    files: Mapping[str, bytes], reading: Reading, asked: argparse.Namespace, watch: Progress
 ) -> list[Audited]:
     """The verdicts on auctions of files: books, then what was published. Raises as audit_events."""
     table = _table(files, reading, asked.by)

@@ -19,10 +19,10 @@ import pandas
 
 import callauction
 from callauction import finder
-from callauction.course import Watch
 from callauction.market.names import guarded
 from callauction.prices import number_of
 from callauction.program import NO_JOURNAL, BadFileError, Day, program
+from callauction.progress import Progress
 from callauction.statuses import DONE
 from callauction.verdict import books, shapes
 from callauction.verdict.audits import audit_events, audit_journal, short_rows
@@ -207,14 +207,14 @@ def _days_of(asked: argparse.Namespace) -> Days:
         raise ExtractError(f"{asked.days}: {fault}") from fault
 
 
-def audited_extract(content: bytes, asked: argparse.Namespace, watch: Watch = iter) -> Verdict:
+def audited_extract(content: bytes, asked: argparse.Namespace, watch: Progress = iter) -> Verdict:
     """The verdict on an extract of one instrument. Raises as audit."""
     table, reading = table_of(content, asked)
     terms = {name: vars(asked)[name] for name in TERMS}
     return audit_events(table, reading=reading, watch=watch, **terms_of(terms, reading))
 
 
-def found_in(content: bytes, asked: argparse.Namespace, watch: Watch) -> list[Audited]:
+def found_in(content: bytes, asked: argparse.Namespace, watch: Progress) -> list[Audited]:
     """The verdicts on an extract's instruments. Raises as audit."""
     if asked.by is None:
         return [audited("", audited_extract(content, asked, watch), asked.explain)]
@@ -224,14 +224,14 @@ def found_in(content: bytes, asked: argparse.Namespace, watch: Watch) -> list[Au
     return [*those.one_by_one(None, watch)]
 
 
-def audit_auctions(files: Mapping[str, bytes], asked: argparse.Namespace, watch: Watch) -> int:
+def audit_auctions(files: Mapping[str, bytes], asked: argparse.Namespace, watch: Progress) -> int:
     """Prints the verdict on auctions from their books: the status. Raises as audit."""
     program()
     found = books.found_in(files, reading_of(asked), asked, watch)
     return show(found, asked, [*files.values()])
 
 
-def audit(content: bytes, asked: argparse.Namespace, watch: Watch = iter) -> int:
+def audit(content: bytes, asked: argparse.Namespace, watch: Progress = iter) -> int:
     """Prints the verdict on a journal or an extract: the status. Raises UsageError, ExtractError,
     ColumnError, ValueError and ProgramError.
     """

@@ -1,4 +1,4 @@
-"""The end of a day: the judgement of its best course, with what no uncross has and what is to be
+"""The end of a day: the judgement of its best path, with what no uncross has and what is to be
 known of the rows.
 """
 import dataclasses
@@ -38,7 +38,7 @@ def reconciled(judged: Sequence[Judged]) -> list[list[Difference]]:
 
 
 def count_of(path: Path) -> tuple[int, int]:
-    """How many differences a course has, but for names of members, which each has, and how many
+    """How many differences a path has, but for names of members, which each has, and how many
     certain ones.
     """
     both = (each for those in reconciled(path.judged) for each in those)
@@ -47,7 +47,7 @@ def count_of(path: Path) -> tuple[int, int]:
 
 
 class Ending:
-    """Says what a day's course gives once all its uncrosses are judged."""
+    """Says what a day's path gives once all its uncrosses are judged."""
 
     def __init__(
         self, day: DayRows, executions: Executions, doubts: Doubts, certain: Certain

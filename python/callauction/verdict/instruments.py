@@ -10,9 +10,9 @@ from typing import Any, BinaryIO, NamedTuple
 import numpy
 import pandas
 
-from callauction.course import Watch
 from callauction.prices import number_of
 from callauction.program import ProgramError
+from callauction.progress import Progress
 from callauction.verdict import clocks
 from callauction.verdict.again import Gap, find_holes, gaps_of, remark_of
 from callauction.verdict.audits import before, judge_rows, rules_of, short_rows
@@ -226,7 +226,7 @@ class Market:
         """What was met in the file, and how often."""
         return {**self.table.notes, **remark_of(self._shared_gaps or [])}
 
-    def one_by_one(self, workers: int | None, watch: Watch = iter) -> Iterator[Audited]:
+    def one_by_one(self, workers: int | None, watch: Progress = iter) -> Iterator[Audited]:
         """The verdicts in the order of the names; first what belongs to no instrument."""
         if len(self._lost):
             many = len(self._lost)

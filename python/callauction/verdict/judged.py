@@ -1,6 +1,7 @@
-"""What a day is judged as: its uncrosses, and the courses that it may have had before them."""
+"""What a day is judged as: its uncrosses, and the paths on which it may have come to them."""
 import dataclasses
 from collections import Counter
+from collections.abc import Mapping, Sequence
 
 from callauction.verdict.cells import NO_ROWS, Ints
 from callauction.verdict.comparing import Difference
@@ -82,12 +83,23 @@ class Judgement:
         """The places of the uncrosses with certain differences."""
         return {each.place for each in self.uncrosses if each.certain}
 
+    @property
+    def by_place(self) -> dict[int, Sequence[Difference]]:
+        """By the places of uncrosses their differences."""
+        return {each.place: each.differences for each in self.uncrosses}
+
+    def with_differences(self, those: Mapping[int, Sequence[Difference]]) -> "Judgement":
+        """The judgement with these differences of its uncrosses by their places, none else."""
+        both = ((each, (*those.get(each.place, ()),)) for each in self.uncrosses)
+        uncrosses = tuple(dataclasses.replace(each, differences=own) for each, own in both)
+        return dataclasses.replace(self, uncrosses=uncrosses)
+
 
 @dataclasses.dataclass(frozen=True)
 class Path:
-    """A course of the day up to an uncross; `taken` counts the rows of orders before it, `waiting`
-    has the trades and fills that wait for the end of an interrupted auction, `closed` the cancels
-    of orders that aren't open, and `doubt` says why the books are in doubt from here on.
+    """What a day may have been up to an uncross; `taken` counts the rows of orders before it,
+    `waiting` has the trades and fills that wait for the end of an interrupted auction, `closed` the
+    cancels of orders that aren't open, and `doubt` says why the books are in doubt from here on.
     """
 
     judged: tuple[Judged, ...]

@@ -10,7 +10,7 @@ from collections.abc import Iterator
 
 import numpy
 
-from callauction.course import Watch
+from callauction.progress import Progress
 from callauction.verdict.cells import NO_ROWS, Ints
 from callauction.verdict.certain import Certain, with_certain
 from callauction.verdict.comparing import (
@@ -32,11 +32,11 @@ from callauction.verdict.uncross_doubts import Items, UncrossDoubts
 from callauction.words import AUCTIONS
 
 MOST_PATHS = 12
-"""How many courses of a day are followed at a time."""
+"""How many paths of a day are followed at a time."""
 
 
 class Search(enum.Enum):
-    """Where other courses are looked for behind an uncross that differs at its row."""
+    """Where other paths are looked for behind an uncross that differs at its row."""
 
     ORDERS = "in other orders of rows of one time"
     MOMENTS = "in these, and at other moments of the uncross"
@@ -64,7 +64,7 @@ class Judge:
         self.left_out: set[int] = set()
         """The places of uncrosses for which no other moment could be tried."""
 
-    def judge(self, watch: Watch = iter) -> Judgement:
+    def judge(self, watch: Progress = iter) -> Judgement:
         """All uncrosses of the day, which `watch` is given. Raises ProgramError."""
         found = self._judged_day(watch)
         ended = sum(each.is_ended or bool(each.beyond) for each in found.uncrosses)
@@ -72,7 +72,7 @@ class Judge:
             found = self._judged_day()
         return found
 
-    def _judged_day(self, watch: Watch = iter) -> Judgement:
+    def _judged_day(self, watch: Progress = iter) -> Judgement:
         paths = self._begun()
         for number, place in enumerate(watch(self.uncrosses.tolist())):
             paths = self._longer(number, place, paths, Search.MOMENTS)
@@ -90,7 +90,7 @@ class Judge:
         return self._best(paths)
 
     def _begun(self) -> list[Path]:
-        """The one course before the first uncross."""
+        """The one path before the first uncross."""
         executed = numpy.zeros(len(self.day.room), "i8") if self.rules.has_totals else None
         reference = self.rows.prices.index(self.rules.reference)
         first = State(empty(), reference, executed)
@@ -100,14 +100,14 @@ class Judge:
         return [Path((), first)]
 
     def _longer(self, number: int, place: int, paths: list[Path], search: Search) -> list[Path]:
-        """The best courses behind an uncross; where each differs, others are searched."""
+        """The best paths behind an uncross; where each differs, others are searched."""
         found = [each for path in paths for each in self._behind(number, place, path)]
         if min(found, key=count_of).judged[-1].certain:
             found = [each for path in paths for each in self._behind(number, place, path, search)]
         return sorted(found, key=count_of)[:MOST_PATHS]
 
     def _best(self, paths: list[Path]) -> Judgement:
-        """The judgement of the course with the fewest differences."""
+        """The judgement of the path with the fewest differences."""
         best = min((self.ending.with_left_over(path) for path in paths), key=count_of)
         return self.ending.judgement(best, len(self.left_out))
 
@@ -116,7 +116,7 @@ class Judge:
     def _behind(
         self, number: int, place: int, path: Path, search: Search | None = None
     ) -> Iterator[Path]:
-        """The courses after an uncross; where it differs, those that are searched for too."""
+        """The paths after an uncross; where it differs, those that are searched for too."""
         own = self.executions.of(number)
         traded, filled = (numpy.concatenate(each) for each in zip(path.waiting, own))
         path = dataclasses.replace(path, waiting=Path.waiting)
@@ -133,7 +133,7 @@ class Judge:
         these = self.orders[path.taken : int(numpy.searchsorted(self.orders, place))]
         moment = Moment(number, place, path, self.due[ended], these, traded, filled)
         try:
-            yield from self._courses(moment, search)
+            yield from self._paths(moment, search)
             named = self.rows.state[place] - 1
             if named in self.due[ended + 1 :]:
                 yield from self._skipping(moment, self.due.index(named, ended + 1))
@@ -141,7 +141,7 @@ class Judge:
             yield self._beyond(path, place, traded, filled, str(fault))
 
     def _beyond(self, path: Path, place: int, traded: Ints, filled: Ints, why: str) -> Path:
-        """The course after an uncross of too large a book: of its named or its next auction."""
+        """The path after an uncross of too large a book: of its named or its next auction."""
         state = self.rows.state
         ended = sum(bool(it.beyond) and state[it.place] != STOPPED for it in path.judged)
         auction = self.due[min(path.state.ended + ended, len(self.due) - 1)]
@@ -153,8 +153,8 @@ class Judge:
         judged = Judged(place, auction, found, traded=traded, filled=filled, beyond=why)
         return path.longer(judged)
 
-    def _courses(self, moment: Moment, search: Search | None) -> list[Path]:
-        """The courses after an uncross at its row, or where that differs at other moments."""
+    def _paths(self, moment: Moment, search: Search | None) -> list[Path]:
+        """The paths after an uncross at its row, or where that differs at other moments."""
         found = [*self._variants(moment)]
         first = found[0].judged[-1]
         if not first.certain or search is None:
@@ -171,7 +171,7 @@ class Judge:
             return found
 
     def _skipping(self, moment: Moment, ended: int) -> Iterator[Path]:
-        """The courses in which the auctions before the recorded one weren't held."""
+        """The paths in which the auctions before the recorded one weren't held."""
         state = moment.path.state
         row = (moment.place,)
         skip = Difference("auction", AUCTIONS[self.due[ended]], AUCTIONS[moment.auction], row)
@@ -181,11 +181,11 @@ class Judge:
         path = dataclasses.replace(moment.path, state=state)
         skipped = doubted([skip], self.uncross_doubts.of_auction(moment.path, moment.place))
         moved = dataclasses.replace(moment, path=path, auction=self.due[ended])
-        for course in self._variants(moved):
-            yield course.with_last(differences=(*skipped, *course.judged[-1].differences))
+        for longer in self._variants(moved):
+            yield longer.with_last(differences=(*skipped, *longer.judged[-1].differences))
 
     def _variants(self, moment: Moment) -> Iterator[Path]:
-        """The courses after an uncross: first as is recorded, where it is recorded whether it was
+        """The paths after an uncross: first as is recorded, where it is recorded whether it was
         interrupted and that isn't lawful; then as is lawful. Raises BeyondError.
         """
         state, rows, room = moment.path.state, self.rows, self.day.room
@@ -222,7 +222,7 @@ class Judge:
         return False if has_any else None
 
     def _interrupted(self, moment: Moment, taken: Taken, result: Result, is_lawful: bool) -> Path:
-        """The course after an interruption; its trades come at the next uncross."""
+        """The path after an interruption; its trades come at the next uncross."""
         word = STOPPED if is_lawful else 1 + moment.auction
         items = compared_items(self.rows, moment.place, result, word)
         self.uncross_doubts.doubt_stop(items, self.uncross_doubts.unsaid_stop)
@@ -237,7 +237,7 @@ class Judge:
     def _executed(
         self, moment: Moment, taken: Taken, result: Result, wrong: Difference | None
     ) -> Iterator[Path]:
-        """The courses after an uncross that ended its auction; `wrong` is what differs as such."""
+        """The paths after an uncross that ended its auction; `wrong` is what differs as such."""
         rows, place = self.rows, moment.place
         moment = self.executions.with_named(moment)
         items = compared_items(rows, place, result, 1 + moment.auction)

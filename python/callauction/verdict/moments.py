@@ -38,7 +38,7 @@ class Moments:
         return Early(self.rows)
 
     def lawful(self, moment: Moment, first: Judged, variants: Variants) -> list[Path]:
-        """The courses in which an uncross that seems to be at a wrong moment is at another one."""
+        """The paths in which an uncross that seems to be at a wrong moment is at another one."""
         later = self._later(moment)
         is_moved = len(first.differences) > 1 or any(
             each.item == "price" and each.lawful == NO_PRICE for each in first.differences
@@ -57,20 +57,20 @@ class Moments:
     def _at_another_moment(
         self, moment: Moment, later: list[int], variants: Variants
     ) -> list[Path]:
-        """The courses after the uncross at another moment at which all of it is lawful, or none."""
+        """The paths after the uncross at another moment at which all of it is lawful, or none."""
         for place, before in self._other_moments(moment, later):
-            courses = [*variants(dataclasses.replace(moment, these=before))]
-            if not courses[0].judged[-1].differences:
+            paths = [*variants(dataclasses.replace(moment, these=before))]
+            if not paths[0].judged[-1].differences:
                 labels, above = self.rows.labels, "before all orders"
                 if len(moment.these):
                     above = f"behind row {labels[moment.these[-1]]}"
                 wrong = self._of_cancelled(moment, place, above) or Difference(
                     "auction", above, f"behind row {labels[place]}", (moment.place,)
                 )
-                own = dataclasses.replace(courses[0].judged[-1], place=moment.place)
+                own = dataclasses.replace(paths[0].judged[-1], place=moment.place)
                 why = self.uncross_doubts.why(moment.path, moment.place)
                 found = doubted([wrong], why or self.early.of_auction(own)[0])
-                return [course.with_last(differences=found) for course in courses]
+                return [path.with_last(differences=found) for path in paths]
         return []
 
     def _of_cancelled(self, moment: Moment, place: int, above: str) -> Difference | None:

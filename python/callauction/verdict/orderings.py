@@ -10,7 +10,7 @@ from callauction.verdict.ties import Ties
 from callauction.verdict.uncross_doubts import Mark, UncrossDoubts, marked
 
 Variants = Callable[[Moment], Iterator[Path]]
-"""The courses after an uncross at its moment, the recorded one first. Raises BeyondError."""
+"""The paths after an uncross at its moment, the recorded one first. Raises BeyondError."""
 
 
 class Orderings:
@@ -21,17 +21,17 @@ class Orderings:
         self.uncross_doubts = uncross_doubts
 
     def lawful(self, moment: Moment, found: list[Path], variants: Variants) -> list[Path]:
-        """The courses by other orders of rows of one time that make most of an uncross lawful,
+        """The paths by other orders of rows of one time that make most of an uncross lawful,
         if any.
         """
         last, these = found[0].judged[-1], moment.these
         cuts, best = self.ties.cuts(moment.place, these), list[Path]()
         why, others = self.ties.orders_of_ties(these)
         for before, reason in [*cuts, *((it, why) for it in others or ())]:
-            courses = self._read_so(moment, before, found, reason, variants)
-            left = [each[0].judged[-1].certain for each in (courses, best) if each]
-            if courses and (not best or len(left[0]) < len(left[1])):
-                best = courses
+            paths = self._read_so(moment, before, found, reason, variants)
+            left = [each[0].judged[-1].certain for each in (paths, best) if each]
+            if paths and (not best or len(left[0]) < len(left[1])):
+                best = paths
             if best and not best[0].judged[-1].certain:
                 return best
         if others is not None:
@@ -45,7 +45,7 @@ class Orderings:
     def _read_so(
         self, moment: Moment, before: Ints, found: list[Path], why: str, variants: Variants
     ) -> list[Path]:
-        """The courses of an uncross with these rows before it, where they clear what differs in
+        """The paths of an uncross with these rows before it, where they clear what differs in
         those that were found, or some of it; these where they may, as the program can't hold so
         many.
         """

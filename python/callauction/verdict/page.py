@@ -15,11 +15,11 @@ import pandas
 from matplotlib.axes import Axes
 
 from callauction import plot
-from callauction.course import Watch
 from callauction.pages import (
     BOOKED, caption_of, counted, evidence_parts, html_image, html_page, html_table, near_price,
     new_figure,
 )  # fmt: skip
+from callauction.progress import Progress
 from callauction.verdict.context import Context, price_text
 from callauction.verdict.findings import LAWFUL, MOST_BAD_ROWS, Finding, Verdict, frame_of
 from callauction.verdict.instruments import FAULT, Audited, Market
@@ -53,7 +53,7 @@ Part = tuple[str, str]
 
 
 def html_of(
-    verdict: Verdict, title: str, watch: Watch = iter, facts: Mapping[str, str] = {},
+    verdict: Verdict, title: str, watch: Progress = iter, facts: Mapping[str, str] = {},
     pages: Mapping[str, str] = {},
 ) -> str:  # fmt: skip
     """The report of a verdict; `facts` says what it is of and by, and `pages` has links to others.
@@ -279,7 +279,7 @@ def _shortened(parts: list[Part]) -> list[Part]:
 
 
 def write_market(
-    market: Market, path: pathlib.Path, title: str, facts: Mapping[str, str], watch: Watch
+    market: Market, path: pathlib.Path, title: str, facts: Mapping[str, str], watch: Progress
 ) -> None:
     """Writes the page of a market, and beside it a folder of its name with those of instruments,
     which are linked. `watch` is given the instruments, then the pages. Raises ProgramError and

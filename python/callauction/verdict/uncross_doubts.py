@@ -31,7 +31,7 @@ def marked(each: Difference, rows: Rows) -> Mark:
 
 
 class UncrossDoubts:
-    """The doubts of the differences of an uncross on a course of the day, by those of its rows."""
+    """The doubts of the differences of an uncross on a path of the day, by those of its rows."""
 
     def __init__(self, day: DayRows, doubts: Doubts, certain: Certain) -> None:
         self.day, self.rows, self.doubts, self.certain = day, day.rows, doubts, certain
@@ -108,7 +108,7 @@ class UncrossDoubts:
     # ---- the name of an auction
 
     def of_auction(self, path: Path, place: int) -> str:
-        """Why it is in doubt of which auction an uncross behind a course is."""
+        """Why it is in doubt of which auction an uncross behind a path is."""
         return self._of_name(path.judged, place, self.why(path, place))
 
     def _of_name(self, above: tuple[Judged, ...], place: int, why: str) -> str:

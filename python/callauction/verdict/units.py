@@ -1,22 +1,16 @@
-"""Prices and quantities that stand for others: of another unit, as cents beside euros or lots in
-place of shares, or with the noise that numbers have in binary, as 19.990000000000002 of a
-spreadsheet.
+"""Prices that stand for others: of another unit, as cents beside euros, or with the noise that
+numbers have in binary, as 19.990000000000002 of a spreadsheet.
 """
 import dataclasses
 import decimal
 import math
-from collections import Counter
-from collections.abc import Iterator, Mapping
+from collections.abc import Mapping
 from decimal import Decimal
 from fractions import Fraction
 
 import numpy
 
-from callauction.verdict.cells import Ints, Mask
-from callauction.verdict.comparing import Fill, Trade
-from callauction.verdict.judged import Judgement
-from callauction.verdict.phases import recorded_sums
-from callauction.verdict.rows import FILL, NEW, OF_ORDERS, TRADE, UNCROSS, Rows
+from callauction.verdict.rows import NEW, Rows
 from callauction.verdict.rules import Rules
 
 NOISE = 16
@@ -109,103 +103,3 @@ def without_noise(rows: Rows, rules: Rules) -> tuple[Rows, Rules]:
     count = max(1, int(numpy.isin(rows.price, [*other]).sum()))
     rows.notes[f"{NOISY}, such as {rows.prices[number]} as {other[number]:f}"] += count
     return _repriced(rows, other), rules
-
-
-# ---- lots, as what differs says
-
-
-LOTS = (10, 100, 1000)
-"""How many shares a lot may have."""
-LEAST = 2
-"""In how many items lots have to be seen."""
-KINDS_IN_LOTS = {
-    "results and trades": (UNCROSS, TRADE, FILL), "results": (UNCROSS,), "trades": (TRADE, FILL),
-}  # fmt: skip
-
-
-def _size(value: object) -> int:
-    """The shares of a value, 0 where it has none."""
-    if isinstance(value, Trade | Fill):
-        return value.quantity
-    return value if isinstance(value, int) else 0
-
-
-def lot_of(found: Judgement) -> int:
-    """How many shares a lot may have in which some quantities are, as several that differ are that
-    many times what is lawful, or as small a part of it, and most are; 0 for none.
-    """
-    certain = (it for each in found.uncrosses for it in each.certain)
-    sizes = [(_size(it.recorded), _size(it.lawful)) for it in certain]
-    ratios = [Fraction(max(both), min(both)) for both in sizes if min(both) > 0]
-    if not ratios:
-        return 0
-    ratio, count = Counter(ratios).most_common(1)[0]
-    return int(ratio) if ratio in LOTS and max(LEAST, len(ratios) / 2) <= count else 0
-
-
-def in_shares(rows: Rows, lot: int) -> Iterator[tuple[Rows, str]]:
-    """The rows with a part's quantities in the unit of the others, and why; none for a lot of 0."""
-    for what, kinds in KINDS_IN_LOTS.items() if lot else ():
-        these = numpy.isin(rows.kind, kinds)
-        both = {name: getattr(rows, name) for name in ("quantity", "surplus")}
-        said = {name: these & (it > 0) for name, it in both.items()}
-        most = {name: numpy.where(said[name], it * lot, it) for name, it in both.items()}
-        yield dataclasses.replace(rows, **most), f"are the quantities of {what} in lots of {lot}?"
-        if all((it[said[name]] % lot == 0).all() for name, it in both.items()):
-            least = {name: numpy.where(said[name], it // lot, it) for name, it in both.items()}
-            why = f"are quantities in lots of {lot}, but those of {what}?"
-            yield dataclasses.replace(rows, **least), why
-
-
-# ---- lots of some orders
-
-
-ORDER_LOTS = (10, 50, 100, 500, 1000)
-"""How many shares a lot of an order may have."""
-MOST_LOTS = 2
-"""How many of these are tried."""
-MOST_OF_ORDER = 2**32 - 1
-"""How many shares an order may have."""
-EXECUTED = "the order of row {} has {:,} shares, and {:,} are executed: "
-OF_MEMBER = f"{EXECUTED}are those of its member in lots of {{}}?"
-OF_ORDER = f"{EXECUTED}is it in lots of {{}}?"
-
-
-def orders_in_shares(found: Judgement, rows: Rows) -> Iterator[tuple[Ints, str, bool]]:
-    """The quantities with those of some orders in shares, why, and whether one was executed with
-    all of its lots: orders that were executed with more than they have, as several were or a
-    published volume says, or all of their members.
-    """
-    entered = rows.entered(len(rows.names.ids) + 1)
-    made = {it[0]: it for it in _beyond(found, rows) if entered[it[0]] >= 0}
-    most = max((Fraction(more, own) for _, own, more in made.values()), default=Fraction(0))
-    if not made or len(made) < LEAST and not _has_wrong_volume(found):
-        return
-    first, own, more = min(made.values(), key=lambda it: int(entered[it[0]]))
-    of_orders = numpy.isin(rows.kind, OF_ORDERS) & (rows.key >= 0)
-    those: Mask = of_orders & numpy.isin(rows.key, [*made])
-    owner = numpy.where(of_orders, rows.member[entered[numpy.maximum(rows.key, 0)]], -1)
-    members = {int(rows.member[entered[key]]) for key in made} - {-1}
-    for lot in [it for it in ORDER_LOTS if it >= most][:MOST_LOTS]:
-        both = ((those | numpy.isin(owner, [*members]), OF_MEMBER), (those, OF_ORDER))
-        for which, why in both if members else both[1:]:
-            many = numpy.where(which & (rows.quantity > 0), rows.quantity * lot, rows.quantity)
-            if many.max() <= MOST_OF_ORDER:
-                text = why.format(rows.labels[entered[first]], own, more, lot)
-                yield many, text, lot == most
-
-
-def _beyond(found: Judgement, rows: Rows) -> Iterator[tuple[int, int, int]]:
-    """Each order that was executed with more shares than were open, how many were, and how many it
-    was executed with.
-    """
-    for judged in (it for it in found.uncrosses if it.result is not None):
-        book = dict(zip(judged.book.key.tolist(), judged.book.quantity.tolist()))
-        made = recorded_sums(rows, judged.traded, judged.filled).by_key()
-        over = ((key, book[key]) for key, more in made.items() if more > book.get(key, more))
-        yield from ((key, own, made[key]) for key, own in over)
-
-
-def _has_wrong_volume(found: Judgement) -> bool:
-    """Whether a volume that was published isn't lawful."""
-    return any(it.item == "volume" for each in found.uncrosses for it in each.certain)
