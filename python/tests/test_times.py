@@ -1,4 +1,5 @@
 """Times of an extract in many forms: what can't be read says nothing of which row came first."""
+import re
 from collections.abc import Callable
 from pathlib import Path
 
@@ -129,13 +130,53 @@ def test_one_time_that_cannot_be_read_leaves_what_is_above_certain(tmp_path: Pat
 
 
 @pytest.mark.parametrize("event", ["new", "cancel", UNCROSS])
-def test_rows_without_a_time_are_not_sorted(event: str, tmp_path: Path, capsys: Printed) -> None:
-    """They stay where they are where all others do."""
+@pytest.mark.parametrize("time, said", [
+    ("", "row {} has no time, and which row came first decides"),
+    ("9h", "the time of row {}, '9h', can't be read, and which row came first decides"),
+])  # fmt: skip
+def test_one_row_without_a_time_among_sorted_ones_leaves_the_day_in_doubt(
+    event: str, time: str, said: str, tmp_path: Path, capsys: Printed
+) -> None:
+    """It stays where it is where all others do; else nothing says where it belongs."""
     rows = base_rows()
-    rows[places(rows, event)[-1]]["time"] = ""
+    rows[places(rows, event)[-1]]["time"] = time
     assert audited(text_of(rows), ["--sort"], tmp_path) in (0, 5)
-    assert audited(text_of(by_order(rows)), ["--sort"], tmp_path) == 1
-    assert "1 rows have no time, such as row " in capsys.readouterr().err
+    capsys.readouterr()
+    rows = by_order(rows)
+    assert audited(text_of(rows), ["--sort"], tmp_path) == 5
+    row = 2 + next(at for at, it in enumerate(rows) if it["time"] == time)
+    assert said.format(row) in "".join(capsys.readouterr())
+
+
+def test_what_no_book_gives_is_certain_beside_a_row_without_a_time(tmp_path: Path) -> None:
+    rows = base_rows()
+    rows[places(rows, TRADE)[0]]["price"] = "987.65"
+    rows[places(rows, "new")[-1]]["time"] = ""
+    assert audited(text_of(by_order(rows)), ["--sort"], tmp_path) == 4
+
+
+def test_a_row_without_a_time_is_of_its_instrument_alone(tmp_path: Path, capsys: Printed) -> None:
+    rows = by_order(base_rows())
+    both = [dict(row, isin=name) for name in ("DE1", "DE2") for row in rows]
+    both[places(both, "new")[-1]]["time"] = ""
+    words = ["--sort", "--by", "isin"]
+    assert audited(text_of(both), words, tmp_path) == 5
+    printed = capsys.readouterr().out
+    assert re.search(r"(?m)^DE1\b.*\blawful", printed), printed
+    assert re.search(r"(?m)^DE2\b.*\bincomplete", printed), printed
+
+
+@pytest.mark.parametrize("time", ["", "9h"])
+def test_many_rows_without_a_time_are_not_sorted(
+    time: str, tmp_path: Path, capsys: Printed
+) -> None:
+    rows = by_order(base_rows())
+    news = places(rows, "new")
+    for place in news[: 1 + len(rows) // 10]:
+        rows[place]["time"] = time
+    assert audited(text_of(rows), ["--sort"], tmp_path) == 1
+    said = "times can't be read to sort rows" if time else "rows have no time, such as row "
+    assert said in capsys.readouterr().err
 
 
 @pytest.mark.parametrize("form", [

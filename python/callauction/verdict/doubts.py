@@ -138,8 +138,8 @@ class Doubts:
 
     def _odd(self) -> tuple[int, Reason] | None:
         """From which place on the order of rows isn't known, as times can't be read, and why: the
-        call phase of the first one, or the day's begin where more than a tenth are so, or others
-        fall.
+        call phase of the first one, or the day's begin where more than a tenth are so, others fall,
+        or rows were sorted by their times.
         """
         rows = self.rows
         both = numpy.union1d(self.orders, self.uncrosses)
@@ -147,8 +147,10 @@ class Doubts:
         if not len(odd):
             return None
         first, above = int(odd[0]), self.uncrosses[self.uncrosses < odd[0]]
-        is_few = len(odd) <= len(both) // 10 and not self.falls
-        text = f"the time of row {rows.labels[first]}, {rows.names.time(first)!r}, can't be read"
+        is_few = len(odd) <= len(both) // 10 and not self.falls and not rows.is_sorted
+        cell, text = rows.names.time(first), f"row {rows.labels[first]} has no time"
+        if cell:
+            text = f"the time of row {rows.labels[first]}, {cell!r}, can't be read"
         begin = int(above[-1]) if is_few and len(above) else -1
         return begin, Reason(f"{text}, and which row came first decides")
 

@@ -39,9 +39,12 @@ WORDS = ("event", "side", "auction", "restriction")
 IDS = ("order", "new_order", "bid", "ask")
 NO_AUCTION = "a trade of continuous trading (audit-auction judges auctions of such days)"
 UNREAD_TIMES = "times that can't be read"
+UNTIMED = "rows without a time, which nothing says where to sort"
 UNSURE_DATES = (
     "dates of which it isn't known which number is the month (--dates dmy or mdy says it)"
 )
+FEW_UNTIMED = 10
+"""Of how many rows that are sorted one may have no time that can be read."""
 PEAKS = "peaks that the rules would refuse, left out: they decide nothing"
 ZEROS = "orders at the price 0, read as market orders (--low 0 reads limits)"
 
@@ -65,6 +68,7 @@ def rows_of(
     kind = rows.kind.copy()  # by their words alone, whatever is wrong with them
     if reading.sort and "time" in columns.names:
         _look_at_times(rows, columns, kind, sequence is not None)
+        rows.is_odd[_untimed(columns, time, _are_moved(order, lead))] = True
     _look_at_orders(rows, columns, is_market)
     _join_two_sides(rows, columns, sequence, lead)
     _look_at_results(rows, columns)
@@ -129,10 +133,14 @@ def _look_for_holes(rows: Rows, table: Table, reading: Reading) -> None:
 
 
 def _note_odd_times(rows: Rows) -> None:
-    """Notes the times that can't be read."""
-    if rows.is_odd.any():
-        cell = rows.names.time(int(rows.is_odd.argmax()))
-        rows.notes[f"{UNREAD_TIMES}, such as {cell!r}"] += int(rows.is_odd.sum())
+    """Notes the times that can't be read, and the rows without one that were sorted."""
+    if not rows.is_odd.any():
+        return
+    codes, texts = rows.names.texts(numpy.flatnonzero(rows.is_odd), rows.names.theirs["time"])
+    rows.notes[UNTIMED] += int((codes < 0).sum())
+    if texts:
+        cell = texts[int(codes[codes >= 0][0])]
+        rows.notes[f"{UNREAD_TIMES}, such as {cell!r}"] += int((codes >= 0).sum())
         rows.notes[UNSURE_DATES] += times.is_stroked(times.date_text(cell))
 
 
@@ -223,8 +231,7 @@ def _ordered(
         time = over_midnight(time, sequence, lead[order])
         keys = (time[numpy.maximum.accumulate(known)], lead[order])
         again = numpy.lexsort(keys if sequence is None else (sequence, *keys))
-        if (again[1:] < again[:-1]).any():
-            _refuse_untimed(columns, time)
+        _refuse_untimed(columns, time, _are_moved(again, lead[order]))
         order, time = order[again], time[again]
         columns, _ = _timed(table, order, reading)
     elif "sequence" in table.names and (numpy.diff(time[time != clocks.NO_TIME]) < -LONGEST).any():
@@ -254,11 +261,11 @@ def over_midnight(time: Ints, sequence: Ints | None, lead: Codes) -> Ints:
 
 
 def _refuse_unread(columns: Columns, time: Ints) -> None:
-    """Raises ExtractError where times can't be read by which rows are sorted."""
+    """Raises ExtractError where more than a few times can't be read by which rows are sorted."""
     is_unread = (time == clocks.NO_TIME) & _has(columns, "time")
     kinds = columns.words("event", KINDS)
     unread = numpy.flatnonzero(is_unread & (_has(columns, "order") | (kinds > CANCEL)))
-    if len(unread):
+    if len(unread) > len(time) // FEW_UNTIMED:
         first = int(unread[0])
         cell, label = columns.cells("time").text(first), columns.source.labels[first]
         hint = " (say --dates dmy or mdy)" * times.is_stroked(times.date_text(cell))
@@ -266,16 +273,27 @@ def _refuse_unread(columns: Columns, time: Ints) -> None:
         raise ExtractError(f"{many}, such as {cell!r} in row {label}{hint}")
 
 
-def _refuse_untimed(columns: Columns, time: Ints) -> None:
-    """Raises ExtractError where rows without a time have no place among those that are sorted."""
-    if "time" not in columns.names:
-        return
+def _are_moved(order: Ints, lead: Codes) -> Mask:
+    """Which rows are of an instrument whose rows are in another order than in the table."""
+    falls = (order[1:] < order[:-1]) & (lead[1:] == lead[:-1])
+    return numpy.isin(lead, lead[1:][falls])
+
+
+def _untimed(columns: Columns, time: Ints, which: Mask) -> Ints:
+    """The places of those of some rows that have no time, and would have a place by one."""
     kinds = columns.words("event", KINDS)
     is_order = (kinds >= NEW) & (kinds <= CANCEL) & _has(columns, "order")
     is_trade = ((kinds == TRADE) | (kinds == FILL)) & ~_has(columns, "auction")
     is_due = is_order | is_trade | (kinds == UNCROSS)
-    untimed = numpy.flatnonzero((time == clocks.NO_TIME) & is_due)
-    if len(untimed):
+    return numpy.flatnonzero((time == clocks.NO_TIME) & is_due & which)
+
+
+def _refuse_untimed(columns: Columns, time: Ints, which: Mask) -> None:
+    """Raises ExtractError where more than a few of these rows, which are sorted, have no time."""
+    if "time" not in columns.names:
+        return
+    untimed = _untimed(columns, time, which)
+    if len(untimed) > len(time) // FEW_UNTIMED:
         label = columns.source.labels[untimed[0]]
         raise ExtractError(
             f"sort: {len(untimed):,} rows have no time, such as row {label}, so that nothing says "
