@@ -265,7 +265,7 @@ def test_a_long_line_of_python(tmp_path: pathlib.Path, name: str) -> None:
 
 
 @pytest.mark.parametrize("name, head", [
-    ("library/door.c", "/* A door. */"),
+    ("library/handles.c", "/* A door. */"),
     ("library/callauction.hpp", "// A class."),
     ("python/pages/texts.js", "// Words."),
     ("library/build", "#!/usr/bin/env bash"),

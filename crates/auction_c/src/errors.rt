@@ -62,7 +62,7 @@ pub const OVERTAKEN: u32 = 16;
 /// The number is neither a member's nor `ALL_MEMBERS`.
 pub const BAD_MEMBER: u32 = 17;
 
-/// Another call has the handle. No call here answers it: `library/door.c` does, before it comes to one.
+/// Another call has the handle. No call here answers it: `library/handles.c` does, before it comes to one.
 pub const MISUSED: u32 = 18;
 
 /// The text is no journal.

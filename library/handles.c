@@ -1,7 +1,7 @@
-/* The door of libcallauction: each call of callauction.h finds here whether another call has its handle, and goes on to
- * the proved call of the same name. The texts of errors and refusals are here too. Nothing here is proved. The proved
- * calls want one call at a time on a handle, and an identity of its own for each board; this file sees to both. The
- * proved calls don't read the callers' own numbers of orders, and write 0 for them: clients.c keeps them.
+/* The handles of libcallauction: each call of callauction.h finds here whether another call has its handle, and goes on
+ * to the proved call of the same name. The texts of errors and refusals are here too. Nothing here is proved.
+ * The proved calls want one call at a time on a handle, and an identity of its own for each board; this file sees to
+ * both. They don't read the callers' own numbers of orders, and write 0 for them: clients.c keeps them.
  *
  * library/build renames the proved calls to proved_*, and links this file before them.
  */
