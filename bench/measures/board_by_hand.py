@@ -1,8 +1,8 @@
 """What a call on a board takes beside one on a board written by hand.
 
-Runs bench/boards.cpp, which has both: nanoseconds of the wall for a call, the best of the runs, by
-1, 2, 4 and 8 threads at once. A board written by hand is a mutex, an auction of the library, a
-vector for the history and a sequence lock for what is shown. Needs c++.
+Runs bench/board_by_hand.cpp, which has both: nanoseconds of the wall for a call, the best of the
+runs, by 1, 2, 4 and 8 threads at once. A board written by hand is a mutex, an auction of the
+library, a vector for the history and a sequence lock for what is shown. Needs c++.
 """
 import argparse
 import tempfile
@@ -19,7 +19,7 @@ def measure(asked: argparse.Namespace) -> bool:
     library = measuring.our_library(asked.library)
     found: Figures = {}
     with tempfile.TemporaryDirectory() as folder:
-        program = measuring.compiled("boards.cpp", library, folder)
+        program = measuring.compiled("board_by_hand.cpp", library, folder)
         for _ in range(asked.runs):
             measuring.printed([program], found)
     is_right = True

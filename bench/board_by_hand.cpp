@@ -1,7 +1,7 @@
 // Prints what a call on a board takes, in nanoseconds of the wall, beside one on a board written by hand: a mutex, an
 // auction of the library, a vector for its history and a sequence lock for what is shown. Both do the same commands on
 // a book of 1,000 orders, by 1, 2, 4 and 8 threads at once, by calls that wait at a mutex and by calls that try and
-// come again. Both take turns, so that what else runs on the machine meets both. `bench/bench boards` runs it.
+// come again. Both take turns, so that what else runs on the machine meets both. `bench/bench board_by_hand` runs it.
 #include <callauction.hpp>
 
 #include <array>
