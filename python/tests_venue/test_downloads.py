@@ -22,9 +22,8 @@ import psutil
 import pytest
 import served
 from callauction.pages import html_table
-from callauction.venue import (
-    Client, VenueError, config, copies, downloads, instrument, log, report,
-)
+from callauction.venue import Client, VenueError, config, copies, downloads, log, report
+from callauction.venue.instrument_board import BoardIdentity, Common, InstrumentBoard
 from callauction.venue.members import Members
 from conftest import FAST
 from served import Served
@@ -263,8 +262,8 @@ def test_the_name_of_a_file(
     day = config.DayTerms(title=' Märkte 1: "Stunde/2" ')
     terms, began = day.instruments[0], 1_764_288_000.0
     kept = log.Log(tmp_path / "venue.log")
-    common = instrument.Common(day, tmp_path, "none", kept)
-    board = instrument.Instrument(instrument.BoardIdentity("XYZ"), terms, day.rounds[0], common)
+    common = Common(day, tmp_path, "none", kept)
+    board = InstrumentBoard(BoardIdentity("XYZ"), terms, day.rounds[0], common)
     lesson = downloads.Lesson(day, [], Members(day.members, kept), "none", began)
     name = downloads.file_of(kind, lesson, board, language)
     assert name == wanted.format(time.strftime("%Y-%m-%d", time.localtime(began)))

@@ -15,7 +15,7 @@ from callauction.statuses import FAILED
 from callauction.venue import results
 from callauction.venue.config import DayTerms, InstrumentTerms, Plan
 from callauction.venue.gates import Gates
-from callauction.venue.instrument import Instrument
+from callauction.venue.instrument_board import InstrumentBoard
 from callauction.venue.json_types import Json
 from callauction.venue.members import Member
 from callauction.venue.messages import TOPICS, MessageError
@@ -103,7 +103,7 @@ def test_no_results_are_left_of_a_day_that_isnt_known(tmp_path: pathlib.Path) ->
 @contextlib.asynccontextmanager
 async def without_journal(
     folder: pathlib.Path, is_in_call: bool = False
-) -> AsyncIterator[tuple[Venue, Instrument]]:
+) -> AsyncIterator[tuple[Venue, InstrumentBoard]]:
     """A venue that runs in this loop, whose journal was missing as it began and is back, and its
     board, which may be in a call; that is as long as a second.
     """
@@ -129,7 +129,7 @@ async def without_journal(
         await venue.close()
 
 
-def is_silent_once(board: Instrument, patch: pytest.MonkeyPatch) -> None:
+def is_silent_once(board: InstrumentBoard, patch: pytest.MonkeyPatch) -> None:
     """The program doesn't answer the next look, and is ended."""
     engine = board.engine
     show = engine.show
@@ -143,7 +143,7 @@ def is_silent_once(board: Instrument, patch: pytest.MonkeyPatch) -> None:
     patch.setattr(engine, "show", silent)
 
 
-async def is_tried_in_vain(venue: Venue, board: Instrument, patch: pytest.MonkeyPatch) -> None:
+async def is_tried_in_vain(venue: Venue, board: InstrumentBoard, patch: pytest.MonkeyPatch) -> None:
     """Tries again, and halts at the first look."""
     is_silent_once(board, patch)
     with pytest.raises(MessageError) as found:

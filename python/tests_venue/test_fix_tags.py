@@ -394,7 +394,7 @@ def phase_said(halted: str, is_seen: bool) -> dict[int, str]:
     board = types.SimpleNamespace(
         auctions=types.SimpleNamespace(state=state),
         engine=types.SimpleNamespace(halted=halted if halted == "the board" else None),
-        identity=types.SimpleNamespace(market="XYZ"),
+        identity=types.SimpleNamespace(instrument="XYZ"),
         looks=types.SimpleNamespace(is_seen=is_seen),
     )
     halts = types.SimpleNamespace(halted=halted if halted == "the venue" else None)

@@ -9,7 +9,7 @@ import pytest
 import served
 from callauction.venue import Client, auctions, clock
 from callauction.venue.config import DayTerms, Plan
-from callauction.venue.instrument import Instrument
+from callauction.venue.instrument_board import InstrumentBoard
 from callauction.venue.log import SlowWrite
 from callauction.venue.messages import Order
 from callauction.venue.phases import Phase
@@ -35,12 +35,12 @@ async def in_call(folder: pathlib.Path, call: int, is_automatic: bool) -> AsyncI
         await venue.close()
 
 
-def phase_of(board: Instrument) -> Phase:
+def phase_of(board: InstrumentBoard) -> Phase:
     """The phase of an instrument, which goes on meanwhile."""
     return board.auctions.state.phase
 
 
-async def halt(venue: Venue, board: Instrument, whose: str, seconds: float) -> None:
+async def halt(venue: Venue, board: InstrumentBoard, whose: str, seconds: float) -> None:
     """Halts the venue or its only instrument for as many seconds."""
     if whose == "venue":
         venue.halts.log_failed(SlowWrite())

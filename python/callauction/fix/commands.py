@@ -8,7 +8,7 @@ from typing import TYPE_CHECKING
 from callauction.fix.orders import CLIENT, NUMBER, ORIGIN, SAID, SINCE, TIME, WHEN
 from callauction.fix.refusals import refuse
 from callauction.fix.tags import Given, Tag, now
-from callauction.venue.instrument import Instrument
+from callauction.venue.instrument_board import InstrumentBoard
 from callauction.venue.leaving import withdraw
 from callauction.venue.messages import MessageError, Order
 from callauction.venue.recovery import Entry
@@ -29,7 +29,7 @@ class Commands:
 
     def __init__(self, seat: "Seat") -> None:
         self._seat = seat
-        self.unanswered: dict[asyncio.Future[Entry], Instrument] = {}
+        self.unanswered: dict[asyncio.Future[Entry], InstrumentBoard] = {}
 
     def is_full(self, given: Given) -> bool:
         """Whether as much waits for answers of a message's board as may, which hasn't halted."""
@@ -37,24 +37,24 @@ class Commands:
             return False
         name = given.get(Tag.SYMBOL)
         boards = self.unanswered.values()
-        waiting = [it for it in boards if name in (it.identity.market, it.identity.name)]
+        waiting = [it for it in boards if name in (it.identity.instrument, it.identity.name)]
         return len(waiting) >= MOST_UNANSWERED and waiting[0].engine.halted is None
 
-    def waits_for(self, board: Instrument) -> Answers:
+    def waits_for(self, board: InstrumentBoard) -> Answers:
         """The answers of a board that are waited for."""
         return [it for it, where in self.unanswered.items() if where is board]
 
-    async def until_answered(self, board: Instrument, answers: Answers) -> None:
+    async def until_answered(self, board: InstrumentBoard, answers: Answers) -> None:
         """Waits for answers of a board. Raises MessageError where one is left as it halts."""
         waiting = {it for it in answers if not it.done()}
         while waiting:
             self._seat.venue.halts.check_running()
             if board.engine.halted is not None:
-                market = board.identity.market
-                raise MessageError("halted", f"{market} has halted and hasn't answered")
+                instrument = board.identity.instrument
+                raise MessageError("halted", f"{instrument} has halted and hasn't answered")
             _, waiting = await asyncio.wait(waiting, timeout=HALT_PAUSE)
 
-    async def until_known(self, board: Instrument) -> None:
+    async def until_known(self, board: InstrumentBoard) -> None:
         """Waits until what was sent to a board is answered. Raises MessageError where it halts."""
         await self.until_answered(board, self.waits_for(board))
         await self._seat.reports.stream(board).until_now()
@@ -62,7 +62,7 @@ class Commands:
     # ---- what is sent
 
     def submit(
-        self, given: Given, number: int, board: Instrument, record: str, time: str = ""
+        self, given: Given, number: int, board: InstrumentBoard, record: str, time: str = ""
     ) -> None:
         """Sends a command, with its ids beside it in the log. Raises MessageError."""
         seat, epoch, client = self._seat, self._seat.epoch, given[Tag.CL_ORD_ID]
@@ -91,7 +91,9 @@ class Commands:
             self._seat.epoch.awaited.pop(number, None)
             refuse(self._seat, given, self._seat.epoch.refusal_of(number), fault)
 
-    def deletion(self, board: Instrument, order: int, message: int, note: dict[str, str]) -> Order:
+    def deletion(
+        self, board: InstrumentBoard, order: int, message: int, note: dict[str, str]
+    ) -> Order:
         """The deletion of an order, as one more part of a message, or of none (0)."""
         key = self._seat.epoch.next_part(message).key
         return Order(-key, board.terms.name, f"delete,{order}", note)
@@ -110,13 +112,13 @@ class Commands:
                 if not answer.done():
                     answer.add_done_callback(functools.partial(self._withdraw_late, board))
 
-    def _withdraw_late(self, board: Instrument, answer: "asyncio.Future[Entry]") -> None:
+    def _withdraw_late(self, board: InstrumentBoard, answer: "asyncio.Future[Entry]") -> None:
         """Deletes the order of an answer that has come once the connection was lost."""
         entry = None if answer.cancelled() or answer.exception() else answer.result()
         if entry is not None and entry.order is not None:
             self._delete(board, entry.order)
 
-    def _delete(self, board: Instrument, order: int) -> None:
+    def _delete(self, board: InstrumentBoard, order: int) -> None:
         """Sends the deletion of an order, where that can be."""
         with contextlib.suppress(MessageError):
             deletion = self.deletion(board, order, 0, {SAID: GONE})

@@ -12,7 +12,7 @@ from callauction.fix.refusals import UNUSED
 from callauction.fix.tags import (
     Given, Pairs, Status, Tag, Type, body_of, event_in, refusal_of,
 )
-from callauction.venue.instrument import Instrument
+from callauction.venue.instrument_board import InstrumentBoard
 from callauction.venue.recovery import Entry, Message
 
 PART_BIT, EPOCH_BIT = 32, 64
@@ -69,7 +69,7 @@ class Epoch:
         self.promised: dict[str, int] = {}
         self.owed: dict[str, int] = {}
         self.awaited: dict[int, None] = {}
-        self.lost: dict[int, tuple[Instrument, Message]] = {}
+        self.lost: dict[int, tuple[InstrumentBoard, Message]] = {}
         self.deleted: collections.Counter[int] = collections.Counter()
         self._is_done: dict[int, bool] = {}
         self._parts: collections.Counter[int] = collections.Counter()
@@ -118,7 +118,7 @@ class Epoch:
         self.awaited[message] = None
 
     def entered(
-        self, board: Instrument, message: Message, number: Number, entry: Entry | None
+        self, board: InstrumentBoard, message: Message, number: Number, entry: Entry | None
     ) -> None:
         """A message of this number in the log has its entry, or never had one."""
         if number.part:

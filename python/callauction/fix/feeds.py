@@ -11,7 +11,7 @@ from callauction.fix.refusals import (
     DEPTH, DUPLICATE, ENTRY_TYPE, TOO_MUCH, UNSUPPORTED, UPDATE_TYPE, SeatError,
 )
 from callauction.fix.tags import OTHER_REASON, Given, Groups, Pairs, Tag, Type
-from callauction.venue.instrument import Instrument
+from callauction.venue.instrument_board import InstrumentBoard
 from callauction.venue.phases import Phase
 from callauction.venue.venue import Venue
 from callauction.venue.views import Level
@@ -29,7 +29,7 @@ DEPTHS = ("0", "1")
 UPDATE_NEW, UPDATE_CHANGE, UPDATE_DELETE = "0", "1", "2"
 """MDUpdateAction."""
 SEEN_SECONDS = 1.0
-"""How long the market of a program that doesn't answer is waited for, by all that is said after."""
+"""How long a program that doesn't answer is waited for, by all that is said after."""
 NO_FEED = "there is no subscription of this id"
 MOST_FEEDS = 64
 """What a session may ask for at a time."""
@@ -59,59 +59,59 @@ Send = Callable[[Type, Pairs, Groups], object]
 
 @dataclasses.dataclass
 class Data:
-    """A subscription of market data: what it asks for, and what was sent last of each market."""
+    """A subscription of market data: what it asks for, and what was last sent by instruments."""
 
     request: str
     types: frozenset[str]
-    markets: frozenset[str]
+    instruments: frozenset[str]
     is_whole: bool
     last: dict[str, Rows] = dataclasses.field(default_factory=dict)
 
-    def changed(self, board: Instrument, rows: Rows, send: Send) -> None:
+    def changed(self, board: InstrumentBoard, rows: Rows, send: Send) -> None:
         """Sends what has changed of a board."""
-        market = board.identity.market
+        instrument = board.identity.instrument
         wanted = {kind: row for kind, row in rows.items() if kind in self.types}
-        before = self.last.get(market, {})
-        if market not in self.markets or wanted == before:
+        before = self.last.get(instrument, {})
+        if instrument not in self.instruments or wanted == before:
             return
-        self.last[market] = wanted
+        self.last[instrument] = wanted
         if self.is_whole:
-            send(Type.SNAPSHOT, *snapshot(self.request, market, wanted))
+            send(Type.SNAPSHOT, *snapshot(self.request, instrument, wanted))
             return
         head: Pairs = [(Tag.MD_REQ_ID, self.request)]
-        changes = changes_of(market, before, wanted)
+        changes = changes_of(instrument, before, wanted)
         send(Type.CHANGES, head, [(Tag.NO_MD_ENTRIES, Tag.MD_UPDATE_ACTION, changes)])
 
 
 @dataclasses.dataclass
 class Phases:
-    """A subscription of phases, and what was sent last of each market."""
+    """A subscription of phases, and what was last sent by instruments."""
 
     request: str
-    markets: frozenset[str]
+    instruments: frozenset[str]
     last: dict[str, Pairs] = dataclasses.field(default_factory=dict)
 
-    def changed(self, board: Instrument, phase: Pairs, send: Send) -> None:
+    def changed(self, board: InstrumentBoard, phase: Pairs, send: Send) -> None:
         """Sends a phase that has changed."""
-        market = board.identity.market
-        if market in self.markets and self.last.get(market) != phase:
-            self.last[market] = phase
+        instrument = board.identity.instrument
+        if instrument in self.instruments and self.last.get(instrument) != phase:
+            self.last[instrument] = phase
             unasked = (Tag.UNSOLICITED_INDICATOR, "Y")
             send(Type.PHASE, [(Tag.TRAD_SES_REQ_ID, self.request), unasked, *phase], [])
 
 
-def snapshot(request: str, market: str, rows: Rows) -> tuple[Pairs, Groups]:
+def snapshot(request: str, instrument: str, rows: Rows) -> tuple[Pairs, Groups]:
     """A MarketDataSnapshotFullRefresh, which has a row also where there is nothing to show: by the
     standard a count is positive.
     """
-    head: Pairs = [(Tag.MD_REQ_ID, request), (Tag.SYMBOL, market)]
+    head: Pairs = [(Tag.MD_REQ_ID, request), (Tag.SYMBOL, instrument)]
     entries = [*rows.values()] or [EMPTY]
     return head, [(Tag.NO_MD_ENTRIES, Tag.MD_ENTRY_TYPE, entries)]
 
 
-def changes_of(market: str, before: Rows, after: Rows) -> list[Pairs]:
-    """What a MarketDataIncrementalRefresh has of one market: what is gone first."""
-    symbol = (Tag.SYMBOL, market)
+def changes_of(instrument: str, before: Rows, after: Rows) -> list[Pairs]:
+    """What a MarketDataIncrementalRefresh has of one instrument: what is gone first."""
+    symbol = (Tag.SYMBOL, instrument)
     gone = [before[kind][0] for kind in before if kind not in after]
     found: list[Pairs] = [[(Tag.MD_UPDATE_ACTION, UPDATE_DELETE), kind, symbol] for kind in gone]
     for kind, row in after.items():
@@ -121,7 +121,7 @@ def changes_of(market: str, before: Rows, after: Rows) -> list[Pairs]:
     return found
 
 
-def rows_of(board: Instrument, levels: Sequence[Level]) -> Rows:
+def rows_of(board: InstrumentBoard, levels: Sequence[Level]) -> Rows:
     """All that a board indicates: price, volume and surplus, or the best limits without a price,
     with their visible shares where the levels of its book are given; nothing on a day that is over.
     """
@@ -145,13 +145,13 @@ def rows_of(board: Instrument, levels: Sequence[Level]) -> Rows:
     return {row[0][1]: row for row in rows}
 
 
-def phase_of(venue: Venue, board: Instrument) -> Pairs:
+def phase_of(venue: Venue, board: InstrumentBoard) -> Pairs:
     """The phase of a board; without the auction, and the end, of one that wasn't seen yet."""
     state = board.auctions.state
     is_halted = board.engine.halted is not None or venue.halts.halted is not None
     text = "halted" if is_halted else "frozen" if state.frozen is not None else str(state.phase)
     status = PHASE_STATUSES[state.phase] if text == state.phase else PHASE_HALTED
-    found: Pairs = [(Tag.TRADING_SESSION_ID, board.identity.market)]
+    found: Pairs = [(Tag.TRADING_SESSION_ID, board.identity.instrument)]
     if not board.looks.is_seen:
         is_new = text == state.phase
         status, text = (PHASE_UNKNOWN, "unknown") if is_new else (status, text)
@@ -165,7 +165,7 @@ def phase_of(venue: Venue, board: Instrument) -> Pairs:
     return [*found, (Tag.TRAD_SES_END_TIME, ends)]
 
 
-async def seen(board: Instrument) -> None:
+async def seen(board: InstrumentBoard) -> None:
     """Looks at a board; one whose program doesn't answer soon stays as it was last seen. Raises
     MessageError where it has halted.
     """
@@ -209,7 +209,7 @@ class Feeds:
             for phases in self.phases.values():
                 phases.changed(board, phase_of(self._venue, board), send)
 
-    def levels(self, board: Instrument) -> Sequence[Level]:
+    def levels(self, board: InstrumentBoard) -> Sequence[Level]:
         """What is visible of a board's book at each limit, where that is open."""
         return board.looks.visible_levels if self._venue.rounds.now.is_open_book else []
 
@@ -234,7 +234,7 @@ async def ask_data(seat: "Seat", asked: Pairs, given: Given, number: int) -> Non
         raise SeatError(ENTRY_TYPE, f"MDEntryType is one of {', '.join(ENTRY_TYPES)}")
     named = (seat.named_board(value) for tag, value in asked if tag == Tag.SYMBOL)
     boards = [*dict.fromkeys(named)]
-    data = Data(request, types, frozenset(it.identity.market for it in boards), update == WHOLE)
+    data = Data(request, types, frozenset(it.identity.instrument for it in boards), update == WHOLE)
     if how == ON:
         feeds.check_room(request, feeds.data)
         seat.connections.watch(seat)
@@ -243,9 +243,9 @@ async def ask_data(seat: "Seat", asked: Pairs, given: Given, number: int) -> Non
         return
     for board in boards:
         rows = rows_of(board, feeds.levels(board))
-        data.last[board.identity.market] = {it: row for it, row in rows.items() if it in types}
-    for market, rows in data.last.items():
-        seat.outbound.send(seat, Type.SNAPSHOT, *snapshot(request, market, rows))
+        data.last[board.identity.instrument] = {it: row for it, row in rows.items() if it in types}
+    for instrument, rows in data.last.items():
+        seat.outbound.send(seat, Type.SNAPSHOT, *snapshot(request, instrument, rows))
     if how == ON and wire is not None:
         feeds.data[request] = data
 
@@ -262,11 +262,11 @@ async def ask_phases(seat: "Seat", rows: Pairs, given: Given, number: int) -> No
         raise SeatError(UNSUPPORTED, "SubscriptionRequestType is 0, 1 or 2")
     name = given.get(Tag.TRADING_SESSION_ID)
     boards = seat.boards() if name is None else [seat.named_board(name)]
-    phases = Phases(request, frozenset(it.identity.market for it in boards))
+    phases = Phases(request, frozenset(it.identity.instrument for it in boards))
     if how == ON:
         feeds.check_room(request, feeds.phases)
     for board in boards:
-        phase = phases.last[board.identity.market] = phase_of(venue, board)
+        phase = phases.last[board.identity.instrument] = phase_of(venue, board)
         seat.outbound.send(seat, Type.PHASE, [(Tag.TRAD_SES_REQ_ID, request), *phase], [])
     if how == ON and seat in seat.connections.on:
         feeds.phases[request] = phases

@@ -11,7 +11,7 @@ from callauction.fix.tags import (
     SIDE_CODES, Given, Tag, now,
 )
 from callauction.limits import MOST_NUMBER
-from callauction.venue.instrument import Instrument
+from callauction.venue.instrument_board import InstrumentBoard
 from callauction.words import MARKET as AT_MARKET
 from callauction.words import Refusal
 
@@ -109,7 +109,7 @@ def check_kept(given: Given, held: Held) -> None:
         raise SeatError(UNSUPPORTED, "MaxFloor and TimeInForce can't be changed")
 
 
-def check_beside(given: Given, board: Instrument) -> None:
+def check_beside(given: Given, board: InstrumentBoard) -> None:
     """Raises SeatError where a message for an order on a board names another security or currency,
     or contradicts itself, or what orders are.
     """

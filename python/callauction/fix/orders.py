@@ -13,7 +13,7 @@ from callauction.fix.tags import (
 from callauction.fix.uncrosses import Seen
 from callauction.venue import views
 from callauction.venue.book import OPERATOR
-from callauction.venue.instrument import Instrument
+from callauction.venue.instrument_board import InstrumentBoard
 from callauction.venue.recovery import Entry, Message
 from callauction.words import Refusal
 from callauction.words import MARKET as AT_MARKET
@@ -113,7 +113,7 @@ class Held:
 class Orders:
     """The orders of a board as members by FIX see them."""
 
-    def __init__(self, board: Instrument) -> None:
+    def __init__(self, board: InstrumentBoard) -> None:
         self._board = board
         self._price = functools.lru_cache(MOST_PRICES)(board.terms.price)
         self._open: dict[int, Held] = {}
@@ -239,7 +239,7 @@ class Orders:
         pairs: Pairs = [
             (Tag.TRADE_REPORT_ID, event),
             (Tag.PREVIOUSLY_REPORTED, "N"),
-            (Tag.SYMBOL, self._board.identity.market),
+            (Tag.SYMBOL, self._board.identity.instrument),
             (Tag.LAST_QTY, str(trade.quantity)),
             (Tag.LAST_PX, self._price(trade.tick)),
             (Tag.TRADE_DATE, now()[:8]),
@@ -280,7 +280,7 @@ class Orders:
             (Tag.EXEC_ID, event),
             (Tag.EXEC_TYPE, kind),
             (Tag.ORD_STATUS, held.status),
-            (Tag.SYMBOL, self._board.identity.market),
+            (Tag.SYMBOL, self._board.identity.instrument),
             (Tag.SIDE, SIDE_CODES[held.side]),
             (Tag.ORDER_QTY, str(held.total)),
             (Tag.LEAVES_QTY, str(left)),
@@ -307,7 +307,7 @@ class Orders:
         return format(PRICE_DIGITS.divide(paid, Decimal(held.filled)).normalize(), "f")
 
 
-def entry_event(board: Instrument, place: int) -> str:
+def entry_event(board: InstrumentBoard, place: int) -> str:
     """The id of what an entry of a board comes to."""
     return f"{board.key_at(place)}.{place}"
 

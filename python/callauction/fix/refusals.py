@@ -5,7 +5,7 @@ from callauction.fix.orders import CLIENT, ORIGIN, Asked, Report, refusal
 from callauction.fix.tags import (
     DAY, EVENTS, FIXT, NONE, OTHER_REASON, SIDE_CODES, Exec, Given, Pairs, Status, Tag, Type,
 )
-from callauction.venue.instrument import Instrument
+from callauction.venue.instrument_board import InstrumentBoard
 from callauction.venue.messages import MessageError
 from callauction.venue.recovery import Message
 
@@ -192,7 +192,7 @@ def asked_of(given: Given) -> Pairs:
     return pairs
 
 
-def given_of(board: Instrument, message: Message, number: int) -> Given:
+def given_of(board: InstrumentBoard, message: Message, number: int) -> Given:
     """What a message of the log was, as far as an answer to it repeats that."""
     word, *fields = message.record.split(",")[1:]
     given: Given = {Tag.MSG_SEQ_NUM: str(number)}
@@ -200,7 +200,7 @@ def given_of(board: Instrument, message: Message, number: int) -> Given:
         kind, _, client = message.note[ALL].partition(" ")
         given |= {Tag.MASS_CANCEL_REQUEST_TYPE: kind, Tag.CL_ORD_ID: client}
         return given | {Tag.MSG_TYPE: Type.MASS_CANCEL}
-    given |= {Tag.CL_ORD_ID: message.note.get(CLIENT, NONE), Tag.SYMBOL: board.identity.market}
+    given |= {Tag.CL_ORD_ID: message.note.get(CLIENT, NONE), Tag.SYMBOL: board.identity.instrument}
     if word == "enter":
         given |= {Tag.SIDE: SIDE_CODES[fields[0]], Tag.ORDER_QTY: fields[1]}
         return given | {Tag.MSG_TYPE: Type.ENTER}

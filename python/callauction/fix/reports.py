@@ -10,7 +10,7 @@ from callauction.fix.tags import Pairs, Tag, is_recent, now
 from callauction.fix.uncrosses import seen_at
 from callauction.venue.downloads import DownloadError
 from callauction.venue.book import OPERATOR
-from callauction.venue.instrument import Instrument
+from callauction.venue.instrument_board import InstrumentBoard
 from callauction.venue.logger import NOTICES
 from callauction.venue.phases import UNCROSSED
 from callauction.venue.recovery import Entry, Message
@@ -24,7 +24,9 @@ MOST_AGE = 2
 class Stream:
     """What is sent of a board; those who wait for an entry go on once that was sent."""
 
-    def __init__(self, board: Instrument, program: str, tell: Callable[[Report], None]) -> None:
+    def __init__(
+        self, board: InstrumentBoard, program: str, tell: Callable[[Report], None]
+    ) -> None:
         self.board, self.orders = board, Orders(board)
         self._program, self._tell = program, tell
         self._entries: asyncio.Queue[tuple[Message, Entry]] = asyncio.Queue()
@@ -122,7 +124,7 @@ class Reports:
         for stream in [*self._streams.values()]:
             self._connections.start(stream.run())
 
-    def stream(self, board: Instrument) -> Stream:
+    def stream(self, board: InstrumentBoard) -> Stream:
         """The stream of a board."""
         key = board.identity.key
         if key not in self._streams:
@@ -132,11 +134,11 @@ class Reports:
                 self._connections.start(self._streams[key].run())
         return self._streams[key]
 
-    def former(self, board: Instrument) -> list[Stream]:
-        """The streams of a market's boards of earlier rounds, the last one first."""
-        market, number = board.identity.market, board.identity.round
+    def former(self, board: InstrumentBoard) -> list[Stream]:
+        """The streams of the same instrument's boards of earlier rounds, the last one first."""
+        instrument, number = board.identity.instrument, board.identity.round
         boards = ((it, it.board.identity) for it in self._streams.values())
-        found = [it for it, of in boards if of.market == market and of.round < number]
+        found = [it for it, of in boards if of.instrument == instrument and of.round < number]
         return sorted(found, key=lambda it: -it.board.identity.round)
 
     async def until_now(self) -> None:
@@ -144,7 +146,7 @@ class Reports:
         for stream in [*self._streams.values()]:
             await stream.until_now()
 
-    def late(self) -> list[Instrument]:
+    def late(self) -> list[InstrumentBoard]:
         """The boards of which entries weren't sent yet."""
         return [it.board for it in self._streams.values() if it.is_late]
 
@@ -153,7 +155,7 @@ class Reports:
         for stream in self._streams.values():
             stream.end_before(number)
 
-    def entered(self, board: Instrument, message: Message, entry: Entry | None) -> None:
+    def entered(self, board: InstrumentBoard, message: Message, entry: Entry | None) -> None:
         """A message has its entry, or never had one."""
         seat = self.by_member.get(message.member)
         if seat is not None and message.number < 0:

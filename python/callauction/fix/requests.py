@@ -11,7 +11,7 @@ from callauction.fix.refusals import (
     tell_mass_cancelled,
 )
 from callauction.fix.tags import OTHER_REASON, Exec, Given, Groups, Pairs, Tag, Type
-from callauction.venue.instrument import Instrument
+from callauction.venue.instrument_board import InstrumentBoard
 from callauction.venue.messages import MessageError
 from callauction.venue.recovery import Entry
 
@@ -26,7 +26,7 @@ REPORTS_A_MESSAGE = 10
 """How many reports of a mass status count as a message of its member."""
 
 
-def boards_of(seat: "Seat", given: Given, tag: int, one: str, every: str) -> list[Instrument]:
+def boards_of(seat: "Seat", given: Given, tag: int, one: str, every: str) -> list[InstrumentBoard]:
     """The boards that a request asks for by this tag. Raises MessageError."""
     if given[tag] == one and Tag.SYMBOL in given:
         return [seat.board(given)]
@@ -35,7 +35,7 @@ def boards_of(seat: "Seat", given: Given, tag: int, one: str, every: str) -> lis
     return seat.boards()
 
 
-def orders_of(seat: "Seat", given: Given, board: Instrument) -> list[Held]:
+def orders_of(seat: "Seat", given: Given, board: InstrumentBoard) -> list[Held]:
     """The open orders of a request on a board, perhaps of one side. Raises MessageError."""
     side = side_of(given) if Tag.SIDE in given else ""
     return [it for it in seat.open_orders(board) if side in ("", it.side)]
@@ -59,7 +59,7 @@ async def cancel_all(seat: "Seat", rows: Pairs, given: Given, number: int) -> No
     found = await asyncio.gather(*deleting)
     faults = {board: fault for board, fault in zip(boards, found) if fault is not None}
     left = [it for it in faults if it.commands.awaits(seat.name) or orders_of(seat, given, it)]
-    texts = (f"{it.identity.market} ({faults[it].text})" for it in left)
+    texts = (f"{it.identity.instrument} ({faults[it].text})" for it in left)
     text = f"not cancelled, and still open: {', '.join(texts)}"
     if not seat.epoch.deleted[number] and (left or len(faults) == len(boards)):
         raise SeatError(OTHER_REASON, text) if left else faults[boards[0]]
@@ -69,7 +69,7 @@ async def cancel_all(seat: "Seat", rows: Pairs, given: Given, number: int) -> No
 
 
 async def deleted(
-    seat: "Seat", given: Given, board: Instrument, number: int, note: dict[str, str]
+    seat: "Seat", given: Given, board: InstrumentBoard, number: int, note: dict[str, str]
 ) -> MessageError | None:
     """Deletes the orders of a mass cancel on a board, as parts of a message: why one may stay open,
     None where none does.
@@ -103,7 +103,7 @@ async def show_all(seat: "Seat", rows: Pairs, given: Given, number: int) -> None
         try:
             await seat.commands.until_known(board)
         except MessageError:
-            late.append(board.identity.market)
+            late.append(board.identity.instrument)
         orders = seat.reports.stream(board).orders
         found += [(orders, it) for it in orders_of(seat, given, board)]
     text = f"halted, and what was sent isn't answered yet: {', '.join(late)}" if late else ""
@@ -135,10 +135,10 @@ async def show_list(seat: "Seat", rows: Pairs, given: Given, number: int) -> Non
     seat.outbound.send(seat, Type.LIST, head, groups)
 
 
-def row_of(board: Instrument) -> Pairs:
+def row_of(board: InstrumentBoard) -> Pairs:
     """An instrument in a list."""
     terms = board.terms
-    row: Pairs = [(Tag.SYMBOL, board.identity.market)]
+    row: Pairs = [(Tag.SYMBOL, board.identity.instrument)]
     row += [(Tag.CURRENCY, terms.currency)] if CURRENCY.fullmatch(terms.currency) else []
     row += [
         (Tag.MIN_PRICE_INCREMENT, format(terms.grid.tick_size, "f")),

@@ -76,8 +76,8 @@ async def answered(reports: Reports, seat: Seat) -> None:
 
 def unanswered(reports: Reports, seat: Seat) -> str:
     """Why a session isn't reset: which instruments haven't answered."""
-    late = {it.identity.market for it in seat.commands.unanswered.values()}
-    late |= {it.identity.market for it in reports.late()}
+    late = {it.identity.instrument for it in seat.commands.unanswered.values()}
+    late |= {it.identity.instrument for it in reports.late()}
     return UNANSWERED.format(seat.comp_id, ", ".join(sorted(late)) or "an instrument")
 
 

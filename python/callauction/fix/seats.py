@@ -19,7 +19,7 @@ from callauction.fix.refusals import FILLED, MADE_BEFORE, OTHER_DAY, SeatError, 
 from callauction.fix.tags import OTHER_REASON, Given, Pairs, Tag, Type, seconds_of
 from callauction.venue import clock, tokens
 from callauction.venue.fix_terms import VENUE_COMP_ID
-from callauction.venue.instrument import Instrument
+from callauction.venue.instrument_board import InstrumentBoard
 from callauction.venue.log import SOURCE
 from callauction.venue.members import HELLO_BURST, HELLO_RATE, Member
 from callauction.venue.messages import MessageError
@@ -210,7 +210,7 @@ class Seat:
         first = [*itertools.islice(self.epoch.awaited, 1), self.inbound.first()]
         return min((it for it in first if it is not None), default=0)
 
-    def entered(self, board: Instrument, message: Message, entry: Entry | None) -> None:
+    def entered(self, board: InstrumentBoard, message: Message, entry: Entry | None) -> None:
         """A message of it in the log has its entry, or never had one."""
         number = Number.of(-message.number)
         if entry is not None and CLIENT in message.note:
@@ -323,15 +323,15 @@ class Seat:
 
     # ---- boards, and the orders that are there
 
-    def board(self, given: Given) -> Instrument:
+    def board(self, given: Given) -> InstrumentBoard:
         """The board of a message. Raises MessageError."""
         return self.named_board(given[Tag.SYMBOL])
 
-    def named_board(self, name: str) -> Instrument:
+    def named_board(self, name: str) -> InstrumentBoard:
         """The board of a name. Raises MessageError."""
-        return self.venue.rounds.instrument_of(name, self.watcher)
+        return self.venue.rounds.named_board(name, self.watcher)
 
-    def boards(self) -> list[Instrument]:
+    def boards(self) -> list[InstrumentBoard]:
         """All boards that it sees."""
         return [*self.venue.rounds.boards_of(self.watcher).values()]
 
@@ -343,9 +343,9 @@ class Seat:
             return None
         return self.known(board, client)[0]
 
-    def known(self, board: Instrument, client: str) -> "tuple[Held | None, Stream]":
-        """The order of a market to which its member gave this id, in this round or an earlier one,
-        and its stream; else the one of this round.
+    def known(self, board: InstrumentBoard, client: str) -> "tuple[Held | None, Stream]":
+        """The order of an instrument to which its member gave this id, in this round or an earlier
+        one, and its stream; else the one of this round.
         """
         own = self.reports.stream(board)
         if held := own.orders.of_client(self.name, client):
@@ -355,7 +355,7 @@ class Seat:
                 return held, stream
         return None, own
 
-    def open_orders(self, board: Instrument) -> list[Held]:
+    def open_orders(self, board: InstrumentBoard) -> list[Held]:
         """Its open orders on a board, by what was answered so far."""
         return self.reports.stream(board).orders.open_of(self.name)
 

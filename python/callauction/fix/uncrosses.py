@@ -7,7 +7,7 @@ from collections.abc import Sequence
 
 from callauction.venue import replay, views
 from callauction.venue.downloads import DownloadError
-from callauction.venue.instrument import Instrument
+from callauction.venue.instrument_board import InstrumentBoard
 from callauction.venue.phases import OVER
 
 NO_RESERVE = ("--reserve", "0")
@@ -29,7 +29,7 @@ class Seen:
     is_over: bool
 
 
-async def seen_at(board: Instrument, program: str, place: int, known: int) -> Seen:
+async def seen_at(board: InstrumentBoard, program: str, place: int, known: int) -> Seen:
     """What the uncross at this place of the journal, from 1, did, once the program has said it;
     `known` trades were made before. A journal may be long, and others have their turn meanwhile.
     Raises DownloadError.
@@ -46,7 +46,7 @@ async def seen_at(board: Instrument, program: str, place: int, known: int) -> Se
     return await asyncio.to_thread(seen_in, said)
 
 
-def asked_of(board: Instrument, place: int, known: int) -> list[str]:
+def asked_of(board: InstrumentBoard, place: int, known: int) -> list[str]:
     """What the program is asked for that. Raises DownloadError."""
     commands = [record for record, _ in replay.entries_of(board)[:place]]
     asked = ["show,orders", commands[-1], "show,orders", f"show,trades,{known + 1}", "show,day"]

@@ -3,7 +3,7 @@ from collections.abc import Iterator
 
 from callauction.venue import clock, config, shown
 from callauction.venue.halts import Halts
-from callauction.venue.instrument import Instrument
+from callauction.venue.instrument_board import InstrumentBoard
 from callauction.venue.json_types import Json
 from callauction.venue.log import Log
 from callauction.venue.members import Member, Members
@@ -32,10 +32,10 @@ class Audience:
         self.standing = Standing(day, rounds, self.watchers)
         self.paid = Paid(day, members, rounds, self.watchers)
 
-    def watching(self, instrument: Instrument) -> Iterator[Watcher]:
+    def watching(self, board: InstrumentBoard) -> Iterator[Watcher]:
         """Who sees a board."""
         for watcher in [*self.watchers]:
-            if watcher.member is None or watcher.member.group == instrument.identity.group:
+            if watcher.member is None or watcher.member.group == board.identity.group:
                 yield watcher
 
     # ---- what the program is asked for
@@ -53,85 +53,85 @@ class Audience:
 
     # ---- a board
 
-    def state_of(self, instrument: Instrument) -> Json:
+    def state_of(self, board: InstrumentBoard) -> Json:
         """What everybody may see of an instrument."""
-        state = shown.state_of(instrument, clock.now())
+        state = shown.state_of(board, clock.now())
         return state | ({"halted": why} if (why := self._halts.halted) else {})
 
-    def show_state(self, instrument: Instrument) -> None:
+    def show_state(self, board: InstrumentBoard) -> None:
         """Shows all what everybody may see."""
-        if instrument.identity.name in self.standing.late and not instrument.auctions.is_late:
-            del self.standing.late[instrument.identity.name]
+        if board.identity.name in self.standing.late and not board.auctions.is_late:
+            del self.standing.late[board.identity.name]
             self.standing.show_to_operator()
-        state = self.state_of(instrument)
-        for watcher in self.watching(instrument):
+        state = self.state_of(board)
+        for watcher in self.watching(board):
             if "states" in watcher.topics:
-                watcher.offer(f"state {instrument.terms.name}", state)
+                watcher.offer(f"state {board.terms.name}", state)
 
-    def show_changed(self, instrument: Instrument) -> None:
+    def show_changed(self, board: InstrumentBoard) -> None:
         """Shows whether an instrument of this round goes on; of an earlier one the operator alone.
         """
-        if instrument in self._rounds.now.boards.values():
-            self.show_state(instrument)
-            instrument.looks.touch()
-        elif instrument.identity.round < self._rounds.now.number:
+        if board in self._rounds.now.boards.values():
+            self.show_state(board)
+            board.looks.touch()
+        elif board.identity.round < self._rounds.now.number:
             self.standing.show_to_operator()
 
-    def show_news(self, instrument: Instrument, members: frozenset[str], traded: bool) -> None:
+    def show_news(self, board: InstrumentBoard, members: frozenset[str], traded: bool) -> None:
         """The program has shown something new; of an earlier round it is what that came to, and of
         one that isn't begun yet nothing.
         """
-        if instrument not in self._rounds.now.boards.values():
-            if instrument.identity.round < self._rounds.now.number:
+        if board not in self._rounds.now.boards.values():
+            if board.identity.round < self._rounds.now.number:
                 self.paid.show()
             return
-        self.show_state(instrument)
-        name = instrument.terms.name
-        for watcher in self.watching(instrument):
-            self._show_book(instrument, watcher, traded)
+        self.show_state(board)
+        name = board.terms.name
+        for watcher in self.watching(board):
+            self._show_book(board, watcher, traded)
             if watcher.member is not None and watcher.member.name in members:
-                orders = shown.orders_of(instrument, watcher.member.name)
+                orders = shown.orders_of(board, watcher.member.name)
                 watcher.offer(f"orders {name}", orders)
         if not traded:
             return
-        self.show_gains(instrument)
-        trades = shown.trades_of(instrument, instrument.looks.trades[-shown.MOST_TRADES :])
-        for watcher in self.watching(instrument):
+        self.show_gains(board)
+        trades = shown.trades_of(board, board.looks.trades[-shown.MOST_TRADES :])
+        for watcher in self.watching(board):
             if watcher.member is not None and "trades" in watcher.topics:
                 watcher.offer(f"trades {name}", trades)
 
-    def show_gains(self, instrument: Instrument) -> None:
+    def show_gains(self, board: InstrumentBoard) -> None:
         """Shows members their fills, others what came of all, and who may see it what is paid."""
-        name = instrument.terms.name
-        if instrument.looks.is_seen:
-            efficiency = shown.efficiency_of(instrument, self._members.title_of)
-            for watcher in self.watching(instrument):
+        name = board.terms.name
+        if board.looks.is_seen:
+            efficiency = shown.efficiency_of(board, self._members.title_of)
+            for watcher in self.watching(board):
                 if watcher.member is None:
                     watcher.offer(f"efficiency {name}", efficiency)
                 elif "fills" in watcher.topics:
-                    watcher.offer(f"fills {name}", shown.fills_of(instrument, watcher.member.name))
+                    watcher.offer(f"fills {name}", shown.fills_of(board, watcher.member.name))
         self.show_members()
         self.paid.show()
 
-    def _show_book(self, instrument: Instrument, watcher: Watcher, is_all: bool) -> None:
+    def _show_book(self, board: InstrumentBoard, watcher: Watcher, is_all: bool) -> None:
         """Shows the operator, or others as far as the operator lets them, the course and the book;
         and where there is more of it, who traded with whom.
         """
-        name = instrument.terms.name
+        name = board.terms.name
         if watcher.member is not None:
-            is_open = self._rounds.now.is_open_book and instrument.looks.is_ladder_seen
+            is_open = self._rounds.now.is_open_book and board.looks.is_ladder_seen
             if is_open and "ladder" in watcher.topics:
-                watcher.offer(f"ladder {name}", shown.ladder_of(instrument))
+                watcher.offer(f"ladder {name}", shown.ladder_of(board))
             return
-        watcher.offer(f"course {name}", shown.course_of(instrument))
+        watcher.offer(f"course {name}", shown.course_of(board))
         is_operator = watcher.role == "operator"
-        if instrument.looks.is_ladder_seen and (is_operator or self.screen.has_book):
-            watcher.offer(f"ladder {name}", shown.ladder_of(instrument, is_operator))
+        if board.looks.is_ladder_seen and (is_operator or self.screen.has_book):
+            watcher.offer(f"ladder {name}", shown.ladder_of(board, is_operator))
         if is_all:
-            last = instrument.looks.trades[-shown.MOST_TRADES :]
-            trades = shown.trades_of(instrument, last, self._members.title_of)
+            last = board.looks.trades[-shown.MOST_TRADES :]
+            trades = shown.trades_of(board, last, self._members.title_of)
             watcher.offer(f"trades {name}", trades)
-            efficiency = shown.efficiency_of(instrument, self._members.title_of)
+            efficiency = shown.efficiency_of(board, self._members.title_of)
             watcher.offer(f"efficiency {name}", efficiency)
 
     # ---- the venue
@@ -190,11 +190,11 @@ class Audience:
         """Shows somebody who has come what it may see."""
         self.standing.offer(watcher)
         member = watcher.member
-        for instrument in self._rounds.boards_of(member).values():
+        for board in self._rounds.boards_of(member).values():
             if "states" in watcher.topics:
-                watcher.offer(f"state {instrument.terms.name}", self.state_of(instrument))
-            self._greet_with_lists(watcher, instrument)
-            instrument.looks.touch([member.name] if member else [])
+                watcher.offer(f"state {board.terms.name}", self.state_of(board))
+            self._greet_with_lists(watcher, board)
+            board.looks.touch([member.name] if member else [])
         self.paid.show_to([watcher])
         self.show_members()
 
@@ -204,23 +204,23 @@ class Audience:
             watcher.offer("welcome", self.welcome_of(watcher))
             self.greet(watcher)
 
-    def _greet_with_lists(self, watcher: Watcher, instrument: Instrument) -> None:
+    def _greet_with_lists(self, watcher: Watcher, board: InstrumentBoard) -> None:
         """Shows somebody who has come those lists of a board that are known now; the others once
         they are.
         """
-        name, member = instrument.terms.name, watcher.member
-        if not instrument.looks.is_seen:
+        name, member = board.terms.name, watcher.member
+        if not board.looks.is_seen:
             return
-        self._show_book(instrument, watcher, True)
+        self._show_book(board, watcher, True)
         if member is None:
             return
-        if "orders" in watcher.topics and instrument.looks.knows_orders_of(member.name):
-            watcher.offer(f"orders {name}", shown.orders_of(instrument, member.name))
+        if "orders" in watcher.topics and board.looks.knows_orders_of(member.name):
+            watcher.offer(f"orders {name}", shown.orders_of(board, member.name))
         if "fills" in watcher.topics:
-            watcher.offer(f"fills {name}", shown.fills_of(instrument, member.name))
+            watcher.offer(f"fills {name}", shown.fills_of(board, member.name))
         if "trades" in watcher.topics:
-            last = instrument.looks.trades[-shown.MOST_TRADES :]
-            watcher.offer(f"trades {name}", shown.trades_of(instrument, last))
+            last = board.looks.trades[-shown.MOST_TRADES :]
+            watcher.offer(f"trades {name}", shown.trades_of(board, last))
 
     # ---- what the operator lets them see
 

@@ -60,13 +60,13 @@ def sum_of(part: object) -> str:
     return hashlib.sha256(repr(part).encode("utf-8")).hexdigest()
 
 
-def terms_of(instrument: config.InstrumentTerms) -> dict[str, str]:
+def terms_of(terms: config.InstrumentTerms) -> dict[str, str]:
     """The terms of an instrument by their keys, as texts; prices as the file of a day has them."""
-    found = {"tick_size": format(instrument.grid.tick_size.normalize(), "f")}
+    found = {"tick_size": format(terms.grid.tick_size.normalize(), "f")}
     for name in TERMS:
-        value = getattr(instrument, name)
+        value = getattr(terms, name)
         is_price = name in ("low", "high", "reference", "range") and value is not None
-        found[name] = instrument.price(value) if is_price else str(value or "none")
+        found[name] = terms.price(value) if is_price else str(value or "none")
     return found
 
 

@@ -212,7 +212,7 @@ class Connection:
                 raise fault
             if self.member is None or given["type"] not in messages.ORDER_FIELDS:
                 raise MessageError("not_allowed")
-            terms = self._venue.rounds.instrument_of(given.get("instrument"), self.member).terms
+            terms = self._venue.rounds.named_board(given.get("instrument"), self.member).terms
             order = messages.order_of(terms, given)
             answer, is_again = self._venue.submit(self.member, order)
         except MessageError as fault:

@@ -18,7 +18,7 @@ from typing import Any
 from urllib.parse import quote
 
 from callauction.venue import config, results
-from callauction.venue.instrument import Instrument
+from callauction.venue.instrument_board import InstrumentBoard
 from callauction.venue.members import Member, Members
 from callauction.venue.names import plain
 from callauction.venue.rounds import Round
@@ -93,14 +93,14 @@ class Lesson:
     program: str
     began: float = 0.0
 
-    def boards(self) -> Iterator[tuple[Round, Instrument]]:
+    def boards(self) -> Iterator[tuple[Round, InstrumentBoard]]:
         """Each board of each round."""
         for round_ in self.rounds:
             for board in round_.boards.values():
                 yield round_, board
 
 
-async def made(kind: str, lesson: Lesson, board: Instrument, language: str = PLAIN) -> bytes:
+async def made(kind: str, lesson: Lesson, board: InstrumentBoard, language: str = PLAIN) -> bytes:
     """The bytes of a download, in a language of sheets.SHEET_LANGUAGES. Raises DownloadError."""
     if kind == "members":
         return members_of(board, lesson.members.title_of, language)
@@ -130,7 +130,7 @@ async def made_in(folder: str, kind: str, lesson: Lesson, language: str) -> byte
     return await output(words, asked)
 
 
-def file_of(kind: str, lesson: Lesson, board: Instrument, language: str = PLAIN) -> str:
+def file_of(kind: str, lesson: Lesson, board: InstrumentBoard, language: str = PLAIN) -> str:
     """The name of a download's file, by which those of many lessons are told apart."""
     title = re.sub(r"\W+", "-", lesson.day.title)[:MOST_TITLE_LETTERS].strip("-")
     day = time.strftime("%Y-%m-%d", time.localtime(lesson.began))
@@ -145,7 +145,7 @@ def disposition(name: str) -> str:
     return f"attachment; filename=\"{plain_name}\"; filename*=UTF-8''{quote(name)}"
 
 
-def journal_of(board: Instrument) -> bytes:
+def journal_of(board: InstrumentBoard) -> bytes:
     """The whole lines of a journal. Raises DownloadError."""
     try:
         journal = board.engine.journal.path.read_bytes()
@@ -199,9 +199,9 @@ async def started(words: Sequence[str]) -> asyncio.subprocess.Process:
 # ---- tables
 
 
-def members_of(instrument: Instrument, title_of: Titles, language: str = PLAIN) -> bytes:
+def members_of(board: InstrumentBoard, title_of: Titles, language: str = PLAIN) -> bytes:
     """The names of the members by their numbers in the journal."""
-    numbers = instrument.book.numbers.items()
+    numbers = board.book.numbers.items()
     rows: list[SheetRow] = [{"number": it, "name": plain(title_of(name))} for name, it in numbers]
     return table(("number", "name"), rows, language)
 
@@ -238,7 +238,7 @@ def parts_of(lesson: Lesson) -> Iterator[tuple[Member, SheetRow]]:
                 yield member, head | result_of(lesson.day, round_, board, member.name)
 
 
-def result_of(day: config.DayTerms, round_: Round, board: Instrument, member: str) -> SheetRow:
+def result_of(day: config.DayTerms, round_: Round, board: InstrumentBoard, member: str) -> SheetRow:
     """What a member came to on a board."""
     fills = board.accounts.fills_of(member)
     found: SheetRow = {
@@ -259,7 +259,7 @@ def result_of(day: config.DayTerms, round_: Round, board: Instrument, member: st
     return found
 
 
-def gains_of(day: config.DayTerms, round_: Round, board: Instrument, member: str) -> SheetRow:
+def gains_of(day: config.DayTerms, round_: Round, board: InstrumentBoard, member: str) -> SheetRow:
     """What a member gained on a board, what all could, and the share of it that they did."""
     gain = results.money_of(board, board.accounts.gain_of(member))
     most = board.accounts.most
@@ -320,7 +320,7 @@ async def asked_of(
 
 
 def board_of(
-    lesson: Lesson, round_: Round, board: Instrument, language: str
+    lesson: Lesson, round_: Round, board: InstrumentBoard, language: str
 ) -> dict[str, Any]:
     """What a report says of a board."""
     most = board.accounts.most
@@ -336,7 +336,7 @@ def board_of(
     }
 
 
-def title_of(lesson: Lesson, round_: Round, board: Instrument, language: str) -> str:
+def title_of(lesson: Lesson, round_: Round, board: InstrumentBoard, language: str) -> str:
     """The heading of a board's part of a report."""
     named, practice = ("Runde", "Übung") if language == "de" else ("Round", "practice")
     words = [f"{named} {round_.number}"] if len(lesson.rounds) > 1 else []

@@ -3,7 +3,7 @@ import asyncio
 import contextlib
 
 from callauction.venue.gains import Value
-from callauction.venue.instrument import Instrument
+from callauction.venue.instrument_board import InstrumentBoard
 from callauction.venue.logger import NOTICES
 from callauction.venue.members import Member
 from callauction.venue.messages import MessageError
@@ -129,10 +129,10 @@ class Groups:
             await self._starts.open_new(board)
             self._join_call(board)
 
-    def _join_call(self, board: Instrument) -> None:
+    def _join_call(self, board: InstrumentBoard) -> None:
         """A new board has the call that goes on in the other groups of its market, until its end.
         """
-        others = self._rounds.now.of_market(board.identity.market)
+        others = self._rounds.now.of_instrument(board.identity.instrument)
         states = [it.auctions.state for it in others if it is not board]
         for state in states:
             if state.phase in (Phase.CALL, Phase.EXTENDED):

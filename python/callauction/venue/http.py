@@ -17,7 +17,7 @@ from callauction.venue import teaching
 from callauction.venue.arrivals import JOIN_SECONDS
 from callauction.venue.connection import connect, packed
 from callauction.venue.gates import BODY_SECONDS, Gates
-from callauction.venue.instrument import Instrument
+from callauction.venue.instrument_board import InstrumentBoard
 from callauction.venue.json_types import Json
 from callauction.venue.log import SOURCE
 from callauction.venue.logger import NOTICES
@@ -271,30 +271,30 @@ class Site:
     async def _look(self, request: web.Request) -> web.Response:
         """What a member, or the operator, may see of an instrument."""
         member = self._member_of(request)
-        instrument = self._venue.rounds.instrument_of(request.query.get("instrument"), member)
+        board = self._venue.rounds.named_board(request.query.get("instrument"), member)
         what = request.match_info["what"]
         if what == "state" or member is None:
-            return answered(self._venue.audience.state_of(instrument))
-        instrument.looks.check_seen()
+            return answered(self._venue.audience.state_of(board))
+        board.looks.check_seen()
         if what == "orders":
-            await instrument.looks.see_orders_of(member.name)
-            return answered(shown.orders_of(instrument, member.name))
+            await board.looks.see_orders_of(member.name)
+            return answered(shown.orders_of(board, member.name))
         if what in ("fills", "trades"):
-            await instrument.looks.see_trades()
+            await board.looks.see_trades()
         if what == "fills":
-            return answered(shown.fills_of(instrument, member.name))
+            return answered(shown.fills_of(board, member.name))
         if what == "trades":
             first = request.query.get("first", "1")
             if not first.isdecimal() or len(first) > 10:
                 raise MessageError("bad_message", "first is no number of a trade")
             begin = max(0, int(first) - 1)
-            page = instrument.looks.trades[begin : begin + shown.MOST_TRADES]
-            return answered(shown.trades_of(instrument, page))
+            page = board.looks.trades[begin : begin + shown.MOST_TRADES]
+            return answered(shown.trades_of(board, page))
         if what == "ladder":
             if not self._venue.rounds.now.is_open_book:
                 raise MessageError("not_allowed", "the book is closed in this round")
-            await instrument.looks.refresh(has_ladder=True)
-            return answered(shown.ladder_of(instrument))
+            await board.looks.refresh(has_ladder=True)
+            return answered(shown.ladder_of(board))
         raise web.HTTPNotFound
 
     # ---- the operator
@@ -320,7 +320,7 @@ class Site:
         except PhaseError as fault:
             raise MessageError("bad_phase", str(fault)) from None
 
-    def _board_of(self, request: web.Request) -> Instrument:
+    def _board_of(self, request: web.Request) -> InstrumentBoard:
         """The board that a download is asked of: of this round, or of an earlier one; where it
         names none, the only one, or any where it is of all. Raises MessageError.
         """

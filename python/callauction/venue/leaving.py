@@ -4,7 +4,7 @@ import dataclasses
 from collections.abc import Coroutine
 from typing import Any
 
-from callauction.venue.instrument import Instrument
+from callauction.venue.instrument_board import InstrumentBoard
 from callauction.venue.members import Done, Member
 from callauction.venue.messages import Order
 from callauction.venue.recovery import Entry
@@ -35,7 +35,7 @@ class Removal:
     deleted: list[Deletion] = dataclasses.field(default_factory=list)
     halted: list[str] = dataclasses.field(default_factory=list)
 
-    def take_out(self, board: Instrument) -> Coroutine[Any, Any, None]:
+    def take_out(self, board: InstrumentBoard) -> Coroutine[Any, Any, None]:
         """Deletes the open orders of those members on a board, once it is known which these are:
         the board takes nothing else before.
         """
@@ -44,7 +44,7 @@ class Removal:
         board.commands.hold_for(names)
 
         async def taken_out() -> None:
-            sent = [it for member in gone for it in member.waiting(board.identity.market)]
+            sent = [it for member in gone for it in member.waiting(board.identity.instrument)]
             if sent:
                 await asyncio.wait([it.answer for it in sent])
             deletions = [it for member in gone for it in withdrawn(member, board)]
@@ -56,9 +56,9 @@ class Removal:
         return taken_out()
 
 
-def withdrawn(member: Member, board: Instrument) -> list[Deletion]:
+def withdrawn(member: Member, board: InstrumentBoard) -> list[Deletion]:
     """Deletes the open orders of a member who was removed, each once, where that can be."""
-    asked = {it.record: it.answer for it in member.waiting(board.identity.market)}
+    asked = {it.record: it.answer for it in member.waiting(board.identity.instrument)}
     found = []
     for order in board.commands.open_orders(member.name) if board.engine.is_open else ():
         sent = Order(member.last + 1, board.terms.name, f"delete,{order}")
@@ -67,8 +67,8 @@ def withdrawn(member: Member, board: Instrument) -> list[Deletion]:
     return found
 
 
-def withdraw(member: Member, board: Instrument, order: Order) -> "asyncio.Future[Entry]":
+def withdraw(member: Member, board: InstrumentBoard, order: Order) -> "asyncio.Future[Entry]":
     """Sends the deletion of an order of a member in any phase. Raises MessageError."""
     answer = board.commands.withdraw(member.name, order)
-    member.keep(order.number, Done(board.identity.market, order.record, answer))
+    member.keep(order.number, Done(board.identity.instrument, order.record, answer))
     return answer

@@ -61,9 +61,10 @@ class Member:
         self.last = max(self.last, number)
         done.answer.add_done_callback(lambda answer: self._answered(number, answer))
 
-    def waiting(self, market: str) -> list[Done]:
+    def waiting(self, instrument: str) -> list[Done]:
         """Its messages to an instrument that aren't answered yet."""
-        return [it for it in self.done.values() if it.instrument == market and not it.answer.done()]
+        sent = (it for it in self.done.values() if it.instrument == instrument)
+        return [it for it in sent if not it.answer.done()]
 
     def _answered(self, number: int, answer: "asyncio.Future[Entry]") -> None:
         if answer.cancelled() or answer.exception() is not None:

@@ -141,55 +141,55 @@ def number_of(message: dict[str, Any], name: str, least: int, most: int) -> int:
     return found
 
 
-def tick_of(instrument: InstrumentTerms, price: object) -> str:
+def tick_of(terms: InstrumentTerms, price: object) -> str:
     """The limit of a record: a tick, or `market`. Raises MessageError."""
     if price == MARKET:
         return MARKET
     if not isinstance(price, str) or not PRICE.fullmatch(price):
         raise MessageError("bad_message", "price is no text such as 20.05 or market")
     try:
-        tick = instrument.grid.tick(decimal_of(price))
+        tick = terms.grid.tick(decimal_of(price))
     except BadCellError as fault:
         raise MessageError("bad_price", f"the price {price} {fault}") from None
     if tick > MOST_NUMBER:
-        least, most = instrument.price(instrument.low), instrument.price(instrument.high)
+        least, most = terms.price(terms.low), terms.price(terms.high)
         raise MessageError("bad_price", f"the price {price} is not from {least} to {most}")
     return str(tick)
 
 
-def quantity_of(instrument: InstrumentTerms, message: dict[str, Any]) -> int:
+def quantity_of(terms: InstrumentTerms, message: dict[str, Any]) -> int:
     """The shares of an order. Raises MessageError."""
     found = number_of(message, "quantity", 0, MOST_NUMBER)
-    if found > instrument.most_quantity:
-        raise MessageError("above_limit", f"an order has at most {instrument.most_quantity} shares")
+    if found > terms.most_quantity:
+        raise MessageError("above_limit", f"an order has at most {terms.most_quantity} shares")
     return found
 
 
-def order_of(instrument: InstrumentTerms, message: dict[str, Any]) -> Order:
+def order_of(terms: InstrumentTerms, message: dict[str, Any]) -> Order:
     """The command that a message asks for. Raises MessageError."""
     kind = message["type"]
     for name in message.keys() - ORDER_FIELDS[kind] - {"type", "number", "instrument"}:
         raise MessageError("bad_message", f"there is no {name} in {kind}")
     number = number_of(message, "number", 1, MOST_MESSAGE)
     if kind == "enter":
-        rest = entered(instrument, message)
+        rest = entered(terms, message)
     else:
         rest = f"{kind},{number_of(message, 'order', 0, MOST_NUMBER)}"
     if kind == "change":
-        limit = tick_of(instrument, message.get("price"))
-        rest += f",{quantity_of(instrument, message)},{limit}"
-    return Order(number, instrument.name, rest)
+        limit = tick_of(terms, message.get("price"))
+        rest += f",{quantity_of(terms, message)},{limit}"
+    return Order(number, terms.name, rest)
 
 
-def entered(instrument: InstrumentTerms, message: dict[str, Any]) -> str:
+def entered(terms: InstrumentTerms, message: dict[str, Any]) -> str:
     """The record of a new order after its member, in its shortest form. Raises MessageError."""
     side, only = text_of(message, "side"), text_of(message, "only", "")
     if side not in SIDES:
         raise MessageError("bad_message", "side is bid or ask")
     if only not in RESTRICTIONS:
         raise MessageError("bad_message", "only is opening or closing, or left out")
-    quantity = quantity_of(instrument, message)
+    quantity = quantity_of(terms, message)
     has_peak = message.get("peak") is not None
     peak = str(number_of(message, "peak", 0, MOST_NUMBER)) if has_peak else ""
     end = f",{peak},{only}" if only else f",{peak}" if peak else ""
-    return f"enter,{side},{quantity},{tick_of(instrument, message.get('price'))}{end}"
+    return f"enter,{side},{quantity},{tick_of(terms, message.get('price'))}{end}"

@@ -12,7 +12,7 @@ from prometheus_client.metrics_core import Metric
 
 from callauction.venue import clock, heads
 from callauction.venue.gates import Gates
-from callauction.venue.instrument import Instrument
+from callauction.venue.instrument_board import InstrumentBoard
 from callauction.venue.phases import Phase
 from callauction.venue.venue import Venue
 
@@ -86,40 +86,40 @@ class Measures:
         }
         for name, what in gauges.items():
             gauge = GaugeMetricFamily(f"{PREFIX}_{name}", what, labels=OF_INSTRUMENTS)
-            for of, instrument in self._known(name):
+            for of, board in self._known(name):
                 is_halted = name == "halted" and self._venue.halts.halted is not None
-                gauge.add_metric([of], max(is_halted, value_of(instrument, name)))
+                gauge.add_metric([of], max(is_halted, value_of(board, name)))
             for early, _ in self._venue.rounds.early_halts if name == "halted" else ():
                 gauge.add_metric([early_name(early)], 1)
             yield gauge
         for name, what in counters.items():
             counter = CounterMetricFamily(f"{PREFIX}_{name}", what, labels=OF_INSTRUMENTS)
-            for of, instrument in self._known(name):
-                counter.add_metric([of], value_of(instrument, name))
+            for of, board in self._known(name):
+                counter.add_metric([of], value_of(board, name))
             yield counter
 
-    def _known(self, name: str) -> Iterator[tuple[str, Instrument]]:
+    def _known(self, name: str) -> Iterator[tuple[str, InstrumentBoard]]:
         """The instruments of which a measure is known, by their names."""
-        for of, instrument in self._venue.rounds.now.boards.items():
-            if instrument.looks.is_seen or name in OF_PROGRAMS:
-                yield of, instrument
+        for of, board in self._venue.rounds.now.boards.items():
+            if board.looks.is_seen or name in OF_PROGRAMS:
+                yield of, board
 
     def _phases(self) -> Metric:
         """In which phase each instrument is: 1 for that, 0 for the others."""
         found = GaugeMetricFamily(
             f"{PREFIX}_phase", "1 for the phase", labels=(*OF_INSTRUMENTS, "phase")
         )
-        for name, instrument in self._known("phase"):
+        for name, board in self._known("phase"):
             for phase in Phase:
-                found.add_metric([name, str(phase)], int(instrument.auctions.state.phase is phase))
+                found.add_metric([name, str(phase)], int(board.auctions.state.phase is phase))
         return found
 
     def _answers(self) -> Metric:
         """How long members waited for their answers."""
         what = "from a message's arrival to its answer"
         found = HistogramMetricFamily(f"{PREFIX}_answer_seconds", what, labels=OF_INSTRUMENTS)
-        for name, instrument in self._venue.rounds.now.boards.items():
-            times = instrument.engine.outbox.times
+        for name, board in self._venue.rounds.now.boards.items():
+            times = board.engine.outbox.times
             found.add_metric([name], [*times.buckets()], times.total)
         return found
 
@@ -139,18 +139,18 @@ class Text:
         return self._text
 
 
-def value_of(instrument: Instrument, name: str) -> float:
+def value_of(board: InstrumentBoard, name: str) -> float:
     """A measure of an instrument."""
-    engine = instrument.engine
+    engine = board.engine
     values = {
         "halted": int(engine.halted is not None),
         "waiting": engine.outbox.waiting,
-        "calls_left": instrument.looks.day.left,
-        "calls_left_to_members": max(0, instrument.commands.left),
-        "orders_open": instrument.book.count,
-        "orders_left": instrument.terms.open - instrument.book.count,
+        "calls_left": board.looks.day.left,
+        "calls_left_to_members": max(0, board.commands.left),
+        "orders_open": board.book.count,
+        "orders_left": board.terms.open - board.book.count,
         "orders": engine.journal.count,
-        "trades": len(instrument.looks.trades),
+        "trades": len(board.looks.trades),
         "restarts": engine.restarts,
     }
     return values[name]
@@ -183,6 +183,6 @@ def halts_of(venue: Venue) -> dict[str, str]:
     return found | early | ({"venue": venue.halts.halted} if venue.halts.halted else {})
 
 
-def early_name(board: Instrument) -> str:
+def early_name(board: InstrumentBoard) -> str:
     """What operations read of a board of an earlier round."""
     return f"{board.identity.name} of round {board.identity.round}"

@@ -7,7 +7,7 @@ import time
 from collections.abc import Iterable
 
 from callauction.venue import begun
-from callauction.venue.instrument import Instrument
+from callauction.venue.instrument_board import InstrumentBoard
 from callauction.venue.log import Line, taking
 from callauction.venue.members import Done
 from callauction.venue.parts import Parts
@@ -91,7 +91,9 @@ class Past:
         else:
             self._values.replay(round_, line)
 
-    def _replay_message(self, board: Instrument, message: Message, entry: Entry | None) -> None:
+    def _replay_message(
+        self, board: InstrumentBoard, message: Message, entry: Entry | None
+    ) -> None:
         """Takes a message of an earlier run, and its entry; one that wasn't executed never was."""
         if entry is not None:
             board.replay(message, entry)
@@ -99,5 +101,5 @@ class Past:
                 answer = asyncio.get_running_loop().create_future()
                 answer.set_result(entry)
                 rest = message.record.partition(",")[2]
-                member.keep(message.number, Done(board.identity.market, rest, answer))
+                member.keep(message.number, Done(board.identity.instrument, rest, answer))
         board.on_entry(message, entry)

@@ -7,7 +7,7 @@ from collections.abc import Iterable, Iterator, Sequence
 
 from callauction.venue import downloads, ending, shown, views
 from callauction.venue.downloads import DownloadError
-from callauction.venue.instrument import Instrument
+from callauction.venue.instrument_board import InstrumentBoard
 from callauction.venue.json_types import Json
 from callauction.venue.phases import UNCROSSED
 from callauction.venue.process import LISTED
@@ -18,16 +18,16 @@ ASKED = ("show", "show,ladder")
 BookRows = list[dict[str, str]]
 
 
-async def replay_of(instrument: Instrument, program: str, number: int | None = None) -> Json:
+async def replay_of(board: InstrumentBoard, program: str, number: int | None = None) -> Json:
     """An auction that ended, by its number from 1, else the last one: its books, one by one, and
     the last of them with the rule that made its price; no books before the first auction has ended.
     Raises DownloadError.
     """
-    entries = entries_of(instrument)
+    entries = entries_of(board)
     ends = [place for place, (_, reply) in enumerate(entries) if UNCROSSED.match(reply)]
     found: Json = {
         "type": "replay",
-        "instrument": instrument.terms.name,
+        "instrument": board.terms.name,
         "auctions": len(ends),  # that have ended
         "frames": [],
         "book": None,
@@ -39,13 +39,13 @@ async def replay_of(instrument: Instrument, program: str, number: int | None = N
         raise DownloadError(f"{len(ends)} auctions have ended: there is no auction {number}")
     begin, end = (ends[place - 1] + 1 if place else 0), ends[place]
     commands = [record for record, _ in entries[: end + 1]]
-    said = await output([program, "--live", *instrument.terms.words()], session(commands, begin))
+    said = await output([program, "--live", *board.terms.words()], session(commands, begin))
     reference = views.DayView.of(said[-1]).reference
-    found["frames"] = frames_of(instrument, said[:-1], places(begin, end))
-    words = [program, "--print", "book", *instrument.terms.words()]
+    found["frames"] = frames_of(board, said[:-1], places(begin, end))
+    words = [program, "--print", "book", *board.terms.words()]
     table = csv.DictReader(await output(words, commands))
     rows = [row for row in table if row["command"] == str(end + 1)]
-    found["book"] = book_of(instrument, rows, reference)
+    found["book"] = book_of(board, rows, reference)
     return found
 
 
@@ -61,11 +61,11 @@ def session(commands: Sequence[str], begin: int) -> Iterator[str]:
     yield "show,day"
 
 
-def entries_of(instrument: Instrument) -> list[tuple[str, str]]:
+def entries_of(board: InstrumentBoard) -> list[tuple[str, str]]:
     """The command and the reply of each whole entry of the journal. Raises DownloadError."""
     try:
-        with ending.until_done(lambda: f"the journal of {instrument.identity.key}"):
-            text = instrument.engine.journal.path.read_text(encoding="ascii")
+        with ending.until_done(lambda: f"the journal of {board.identity.key}"):
+            text = board.engine.journal.path.read_text(encoding="ascii")
     except OSError as fault:
         raise DownloadError(f"the journal can't be read: {fault.strerror}") from None
     lines = text[: text.rfind("\n") + 1].splitlines()[1:]
@@ -87,17 +87,17 @@ async def output(words: Sequence[str], records: Iterable[str]) -> list[str]:
     return await asyncio.to_thread(printed.decode("ascii").splitlines)
 
 
-def frames_of(instrument: Instrument, said: Sequence[str], entries: Sequence[int]) -> list[Json]:
+def frames_of(board: InstrumentBoard, said: Sequence[str], entries: Sequence[int]) -> list[Json]:
     """The indications and the books of a session's lines, by the places of their entries."""
     shows = shows_of(said)
     frames = []
     for entry, (indicated, ladder) in zip(entries, zip(shows, shows)):
         found = views.Indication.of(indicated[0])
         levels = [
-            [shown.price_of(instrument, it.limit), it.bid, it.ask]
+            [shown.price_of(board, it.limit), it.bid, it.ask]
             for it in views.levels_of(ladder)
         ]
-        indication = shown.indication_of(instrument, found)
+        indication = shown.indication_of(board, found)
         frames.append({"entry": entry + 1, "indication": indication, "levels": levels})
     return frames
 
@@ -111,12 +111,12 @@ def shows_of(said: Sequence[str]) -> Iterator[list[str]]:
             yield [line, *(next(lines) for _ in range(int(listed[1]) if listed else 0))]
 
 
-def book_of(instrument: Instrument, rows: BookRows, reference: int) -> Json:
+def book_of(board: InstrumentBoard, rows: BookRows, reference: int) -> Json:
     """A book as the program prints it, the highest limit first: what is bid and asked at market and
     at each limit, what that comes to, which limits are best, the price and the rule that made it.
     """
     found: Json = {
-        "reference": shown.price_of(instrument, reference),
+        "reference": shown.price_of(board, reference),
         "market": {"bid": 0, "ask": 0},
         "levels": [],
         "price": None,
@@ -127,7 +127,7 @@ def book_of(instrument: Instrument, rows: BookRows, reference: int) -> Json:
         if row["limit"] == "market":
             found["market"] = {side: int(row[side]) for side in ("bid", "ask")}
             continue
-        price = shown.price_of(instrument, int(row["limit"]))
+        price = shown.price_of(board, int(row["limit"]))
         level: Json = {"price": price, "side": row["side"], "is_best": row["best"] == "1"}
         found["levels"].append(level | {name: int(row[name]) for name in counts})
         if row["price"]:

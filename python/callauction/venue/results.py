@@ -4,7 +4,7 @@ from collections.abc import Iterable, Sequence
 from decimal import ROUND_HALF_UP, Decimal
 
 from callauction.venue import config
-from callauction.venue.instrument import Instrument
+from callauction.venue.instrument_board import InstrumentBoard
 from callauction.venue.members import Member
 from callauction.venue.rounds import Round
 
@@ -37,7 +37,7 @@ class Payoff:
     is_removed: bool = False
 
 
-def money_of(board: Instrument, ticks: int) -> Decimal:
+def money_of(board: InstrumentBoard, ticks: int) -> Decimal:
     """Ticks times shares as money."""
     return ticks * board.terms.grid.tick_size
 

@@ -8,7 +8,7 @@ from callauction.venue import clock
 from callauction.venue.chance import CHANCE
 from callauction.venue.gains import Value
 from callauction.venue.halts import Halts
-from callauction.venue.instrument import Instrument
+from callauction.venue.instrument_board import InstrumentBoard
 from callauction.venue.lasting import going_on
 from callauction.venue.members import Member, Members
 from callauction.venue.messages import MessageError, Order
@@ -47,7 +47,7 @@ class Robots:
                 for member, board in self._turns():
                     self._look(member, board)
 
-    def _look(self, member: Member, board: Instrument) -> None:
+    def _look(self, member: Member, board: InstrumentBoard) -> None:
         """Enters a robot's order where its time has come."""
         turn = member.name, board.identity.key, board.auctions.state.auction
         if turn not in self._due:
@@ -56,7 +56,7 @@ class Robots:
             self._due[turn] = float("inf")
             self._play(member, board)
 
-    def _turns(self) -> Iterator[tuple[Member, Instrument]]:
+    def _turns(self) -> Iterator[tuple[Member, InstrumentBoard]]:
         """The robots that may enter an order, and where."""
         robots = [it for it in self._members.all if it.robot]
         for board in self._rounds.now.boards.values():
@@ -65,7 +65,7 @@ class Robots:
                 here = (it for it in robots if it.group == board.identity.group)
                 yield from ((it, board) for it in here if not waits(it, board))
 
-    def _play(self, member: Member, board: Instrument) -> None:
+    def _play(self, member: Member, board: InstrumentBoard) -> None:
         """Enters a robot's order, unless it has one."""
         if board.commands.open_orders(member.name):
             return
@@ -80,18 +80,18 @@ class Robots:
         answer.add_done_callback(lambda it: it.cancelled() or it.exception())
 
 
-def waits(robot: Member, board: Instrument) -> bool:
+def waits(robot: Member, board: InstrumentBoard) -> bool:
     """Whether a robot does nothing until it has a value."""
     return robot.robot != "zero" and robot.name not in board.accounts.values
 
 
-def window(board: Instrument) -> float:
+def window(board: InstrumentBoard) -> float:
     """The seconds in which the robots enter their orders."""
     ends = board.auctions.state.ends
     return ENTRY_SECONDS if ends is None else min(ENTRY_SECONDS, MOST_SHARE * (ends - clock.now()))
 
 
-def record_of(kind: str, board: Instrument, member: str) -> str | None:
+def record_of(kind: str, board: InstrumentBoard, member: str) -> str | None:
     """The order of a robot after its number, None where it has none."""
     value = board.accounts.values.get(member)
     if value is None:
@@ -103,7 +103,7 @@ def record_of(kind: str, board: Instrument, member: str) -> str | None:
     return f"enter,{value.side},{min(left, board.terms.most_quantity)},{tick}"
 
 
-def tick_of(kind: str, value: Value, board: Instrument) -> int:
+def tick_of(kind: str, value: Value, board: InstrumentBoard) -> int:
     """The limit of a robot with a value."""
     is_bid = value.side == "bid"
     if kind == "truthful":
@@ -114,7 +114,7 @@ def tick_of(kind: str, value: Value, board: Instrument) -> int:
     return CHANCE.randint(min(ends), max(ends))
 
 
-def blind(board: Instrument) -> str:
+def blind(board: InstrumentBoard) -> str:
     """The order of a robot that has no value."""
     reference = board.looks.day.reference
     least = max(board.terms.low, reference - reference // 4)

@@ -7,7 +7,7 @@ from collections.abc import Callable, Iterable, Mapping, Sequence
 
 from callauction.venue import config
 from callauction.venue.gains import Value
-from callauction.venue.instrument import BoardIdentity, Common, Instrument
+from callauction.venue.instrument_board import BoardIdentity, Common, InstrumentBoard
 from callauction.venue.log import Line, Log, taking
 from callauction.venue.members import Member
 from callauction.venue.messages import MessageError
@@ -27,7 +27,7 @@ class Round:
 
     number: int
     treatment: Treatment
-    boards: dict[str, Instrument]
+    boards: dict[str, InstrumentBoard]
     message: str = ""
     places: dict[str, int] = dataclasses.field(default_factory=dict)
 
@@ -59,18 +59,18 @@ class Round:
         """Whether the last auctions of all boards were uncrossed."""
         return all(it.auctions.state.phase is Phase.OVER for it in self.boards.values())
 
-    def of_group(self, group: int) -> dict[str, Instrument]:
+    def of_group(self, group: int) -> dict[str, InstrumentBoard]:
         """The boards of a group."""
         return {name: it for name, it in self.boards.items() if it.identity.group == group}
 
-    def of_market(self, market: str) -> list[Instrument]:
-        """The boards of a market."""
-        return [it for it in self.boards.values() if it.identity.market == market]
+    def of_instrument(self, instrument: str) -> list[InstrumentBoard]:
+        """The boards of an instrument."""
+        return [it for it in self.boards.values() if it.identity.instrument == instrument]
 
-    def values(self, market: str) -> dict[str, Value]:
-        """The values that members have in a market."""
+    def values(self, instrument: str) -> dict[str, Value]:
+        """The values that members have in an instrument."""
         found: dict[str, Value] = {}
-        for it in self.of_market(market):
+        for it in self.of_instrument(instrument):
             found |= it.accounts.values
         return found
 
@@ -82,7 +82,7 @@ class Round:
         """Members who are in other groups from now on take their values with them."""
         self.places |= groups
         for board in self.boards.values():
-            others = {it.identity.group: it for it in self.of_market(board.identity.market)}
+            others = {it.identity.group: it for it in self.of_instrument(board.identity.instrument)}
             for name in [*board.accounts.values]:
                 if (group := groups.get(name, board.identity.group)) != board.identity.group:
                     value = board.accounts.values.pop(name)
@@ -104,7 +104,7 @@ class Rounds:
         self._day, self._log, self.all = day, log, list[Round]()
         self._common = Common(day, folder, program, log)
         self.restores = self._common.restores
-        self.on_board: Callable[[Instrument], None] = lambda board: None
+        self.on_board: Callable[[InstrumentBoard], None] = lambda board: None
 
     @property
     def now(self) -> Round:
@@ -125,12 +125,12 @@ class Rounds:
             self.add_group(found, group)
         return found
 
-    def add_group(self, round_: Round, group: int) -> list[Instrument]:
+    def add_group(self, round_: Round, group: int) -> list[InstrumentBoard]:
         """The boards of one group more."""
         added = []
         for terms in self._day.instruments:
             identity = BoardIdentity(terms.name, group, round_.number)
-            board = Instrument(identity, terms, round_.treatment, self._common)
+            board = InstrumentBoard(identity, terms, round_.treatment, self._common)
             self.on_board(board)
             round_.boards[identity.name] = board
             added.append(board)
@@ -172,15 +172,15 @@ class Rounds:
     # ---- boards
 
     @property
-    def boards(self) -> dict[str, Instrument]:
+    def boards(self) -> dict[str, InstrumentBoard]:
         """The boards of all rounds, by their keys."""
         return {it.identity.key: it for round_ in self.all for it in round_.boards.values()}
 
-    def boards_of(self, member: Member | None) -> dict[str, Instrument]:
+    def boards_of(self, member: Member | None) -> dict[str, InstrumentBoard]:
         """The boards that somebody sees: a member those of its group."""
         return self.now.boards if member is None else self.now.of_group(member.group)
 
-    def instrument_of(self, name: object, member: Member | None = None) -> Instrument:
+    def named_board(self, name: object, member: Member | None = None) -> InstrumentBoard:
         """The board of this name, or the only one; for a member, that of its own group. Raises
         MessageError.
         """
@@ -191,22 +191,22 @@ class Rounds:
         if name is None and len(own) == 1:
             return own[0]
         for it in own:
-            if member and name == it.identity.market:
+            if member and name == it.identity.instrument:
                 return it
         if name is None and own:
-            first = own[0].identity.market
+            first = own[0].identity.instrument
             text = f'name one of {len(own)} instruments, as "instrument": "{first}"'
             raise MessageError("unknown_instrument", text)
         raise MessageError("unknown_instrument")
 
-    def market_of(self, name: object) -> list[Instrument]:
-        """The boards of all groups in the market of this name, or in the only one. Raises
+    def named_boards(self, name: object) -> list[InstrumentBoard]:
+        """The boards of all groups with the instrument of this name, or with the only one. Raises
         MessageError.
         """
-        markets = {it.identity.market for it in self.now.boards.values()}
-        if name is None and len(markets) == 1:
-            return self.now.of_market(markets.pop())
-        return self.now.of_market(self.instrument_of(name).identity.market)
+        instruments = {it.identity.instrument for it in self.now.boards.values()}
+        if name is None and len(instruments) == 1:
+            return self.now.of_instrument(instruments.pop())
+        return self.now.of_instrument(self.named_board(name).identity.instrument)
 
     @property
     def are_seen(self) -> bool:
@@ -229,7 +229,7 @@ class Rounds:
             raise MessageError("not_known", RESUME_FIRST.format(", ".join(those)), boards=those)
 
     @property
-    def early_halts(self) -> list[tuple[Instrument, str]]:
+    def early_halts(self) -> list[tuple[InstrumentBoard, str]]:
         """The boards of earlier rounds that have halted before it was seen what they have, and why.
         """
         boards = [it for round_ in self.all[:-1] for it in round_.boards.values()]

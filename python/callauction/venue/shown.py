@@ -4,7 +4,7 @@ from collections.abc import Callable, Container, Iterable
 from callauction.venue.accounts import Fill
 from callauction.venue.arrivals import last_of
 from callauction.venue.auctions import trades_in
-from callauction.venue.instrument import Instrument
+from callauction.venue.instrument_board import InstrumentBoard
 from callauction.venue.json_types import Json
 from callauction.venue.members import Member, Members
 from callauction.venue.results import Payoff
@@ -23,222 +23,222 @@ MOST_TRADES = 500
 """The last trades that are shown unasked, and the trades of one look."""
 
 
-def price_of(instrument: Instrument, tick: int | None) -> str | None:
+def price_of(board: InstrumentBoard, tick: int | None) -> str | None:
     """A tick as a decimal price."""
-    return None if tick is None else instrument.terms.price(tick)
+    return None if tick is None else board.terms.price(tick)
 
 
-def indication_of(instrument: Instrument, found: Indication) -> Json:
+def indication_of(board: InstrumentBoard, found: Indication) -> Json:
     """The indicative price with its volume and surplus, or the best bid and ask."""
-    ticks = {name: price_of(instrument, getattr(found, name)) for name in ("price", "bid", "ask")}
+    ticks = {name: price_of(board, getattr(found, name)) for name in ("price", "bid", "ask")}
     return ticks | {"volume": found.volume, "surplus": found.surplus, "side": found.side}
 
 
-def results_of(instrument: Instrument) -> list[Json]:
+def results_of(board: InstrumentBoard) -> list[Json]:
     """What the uncrosses of the day came to: the auction, whether it was interrupted, the price,
     how many trades.
     """
     found = []
-    for text in instrument.auctions.results:
-        shown = indication_of(instrument, Indication.of(text))
+    for text in board.auctions.results:
+        shown = indication_of(board, Indication.of(text))
         shown["trades"] = trades_in(text)
         found.append({"auction": text.partition(" ")[0]} | shown)
     return found
 
 
-def state_of(instrument: Instrument, now: float) -> Json:
+def state_of(board: InstrumentBoard, now: float) -> Json:
     """What everybody may see: the phase, its clock, the indication, what uncrosses came to; without
     what isn't known yet.
     """
-    state = instrument.auctions.state
+    state = board.auctions.state
     found: Json = {
         "type": "state",
-        "instrument": instrument.terms.name,
+        "instrument": board.terms.name,
         "phase": str(state.phase),
         "auction": state.auction,
         "frozen": state.frozen is not None,
-        "halted": instrument.engine.halted,
+        "halted": board.engine.halted,
         "now": round(state.frozen or now, 3),
         "ends": state.ends,
         "latest": state.latest,
-        "reference": price_of(instrument, instrument.looks.day.reference),
-        "indication": indication_of(instrument, instrument.looks.indication),
-        "results": results_of(instrument),
-        "trades": len(instrument.looks.trades),
-        "left": instrument.looks.day.left,
-        "calls_left_to_members": max(0, instrument.commands.left),
-        "round": instrument.identity.round,
+        "reference": price_of(board, board.looks.day.reference),
+        "indication": indication_of(board, board.looks.indication),
+        "results": results_of(board),
+        "trades": len(board.looks.trades),
+        "left": board.looks.day.left,
+        "calls_left_to_members": max(0, board.commands.left),
+        "round": board.identity.round,
     }
-    return found if instrument.looks.is_seen else found | UNKNOWN
+    return found if board.looks.is_seen else found | UNKNOWN
 
 
-def terms_of(instrument: Instrument, has_groups: bool = False) -> Json:
+def terms_of(board: InstrumentBoard, has_groups: bool = False) -> Json:
     """What an instrument is; its title has the number of its group where there are more."""
-    terms, identity = instrument.terms, instrument.identity
+    terms, identity = board.terms, board.identity
     limits = {name: terms.price(getattr(terms, name)) for name in ("low", "high")}
-    title = terms.title or identity.market
+    title = terms.title or identity.instrument
     return limits | {
         "name": terms.name,
         "title": f"{title} · {identity.group}" if has_groups else title,
         "currency": terms.currency,
         "tick_size": format(terms.grid.tick_size, "f"),
-        "range": price_of(instrument, terms.range),
+        "range": price_of(board, terms.range),
         "most_quantity": terms.most_quantity,
     }
 
 
-def orders_of(instrument: Instrument, member: str) -> Json:
+def orders_of(board: InstrumentBoard, member: str) -> Json:
     """A member's open orders."""
     orders = [
         {
             "order": it.order,
             "side": it.side,
-            "price": price_of(instrument, it.limit),
+            "price": price_of(board, it.limit),
             "open": it.open,
             "visible": it.visible,
             "filled": it.filled,
             "only": it.only,
         }
-        for it in sorted(instrument.looks.orders.get(member, []), key=lambda it: it.order)
+        for it in sorted(board.looks.orders.get(member, []), key=lambda it: it.order)
     ]
-    return {"type": "orders", "instrument": instrument.terms.name, "orders": orders}
+    return {"type": "orders", "instrument": board.terms.name, "orders": orders}
 
 
-def fill_of(instrument: Instrument, it: Fill) -> Json:
+def fill_of(board: InstrumentBoard, it: Fill) -> Json:
     """A fill."""
     return {
         "trade": it.trade,
         "order": it.order,
         "side": it.side,
         "quantity": it.quantity,
-        "price": price_of(instrument, it.tick),
+        "price": price_of(board, it.tick),
     }
 
 
-def money_of(instrument: Instrument, ticks: int) -> str:
+def money_of(board: InstrumentBoard, ticks: int) -> str:
     """Ticks times shares as an amount of the currency."""
-    return format(ticks * instrument.terms.grid.tick_size, "f")
+    return format(ticks * board.terms.grid.tick_size, "f")
 
 
-def value_of(instrument: Instrument, member: str) -> Json | None:
+def value_of(board: InstrumentBoard, member: str) -> Json | None:
     """What a member was handed out, None where it has no value."""
-    value = instrument.accounts.values.get(member)
+    value = board.accounts.values.get(member)
     if value is None:
         return None
-    price = price_of(instrument, value.tick)
+    price = price_of(board, value.tick)
     return {"side": value.side, "price": price, "quantity": value.quantity}
 
 
-def gain_of(instrument: Instrument, member: str) -> str | None:
+def gain_of(board: InstrumentBoard, member: str) -> str | None:
     """What a member has gained, None where nobody was handed out a value."""
-    if not instrument.accounts.has_values:
+    if not board.accounts.has_values:
         return None
-    return money_of(instrument, instrument.accounts.gain_of(member))
+    return money_of(board, board.accounts.gain_of(member))
 
 
-def fills_of(instrument: Instrument, member: str) -> Json:
+def fills_of(board: InstrumentBoard, member: str) -> Json:
     """A member's fills, its value and how many shares more that covers, and its gain."""
-    fills = instrument.accounts.fills_of(member)
+    fills = board.accounts.fills_of(member)
     return {
         "type": "fills",
-        "instrument": instrument.terms.name,
-        "fills": [fill_of(instrument, it) for it in fills[-MOST_TRADES:]],
-        "value": value_of(instrument, member),
-        "left": instrument.accounts.left_of(member),
-        "gain": gain_of(instrument, member),
+        "instrument": board.terms.name,
+        "fills": [fill_of(board, it) for it in fills[-MOST_TRADES:]],
+        "value": value_of(board, member),
+        "left": board.accounts.left_of(member),
+        "gain": gain_of(board, member),
     }
 
 
 def trades_of(
-    instrument: Instrument, trades: Iterable[Trade], title_of: Callable[[str], str] | None = None
+    board: InstrumentBoard, trades: Iterable[Trade], title_of: Callable[[str], str] | None = None
 ) -> Json:
     """Trades, with who traded with whom where that is to be seen, by the titles of the members."""
-    found, party = [], instrument.book.of_order
+    found, party = [], board.book.of_order
     for it in trades:
-        price = price_of(instrument, it.tick)
+        price = price_of(board, it.tick)
         row: Json = {"trade": it.number, "quantity": it.quantity, "price": price}
         if title_of is not None:
             buyer, seller = (title_of(party(order)) for order in (it.bid, it.ask))
             row |= {"buyer": buyer, "seller": seller}
         found.append(row)
-    return {"type": "trades", "instrument": instrument.terms.name, "trades": found}
+    return {"type": "trades", "instrument": board.terms.name, "trades": found}
 
 
-def ladder_of(instrument: Instrument, is_whole: bool = False) -> Json:
+def ladder_of(board: InstrumentBoard, is_whole: bool = False) -> Json:
     """The visible shares at each limit, or the whole ones; no price for those of market orders."""
-    those = instrument.looks.levels if is_whole else instrument.looks.visible_levels
+    those = board.looks.levels if is_whole else board.looks.visible_levels
     levels = [
-        {"price": price_of(instrument, it.limit), "bid": it.bid, "ask": it.ask}
+        {"price": price_of(board, it.limit), "bid": it.bid, "ask": it.ask}
         for it in those
     ]
-    return {"type": "ladder", "instrument": instrument.terms.name, "levels": levels}
+    return {"type": "ladder", "instrument": board.terms.name, "levels": levels}
 
 
-def course_of(instrument: Instrument) -> Json:
+def course_of(board: InstrumentBoard) -> Json:
     """The indicative price since the call began, with the times of the epoch."""
     points = [
         {
             "time": round(it.time, 2),
-            "price": price_of(instrument, it.indication.price),
+            "price": price_of(board, it.indication.price),
             "volume": it.indication.volume,
         }
-        for it in instrument.auctions.course
+        for it in board.auctions.course
     ]
     return {
         "type": "course",
-        "instrument": instrument.terms.name,
-        "began": instrument.auctions.began,
+        "instrument": board.terms.name,
+        "began": board.auctions.began,
         "points": points,
     }
 
 
-def efficiency_of(instrument: Instrument, title_of: Callable[[str], str]) -> Json:
+def efficiency_of(board: InstrumentBoard, title_of: Callable[[str], str]) -> Json:
     """The gain of all members, the most that was possible where values were given, the whole
     percent of it that was gained; the prices and the volume that the values predict; who gained
     most.
     """
-    gain, most = instrument.accounts.gain, instrument.accounts.most
+    gain, most = board.accounts.gain, board.accounts.most
     return {
         "type": "efficiency",
-        "instrument": instrument.terms.name,
-        "gain": money_of(instrument, gain),
-        "most": money_of(instrument, most),
+        "instrument": board.terms.name,
+        "gain": money_of(board, gain),
+        "most": money_of(board, most),
         "percent": 100 * gain // most if most > 0 else None,
-        "predicted": predicted_of(instrument),
-        "gains": gains_of(instrument, title_of),
+        "predicted": predicted_of(board),
+        "gains": gains_of(board, title_of),
     }
 
 
-def gains_of(instrument: Instrument, title_of: Callable[[str], str]) -> list[Json]:
+def gains_of(board: InstrumentBoard, title_of: Callable[[str], str]) -> list[Json]:
     """Who gained most, by the titles of the members, where values were given; who gained as much
     has the same rank.
     """
-    if not instrument.accounts.has_values:
+    if not board.accounts.has_values:
         return []
-    found = [(instrument.accounts.gain_of(it), title_of(it)) for it in instrument.book.numbers]
+    found = [(board.accounts.gain_of(it), title_of(it)) for it in board.book.numbers]
     found.sort(key=lambda it: -it[0])
     falling = [gain for gain, _ in found]
     return [
-        {"rank": 1 + falling.index(gain), "name": title, "gain": money_of(instrument, gain)}
+        {"rank": 1 + falling.index(gain), "name": title, "gain": money_of(board, gain)}
         for gain, title in found[:MOST_GAINS]
         if gain > 0
     ]
 
 
-def predicted_of(instrument: Instrument) -> Json | None:
+def predicted_of(board: InstrumentBoard) -> Json | None:
     """The prices and the volume that the values predict, the most of it too, None where they
     predict no trade.
     """
-    found = instrument.accounts.predicted
+    found = board.accounts.predicted
     if found is None:
         return None
-    low, high = (price_of(instrument, it) for it in (found.low, found.high))
+    low, high = (price_of(board, it) for it in (found.low, found.high))
     return {"low": low, "high": high, "volume": found.volume, "most_volume": found.most}
 
 
-def halt_of(instrument: Instrument, why: str) -> Json:
+def halt_of(board: InstrumentBoard, why: str) -> Json:
     """What is said of a board of an earlier round that has halted."""
-    identity = instrument.identity
+    identity = board.identity
     return {"instrument": identity.name, "round": identity.round, "why": why}
 
 

@@ -6,7 +6,7 @@ import contextlib
 from collections.abc import Callable, Coroutine, Iterator
 from typing import Any
 
-from callauction.venue.instrument import Instrument
+from callauction.venue.instrument_board import InstrumentBoard
 from callauction.venue.leaving import withdrawn
 from callauction.venue.log import Line
 from callauction.venue.messages import MessageError
@@ -42,7 +42,7 @@ class Starts:
 
     # ---- one board
 
-    async def opened(self, board: Instrument, lines: list[Line]) -> Settled | None:
+    async def opened(self, board: InstrumentBoard, lines: list[Line]) -> Settled | None:
         """What became of a board's messages; None where its journal isn't the one of which the log
         knows: it halts then, until that is put back. Raises what Engine.open raises.
         """
@@ -58,7 +58,7 @@ class Starts:
         self.waiting.pop(key, None)
         return found
 
-    async def open_new(self, board: Instrument) -> None:
+    async def open_new(self, board: InstrumentBoard) -> None:
         """Starts the program of a new board, which halts where that fails."""
         try:
             await board.engine.open([], Mark())
@@ -70,7 +70,7 @@ class Starts:
                 self.waiting[board.identity.key] = []
             board.engine.halt_by(fault)
 
-    async def begin(self, board: Instrument) -> None:
+    async def begin(self, board: InstrumentBoard) -> None:
         """Begins to look at a board, and deletes there what was left where the venue was killed as
         it removed somebody; one of an earlier round is looked at once. Raises ProcessError.
         """
@@ -84,7 +84,7 @@ class Starts:
         await board.looks.look()
         await board.end()
 
-    async def _open_again(self, board: Instrument) -> None:
+    async def _open_again(self, board: InstrumentBoard) -> None:
         """Opens a board whose journal was put back, or whose program may begin now, or halts again.
         """
         key = board.identity.key
@@ -106,15 +106,15 @@ class Starts:
 
     # ---- what has halted
 
-    async def resume(self, market: str | None = None) -> list[str]:
-        """Tries again what had halted, of the boards those of one market where it is named, and
+    async def resume(self, instrument: str | None = None) -> list[str]:
+        """Tries again what had halted, of the boards those of one instrument where it is named, and
         waits for what comes of it: what that was. Raises MessageError with the reason of what has
         halted again.
         """
         halted = [
             it
             for it in self._rounds.boards.values()
-            if market in (None, it.identity.market) and self._has_halted(it)
+            if instrument in (None, it.identity.instrument) and self._has_halted(it)
         ]
         resumed = ["the venue"] * (self._halts.halted is not None)
         resumed += [it.identity.key for it in halted]
@@ -140,7 +140,7 @@ class Starts:
             raise MessageError("halted", text)
         return resumed
 
-    async def _resumed(self, board: Instrument) -> None:
+    async def _resumed(self, board: InstrumentBoard) -> None:
         """Waits for what comes of a board that is tried again, and begins with one that had halted
         before that was done. Raises OSError where the log can't be written.
         """
@@ -154,7 +154,7 @@ class Starts:
                 except ProcessError as fault:
                     board.engine.halt(str(fault))
 
-    def _has_halted(self, board: Instrument) -> bool:
+    def _has_halted(self, board: InstrumentBoard) -> bool:
         """Whether a board of this round, or one that wasn't seen yet, has halted, or it isn't known
         what its journal has.
         """

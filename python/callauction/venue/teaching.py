@@ -29,7 +29,7 @@ from callauction.limits import MOST_QUANTITY
 from callauction.venue.auctions import Auctions
 from callauction.venue.fields import SENTENCE, ConfigError, Fields, flaw_of
 from callauction.venue.handing import HANDING_WAYS, HandError, ListedValue, Rule, named, rows_of
-from callauction.venue.instrument import Instrument
+from callauction.venue.instrument_board import InstrumentBoard
 from callauction.venue.json_types import Json
 from callauction.venue.log import SOURCE
 from callauction.venue.logger import NOTICES
@@ -102,12 +102,12 @@ def say(level: int, message: dict[str, Any], outcome: str = "") -> None:
 
 
 async def step(venue: Venue, word: str, message: dict[str, Any]) -> Json:
-    """Goes on with the auction of all groups of a market in which that can be done. Raises
+    """Goes on with the auction of all groups of an instrument in which that can be done. Raises
     MessageError and PhaseError.
     """
     if word not in (*STEPS, "uncross", "extend"):
         raise MessageError("bad_message", f"the operator can't {word}")
-    boards = venue.rounds.market_of(message.get("instrument"))
+    boards = venue.rounds.named_boards(message.get("instrument"))
     venue.halts.check_running()
     seconds = number_of(message, "seconds", 1, MOST_CALL_SECONDS) if word == "extend" else 0
     seen = message.get("phase")
@@ -134,7 +134,7 @@ async def step(venue: Venue, word: str, message: dict[str, Any]) -> Json:
     return {"reply": next(iter(replies.values())), "replies": replies}
 
 
-def check_seen(board: Instrument, seen: object) -> None:
+def check_seen(board: InstrumentBoard, seen: object) -> None:
     """Raises PhaseError where the phase isn't the one that the operator has seen."""
     if seen is not None and seen != str(board.auctions.state.phase):
         raise PhaseError(f"the phase is {board.auctions.state.phase} and no longer {seen}")
@@ -209,8 +209,8 @@ async def resume(venue: Venue, message: dict[str, Any]) -> Json:
     Raises MessageError where it halts again.
     """
     name = message.get("instrument")
-    market = None if name is None else venue.rounds.market_of(name)[0].identity.market
-    return {"resumed": await venue.starts.resume(market)}
+    instrument = None if name is None else venue.rounds.named_boards(name)[0].identity.instrument
+    return {"resumed": await venue.starts.resume(instrument)}
 
 
 # ---- members
@@ -301,21 +301,21 @@ async def give(venue: Venue, message: dict[str, Any]) -> Json:
     HandError where they can't be handed out so.
     """
     rule = rule_of(message)
-    market = venue.rounds.market_of(message.get("instrument"))[0].identity.market
+    instrument = venue.rounds.named_boards(message.get("instrument"))[0].identity.instrument
     rows, absent = named(rule.rows, {it.title: it.name for it in venue.members.all})
     rule = dataclasses.replace(rule, rows=rows)
-    held = venue.rounds.now.values(market)
+    held = venue.rounds.now.values(instrument)
     whom = text_of(message, "to", "named" if rule.how == "list" else "all")
     members = receivers(venue, rule, message, whom, held)
     losing = held if whom == "all" else {it.name for it in members} & held.keys()
     if losing and message.get("replace") is not True:
         raise losing_values(venue, members, held, len(losing))
-    venue.values.check_listed(market, absent)
+    venue.values.check_listed(instrument, absent)
     given = 0
     if rows or not absent:
-        given = await venue.values.give(market, rule, members, held, whom == "all")
+        given = await venue.values.give(instrument, rule, members, held, whom == "all")
     if rule.how == "list" or whom == "all":
-        venue.values.keep_listed(market, absent, whom == "all")
+        venue.values.keep_listed(instrument, absent, whom == "all")
         venue.values.give_listed(venue.members.all)  # who joined meanwhile
     return {"given": given, "absent": [it.member for it in absent]}
 

@@ -5,7 +5,7 @@ import math
 from collections.abc import Iterable
 
 from callauction.venue import clock
-from callauction.venue.instrument import Instrument
+from callauction.venue.instrument_board import InstrumentBoard
 from callauction.venue.log import Line, Log, taking
 from callauction.venue.logger import NOTICES
 
@@ -62,7 +62,7 @@ class Timekeeper:
             NOTICES.warning(text)
         return line
 
-    def say_late(self, board: Instrument) -> tuple[str, str]:
+    def say_late(self, board: InstrumentBoard) -> tuple[str, str]:
         """Says of a call of this round that its end has passed before those who were away could do
         anything, and what comes of it: both.
         """
@@ -83,7 +83,7 @@ class Timekeeper:
             NOTICES.warning(CLOCK_SET, direction_of(ahead, " of"))
             self._log.note(kind="clock_set", ahead=ahead)
 
-    def note(self, boards: Iterable[Instrument]) -> None:
+    def note(self, boards: Iterable[InstrumentBoard]) -> None:
         """Writes the time while a call has an end: what is left of it is known from then, where the
         machine's clock is set back before the next start.
         """

@@ -5,7 +5,7 @@ import dataclasses
 from callauction.venue.audience import Audience
 from callauction.venue.gains import Value
 from callauction.venue.handing import ListedValue, Rule, named
-from callauction.venue.instrument import Instrument
+from callauction.venue.instrument_board import InstrumentBoard
 from callauction.venue.log import Line, Log
 from callauction.venue.members import Member, Members
 from callauction.venue.names import folded
@@ -15,8 +15,8 @@ ListedRows = tuple[ListedValue, ...]
 
 
 class Values:
-    """The rounds whose values were handed out, by their numbers, and by rounds and markets the rows
-    of lists for who hasn't joined yet.
+    """The rounds whose values were handed out, by their numbers, and by rounds and instruments the
+    rows of lists for who hasn't joined yet.
     """
 
     def __init__(self, log: Log, members: Members, rounds: Rounds, audience: Audience) -> None:
@@ -40,7 +40,7 @@ class Values:
 
     # ---- those of a round
 
-    async def begin_call(self, boards: list[Instrument]) -> None:
+    async def begin_call(self, boards: list[InstrumentBoard]) -> None:
         """Hands out the values of the first round before its first call, and sees all that was
         done. Raises MessageError.
         """
@@ -58,11 +58,11 @@ class Values:
 
     def give_round(self, before: dict[str, dict[str, Value]]) -> None:
         """Hands out the values of a round before its first call, once, where members had others
-        before, by markets.
+        before, by instruments.
         """
         now = self._rounds.now
         for board in now.boards.values():
-            held = before.get(board.identity.market, {})
+            held = before.get(board.identity.instrument, {})
             board.hand(board.dealt(now.treatment.rule, self._members.all, held), True)
         self._dealt.add(now.number)
         self._log.note(kind="dealt", round=now.number)
@@ -71,7 +71,7 @@ class Values:
 
     async def give(
         self,
-        market: str,
+        instrument: str,
         rule: Rule,
         members: list[Member],
         before: dict[str, Value],
@@ -81,7 +81,7 @@ class Values:
         HandError where the rule can't be followed.
         """
         given = 0
-        for board in self._rounds.now.of_market(market):
+        for board in self._rounds.now.of_instrument(instrument):
             values = board.dealt(rule, members, before)
             if values or is_to_all:
                 await board.give(values, is_to_all)
@@ -89,44 +89,44 @@ class Values:
             given += len(values)
         return given
 
-    def check_listed(self, market: str, rows: ListedRows) -> None:
-        """Raises HandError where the rows of a list can't be given in a market."""
+    def check_listed(self, instrument: str, rows: ListedRows) -> None:
+        """Raises HandError where the rows of a list can't be given in an instrument."""
         if rows:
-            tick = self._rounds.now.of_market(market)[0].terms.value_tick
+            tick = self._rounds.now.of_instrument(instrument)[0].terms.value_tick
             Rule("list", rows=rows).check(tick)
 
-    def keep_listed(self, market: str, rows: ListedRows, is_to_all: bool) -> None:
+    def keep_listed(self, instrument: str, rows: ListedRows, is_to_all: bool) -> None:
         """Keeps the rows of a list for those who haven't joined yet, in place of all that are kept
         where it is to all, else of those for the same names.
         """
         now = self._rounds.now
-        names, held = {folded(it.member) for it in rows}, self._listed_in(now, market)
+        names, held = {folded(it.member) for it in rows}, self._listed_in(now, instrument)
         before = () if is_to_all else held
         kept = (*(it for it in before if folded(it.member) not in names), *rows)
         if kept == held:
             return
-        self._listed[now.number, market] = kept
+        self._listed[now.number, instrument] = kept
         lines = [dataclasses.asdict(it) for it in kept]
-        self._log.note(kind="listed", round=now.number, market=market, rows=lines)
+        self._log.note(kind="listed", round=now.number, market=instrument, rows=lines)
 
-    def _listed_in(self, round_: Round, market: str) -> ListedRows:
+    def _listed_in(self, round_: Round, instrument: str) -> ListedRows:
         """The rows that wait in a round: also those of the last one where values are kept, and
         those of the round's own list once it is handed out.
         """
-        if (rows := self._listed.get((round_.number, market))) is not None:
+        if (rows := self._listed.get((round_.number, instrument))) is not None:
             return rows
         rule = round_.treatment.rule
         if rule.how == "list" and round_.number in self._dealt:
             return rule.rows
         if rule.how == "keep" and round_.number > 1:
-            return self._listed_in(self._rounds.all[round_.number - 2], market)
+            return self._listed_in(self._rounds.all[round_.number - 2], instrument)
         return ()
 
     def give_listed(self, newcomers: list[Member]) -> None:
         """Hands out to members who have no value the one that waits for them in a list."""
         titles = {it.title: it.name for it in newcomers}
         for board in self._rounds.now.boards.values():
-            rows, _ = named(self._listed_in(self._rounds.now, board.identity.market), titles)
+            rows, _ = named(self._listed_in(self._rounds.now, board.identity.instrument), titles)
             members = [it for it in newcomers if it.name not in board.accounts.values]
             if rows and (values := board.dealt(Rule("list", rows=rows), members, {})):
                 board.hand(values, False)

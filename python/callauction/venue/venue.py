@@ -13,7 +13,7 @@ from callauction.venue.auctions import TICK
 from callauction.venue.audience import Audience
 from callauction.venue.groups import Groups
 from callauction.venue.halts import Halts
-from callauction.venue.instrument import Instrument
+from callauction.venue.instrument_board import InstrumentBoard
 from callauction.venue.lasting import going_on
 from callauction.venue.leaving import Removal
 from callauction.venue.log import VERSION, Log, check_version
@@ -36,7 +36,7 @@ CLOSE_SECONDS, LOG_SECONDS = 3.25, 0.5
 """How long the end of the venue waits for its programs and fronts, then for the log's last lines.
 """
 LOG = "venue.log"
-Heard = Callable[[Instrument, Message, Entry | None], None]
+Heard = Callable[[InstrumentBoard, Message, Entry | None], None]
 """What is called with each message of a board once it has its entry; also with those of earlier
 runs, as the venue opens, and then with None for one that was never executed.
 """
@@ -74,7 +74,7 @@ class Venue:
         self.starts.on_reopened = self.groups.begin
         self.rounds.all.append(self.rounds.new(1, day.treatment(1)))
 
-    def _connect(self, board: Instrument) -> None:
+    def _connect(self, board: InstrumentBoard) -> None:
         """Hears of a new board, which hears of the audience and the members."""
         looks, auctions, audience = board.looks, board.auctions, self.audience
         board.engine.on_change = functools.partial(self._changed, board)
@@ -85,7 +85,7 @@ class Venue:
         auctions.on_late = functools.partial(self._is_late, board)
         auctions.has_venue_halted = lambda: self.halts.halted is not None
 
-    def _codes_of(self, board: Instrument) -> list[str]:
+    def _codes_of(self, board: InstrumentBoard) -> list[str]:
         """The code of the class, where there is one, and the names that have a code of their own
         and are on a board, or may come to it: as many as it takes.
         """
@@ -97,7 +97,7 @@ class Venue:
         has_class = self.day.members.is_open or "" in self.members.codes.by_name
         return [*[shares.CLASS_CODE] * has_class, *names]
 
-    def _changed(self, board: Instrument) -> None:
+    def _changed(self, board: InstrumentBoard) -> None:
         """A program halted or runs again, or the venue."""
         self.halts.say(board.identity.key, board.engine.halted)
         self.audience.show_changed(board)
@@ -107,7 +107,7 @@ class Venue:
         for board in self.rounds.now.boards.values():
             self._changed(board)
 
-    def _is_late(self, board: Instrument) -> None:
+    def _is_late(self, board: InstrumentBoard) -> None:
         """A call has ended before those who were away could do anything."""
         self.audience.standing.late[board.identity.name] = self.time.say_late(board)
         self.audience.standing.show_to_operator()
@@ -344,15 +344,15 @@ class Venue:
         """
         if member.is_removed:
             raise MessageError("bad_token")
-        instrument = self.rounds.instrument_of(order.instrument, member)
-        market = instrument.identity.market
+        board = self.rounds.named_board(order.instrument, member)
+        instrument = board.identity.instrument
         if done := member.done.get(order.number):
-            if (done.instrument, done.record) != (market, order.record):
+            if (done.instrument, done.record) != (instrument, order.record):
                 raise MessageError("number_used")
             return done.answer, True
         self.halts.check_running()
-        answer = instrument.submit(member.name, order)
-        member.keep(order.number, Done(market, order.record, answer))
+        answer = board.submit(member.name, order)
+        member.keep(order.number, Done(instrument, order.record, answer))
         return answer, False
 
     def lesson(self, program: str) -> downloads.Lesson:

@@ -1,4 +1,4 @@
-"""An instrument of a venue, in a round and for a group of members: its program, its auctions, what
+"""The board of an instrument in a round, for a group of members: its program, its auctions, what
 members send to it, and what its program last showed.
 """
 import asyncio
@@ -33,18 +33,18 @@ LAST_SECONDS = 0.5
 
 @dataclasses.dataclass(frozen=True)
 class BoardIdentity:
-    """Which board an instrument has: its market, which is its name in the day's file; its group,
-    from 1; its round, from 1.
+    """Which board it is: its instrument, by the name in the day's file; its group, from 1; its
+    round, from 1.
     """
 
-    market: str
+    instrument: str
     group: int = 1
     round: int = 1
 
     @functools.cached_property
     def name(self) -> str:
         """Its name among the boards of a round."""
-        return self.market if self.group == 1 else f"{self.market}.{self.group}"
+        return self.instrument if self.group == 1 else f"{self.instrument}.{self.group}"
 
     @functools.cached_property
     def key(self) -> str:
@@ -65,9 +65,9 @@ class Common:
     restores: list[Line] = dataclasses.field(default_factory=list)
 
 
-class Instrument:
-    """An instrument of a day in a round, which follows from the log and from its journal in the
-    folder; its program isn't started yet.
+class InstrumentBoard:
+    """A board of an instrument, which follows from the log and from its journal in the folder; its
+    program isn't started yet.
     """
 
     def __init__(
