@@ -135,6 +135,7 @@ def test_a_name_with_a_second_meaning_in_its_crate(
     ("LIMIT: int = 1\n", "MARKET, LIMIT = 0, 1\n"),
     ("LIMIT = 1\n", "TYPES = MARKET, LIMIT = (0, 1)\n"),
     ("class LIMIT:\n    pass\n", "LIMIT = list[int]\n"),
+    ("def LIMIT() -> int:\n    return 1\n", "async def LIMIT() -> int:\n    return 1\n"),
 ])
 def test_a_name_with_a_second_meaning_in_python(
     tmp_path: pathlib.Path, first: str, second: str
@@ -152,6 +153,9 @@ def test_names_of_python_that_have_one_meaning(tmp_path: pathlib.Path) -> None:
         "python/callauction/verdict/one.py": "LIMIT = 1\nLIMIT = 2\n_MOST = 3\n",
         "python/callauction/verdict/other.py": "from one import LIMIT\n_MOST = 4\n",
         "python/callauction/verdict/third.py": "def made() -> None:\n    LIMIT = 5\n",
+        "python/callauction/verdict/__main__.py": "def main() -> int:\n    return _made()\n",
+        "python/callauction/verdict/fourth.py": "def main() -> int:\n    return 1\n",
+        "python/callauction/verdict/fifth.py": "class Other:\n    def made(self) -> int: ...\n",
         "python/callauction/other/one.py": "LIMIT = 6\n",
         "python/tests/test_one.py": "LIMIT = 7\n",
         "python/tests/test_other.py": "LIMIT = 8\n",

@@ -180,7 +180,11 @@ def names_of_two_modules(tree: Tree) -> Iterator[str]:
 
 
 def declared(node: ast.stmt) -> set[str]:
-    """The public constants and types that a statement at the margin of a module of Python makes."""
+    """The public constants, types and functions that a statement at the margin of a module of
+    Python makes, but for a command's `main`.
+    """
+    if isinstance(node, ast.FunctionDef | ast.AsyncFunctionDef):
+        return {node.name} - {"main"} if not node.name.startswith("_") else set()
     if isinstance(node, ast.ClassDef):
         names = {node.name}
     elif isinstance(node, ast.Assign | ast.AnnAssign):
@@ -192,8 +196,8 @@ def declared(node: ast.stmt) -> set[str]:
 
 
 def names_of_python(tree: Tree) -> Iterator[tuple[str, str, pathlib.Path, int]]:
-    """The public constants and types of callauction: the folder of each in it, its name, file and
-    line.
+    """The public constants, types and functions of callauction: the folder of each in it, its name,
+    file and line.
     """
     package = tree.top / "python/callauction"
     for file in (it for it in tree.python if package in it.parents):
@@ -203,7 +207,9 @@ def names_of_python(tree: Tree) -> Iterator[tuple[str, str, pathlib.Path, int]]:
 
 
 def names_of_two_python_modules(tree: Tree) -> Iterator[str]:
-    """Public constants and types whose name two modules of a package of callauction have."""
+    """Names of public constants, types and functions that two modules of a package of callauction
+    have.
+    """
     places: dict[tuple[str, str], dict[pathlib.Path, str]] = collections.defaultdict(dict)
     for folder, name, file, line in names_of_python(tree):
         places[folder, name].setdefault(file, f"{tree.name(file)}:{line}")

@@ -81,7 +81,7 @@ def main(words: list[str] | None = None) -> int:
     except ProgramError as fault:
         return _fail("\n".join([fault.text, *getattr(fault, "__notes__", [])]), fault.status)
     except (OSError, MemoryError, ModuleNotFoundError) as fault:
-        return _fail(needed.said(fault) or "out of memory", FAILED)
+        return _fail(needed.said_of_fault(fault) or "out of memory", FAILED)
     except _BAD_FILES as fault:
         return _fail(str(fault), BAD_FILE)
     except ValueError as fault:
@@ -313,7 +313,8 @@ def _journal(asked: argparse.Namespace) -> "Journal":
     """The journal of a CSV file of order events. Raises ValueError."""
     from callauction import journal
 
-    frame, said = command.plain_table(_content(asked.file), asked), command.reading_of(asked).said
+    frame = command.plain_table(_content(asked.file), asked)
+    said = command.reading_asked(asked).said
     options: dict[str, Any] = {name: said(getattr(asked, name)) for name in CONVERTED}
     return journal.from_frame(frame, said(asked.tick_size), watch=_watch("rows"), **options)
 

@@ -4,7 +4,7 @@ from callauction.carried import CarriedOver
 from callauction.day_frames import DayTables, written_day
 from callauction.program import Day
 from callauction.reading import reply_of
-from callauction.replayed import carried_over, uncrossed_orders
+from callauction.replayed import carried_over_after, uncrossed_orders
 from callauction.words import AuctionKind, Config
 from callauction.written import command_of
 
@@ -31,7 +31,7 @@ class BoardDay(DayTables):
         Auction.carried_over: the board's calls are applied to an auction once more. Raises
         MemoryError.
         """
-        return carried_over(self.config, self.history)
+        return carried_over_after(self.config, self.history)
 
     def day(self) -> Day:
         """The history as a journal."""

@@ -12,19 +12,8 @@ from callauction.arrays import COMMAND, REPLY, Structs
 from callauction.limits import MOST_CALLS
 from callauction.program import Day
 from callauction.progress import Progress
-from callauction.tables import journal_of
-from callauction.words import (
-    RESTRICTION_WORDS,
-    SIDE_WORDS,
-    TAG_WORDS,
-    AuctionKind,
-    CommandTag,
-    NoPrice,
-    Price,
-    ReplyTag,
-    Restriction,
-    Side,
-)
+from callauction.tables import commands_of, journal_of
+from callauction.words import AuctionKind, CommandTag, NoPrice, Price, ReplyTag, Side
 
 if TYPE_CHECKING:
     from callauction.auction import Auction
@@ -124,21 +113,6 @@ def opened(journal: pandas.DataFrame) -> "Auction":
     return Auction(
         day["low"], day["high"], day["reference"], day["open"], MOST_CALLS, range=day["range"]
     )
-
-
-def commands_of(journal: pandas.DataFrame) -> Structs:
-    """The commands of a journal's frame: an array of COMMAND of its length."""
-    commands = numpy.zeros(len(journal), COMMAND)
-    commands["member"] = journal["member"]
-    commands["tag"] = journal["command"].map(TAG_WORDS)
-    commands["id"] = journal["id"].fillna(journal["number"]).fillna(0)
-    commands["side"] = journal["side"].map(SIDE_WORDS).fillna(Side.NONE)
-    commands["restriction"] = journal["only"].map(RESTRICTION_WORDS).fillna(Restriction.NONE)
-    for name in ("quantity", "limit", "peak"):
-        commands[name] = journal[name].fillna(0)
-    commands["has_limit"] = journal["limit"].notna()
-    commands["has_peak"] = journal["peak"].notna()
-    return commands
 
 
 # ---- the reference

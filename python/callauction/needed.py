@@ -8,7 +8,7 @@ PACKAGES = ("numpy", "pandas", "tqdm", "matplotlib")
 """The modules whose packages have their names: python3-NAME of Debian, and NAME of pip."""
 
 
-def said(fault: BaseException) -> str:
+def said_of_fault(fault: BaseException) -> str:
     """What a fault says, and where a module that is missing is to be had."""
     name = fault.name or "" if isinstance(fault, ModuleNotFoundError) else ""
     if name.partition(".")[0] not in PACKAGES:
@@ -24,5 +24,5 @@ def check_start() -> None:
         for name in ("numpy", "pandas"):
             importlib.import_module(name)
     except ModuleNotFoundError as fault:
-        print(f"callauction: {said(fault)}", file=sys.stderr)
+        print(f"callauction: {said_of_fault(fault)}", file=sys.stderr)
         sys.exit(FAILED)

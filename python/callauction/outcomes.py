@@ -10,9 +10,9 @@ import numpy
 import pandas
 
 from callauction.arrays import COMMAND, Structs
-from callauction.course import commands_of, opened
+from callauction.course import opened
 from callauction.program import Day
-from callauction.tables import journal_of
+from callauction.tables import commands_of, journal_of
 from callauction.words import AuctionKind, CommandTag, ReplyTag, Restriction, Side
 
 OUTCOMES = {

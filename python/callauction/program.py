@@ -54,7 +54,7 @@ class FailedError(ProgramError):
         super().__init__(text, FAILED)
 
 
-def program() -> str:
+def found_program() -> str:
     """The path of the program (callauction.finder). Raises FailedError where there is none."""
     try:
         return finder.program()
@@ -125,19 +125,19 @@ class Day:
 def _answer(words: list[str], content: bytes) -> tuple[int, str]:
     """The status, DONE, UNLAWFUL or INCOMPLETE, and what is printed. Raises ProgramError."""
     try:
-        ran = subprocess.run([program(), *words], input=content, capture_output=True)
+        ran = subprocess.run([found_program(), *words], input=content, capture_output=True)
     except OSError as fault:
         raise FailedError(f"callboard can't be run: {fault.strerror}") from None
     if ran.returncode in (DONE, UNLAWFUL, INCOMPLETE):
         return ran.returncode, ran.stdout.decode("ascii")
     text, *causes = ran.stderr.decode("utf-8", "replace").strip().splitlines() or [""]
-    refused = fault_of(text, ran.returncode)
+    refused = run_fault(text, ran.returncode)
     for cause in causes:
         refused.add_note(cause)
     raise refused
 
 
-def fault_of(text: str, status: int) -> ProgramError:
+def run_fault(text: str, status: int) -> ProgramError:
     """The exception of a run that ended with this status and this line; a second line, which has
     the likely cause, is a note of it.
     """

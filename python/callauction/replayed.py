@@ -26,7 +26,7 @@ def uncrossed_orders(config: Config, history: Structs, kind: AuctionKind) -> Str
     return outcomes
 
 
-def carried_over(config: Config, history: Structs) -> CarriedOver:
+def carried_over_after(config: Config, history: Structs) -> CarriedOver:
     """What is left for the next day after a history, an array of ENTRY, whose calls are applied to
     an auction once more. Raises MemoryError.
     """

@@ -9,11 +9,12 @@ import io
 import os
 import re
 
+import numpy
 import pandas
 
-from callauction.arrays import Structs
-from callauction.columns import commands
+from callauction.arrays import COMMAND, Structs
 from callauction.program import Day, ProgramError
+from callauction.words import RESTRICTION_WORDS, SIDE_WORDS, TAG_WORDS, Restriction, Side
 
 TRADES = {
     "trade": "int64",
@@ -184,10 +185,18 @@ def whole_lines_of(day: Day) -> Day:
 
 
 def commands_of(journal: pandas.DataFrame) -> Structs:
-    """The commands of a frame of journal_of, as an array of COMMAND."""
-    named = {name: journal[name] for name in ("member", "side", "quantity", "limit", "peak")}
-    ids = journal["id"].fillna(journal["number"])
-    return commands(named, tag=journal["command"], id=ids, restriction=journal["only"])
+    """The commands of a frame of journal_of: an array of COMMAND of its length."""
+    commands = numpy.zeros(len(journal), COMMAND)
+    commands["member"] = journal["member"]
+    commands["tag"] = journal["command"].map(TAG_WORDS)
+    commands["id"] = journal["id"].fillna(journal["number"]).fillna(0)
+    commands["side"] = journal["side"].map(SIDE_WORDS).fillna(Side.NONE)
+    commands["restriction"] = journal["only"].map(RESTRICTION_WORDS).fillna(Restriction.NONE)
+    for name in ("quantity", "limit", "peak"):
+        commands[name] = journal[name].fillna(0)
+    commands["has_limit"] = journal["limit"].notna()
+    commands["has_peak"] = journal["peak"].notna()
+    return commands
 
 
 def _typed(column: "pandas.Series", kind: str) -> "pandas.Series":

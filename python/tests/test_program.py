@@ -25,9 +25,9 @@ def test_the_variable_comes_before_the_path(
     monkeypatch.delenv(finder.VARIABLE)
     held = script(tmp_path / "held", "echo held")
     monkeypatch.setattr(finder, "HELD", held)
-    assert program.program() == str(held)
+    assert program.found_program() == str(held)
     monkeypatch.setattr(finder, "HELD", tmp_path / "none")
-    assert program.program() == str(on_path)
+    assert program.found_program() == str(on_path)
 
 
 def test_else_it_is_the_one_of_the_repository(
@@ -38,9 +38,9 @@ def test_else_it_is_the_one_of_the_repository(
     monkeypatch.setattr(finder, "HELD", tmp_path / "none")
     monkeypatch.setattr(finder, "BUILT", tmp_path / "callboard")
     with pytest.raises(FailedError, match="^there is no program callboard: build it"):
-        program.program()
+        program.found_program()
     built = script(tmp_path / "callboard", "exit 0")
-    assert program.program() == str(built)
+    assert program.found_program() == str(built)
 
 
 def test_a_name_without_a_program_is_told(tmp_path: Path, monkeypatch: pytest.MonkeyPatch) -> None:
@@ -65,7 +65,7 @@ def test_a_run_that_failed_is_told(
 
 
 def test_the_program_says_what_a_journal_is() -> None:
-    assert shutil.which(program.program())
+    assert shutil.which(program.found_program())
     assert Day(b"day,1,9,5,4,9,9,\n").is_journal()
     assert not Day(b"1,ask\n").is_journal()
     assert not Day(b"").is_journal()

@@ -284,7 +284,7 @@ def test_a_condition_that_drops_a_report_of_a_trade_leaves_a_doubt(tmp_path: Pat
     path = tmp_path / "day.log"
     path.write_text(log.tagged())
     for where in (f"ExecID != {reports[0]}", f"ExecID != {reports[-1]}", "LastQty != 20"):
-        reading = shapes.joined(shapes.reading_of("fix"), {"where": (where,)})
+        reading = shapes.joined_shapes(shapes.reading_of("fix"), {"where": (where,)})
         verdict = audit_events(path, reference=base_day().reference, tick_size="0.01",
                                reading=reading)  # fmt: skip
         assert verdict.word == "incomplete", f"{where}\n{verdict}"
@@ -309,7 +309,7 @@ def log_of_one_time(executed: str = "B") -> FixLog:
 
 def word_of(log: FixLog, path: Path, *more: str) -> str:
     path.write_text(log.tagged(), encoding="utf-8")
-    reading = shapes.joined(shapes.reading_of("fix"), {"sort": "--sort" in more})
+    reading = shapes.joined_shapes(shapes.reading_of("fix"), {"sort": "--sort" in more})
     terms = dict(reference="10", tick_size="0.01", auctions=["opening"], reading=reading)
     return audit_events(path, **terms).word  # type: ignore[arg-type]
 
@@ -388,7 +388,7 @@ def test_orders_that_venues_keep_have_the_verdict_of_their_day(seed: int, tmp_pa
         extract = base_without_restrictions(seed)
     path = tmp_path / "day.csv"
     path.write_text(kept_for_supervision(extract), encoding="utf-8")
-    reading = shapes.joined(shapes.reading_of("rts24"), {"separator": ";"})
+    reading = shapes.joined_shapes(shapes.reading_of("rts24"), {"separator": ";"})
     verdict = audit_events(
         path, reference=extract.reference, tick_size="0.01", reading=reading
     )
@@ -471,7 +471,7 @@ def test_options_add_to_a_shape() -> None:
                     market=("0",), separator=";")
     own = {"columns": {"time": "", "member": "M"}, "values": {"side": {"S": "ask"}},
            "market": ("MKT",), "separator": None, "sort": True}  # fmt: skip
-    found = shapes.joined(shape, own)
+    found = shapes.joined_shapes(shape, own)
     assert found.columns == {"order": "Id", "member": "M"} and found.sort
     assert found.values == {"side": {"B": "bid", "S": "ask"}}
     assert found.market == ("0", "MKT") and found.separator == ";"

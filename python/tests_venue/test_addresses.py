@@ -103,7 +103,7 @@ def test_no_network(tmp_path: pathlib.Path) -> None:
     ],
 )
 def test_the_same_address(first: str, second: str, are_same: bool) -> None:
-    assert addresses.is_same(first, second) == are_same
+    assert addresses.is_same_address(first, second) == are_same
 
 
 async def screen(venue: Served, token: str) -> dict[str, Any]:
@@ -127,7 +127,7 @@ def test_the_screen_says_where_to_join(venue: Served) -> None:
 
 def test_the_qr_code_leads_there() -> None:
     """The squares in its corners are there, and another text is another code."""
-    found = addresses.code_of("http://10.42.0.1:8080/#H5RJD6")
+    found = addresses.qr_code_of("http://10.42.0.1:8080/#H5RJD6")
     assert found is not None
     size, path = found
     dark = {(int(down), int(across)) for across, down in re.findall(r"M(\d+) (\d+)", path)}
@@ -137,4 +137,4 @@ def test_the_qr_code_leads_there() -> None:
                   for row in range(7)]
         inner = ["#.###.#"] * 3
         assert square == ["#######", "#.....#", *inner, "#.....#", "#######"]
-    assert found != addresses.code_of("http://10.42.0.1:8080/#H5RJD7")
+    assert found != addresses.qr_code_of("http://10.42.0.1:8080/#H5RJD7")

@@ -30,7 +30,7 @@ OF_LITTLE = Bound(9, 9, value=1, worth=Decimal("0.01"))
 def refused(bound: Bound, record: str, calls: int = 3) -> str:
     """Why a record is refused beside OWN and WAITING, empty where it isn't."""
     try:
-        allowance.check(bound, record, OWN, WAITING, calls, HIGH)
+        allowance.check_bound(bound, record, OWN, WAITING, calls, HIGH)
     except MessageError as fault:
         assert fault.code == "above_limit"
         return fault.text
@@ -84,7 +84,7 @@ def test_what_isnt_answered_counts(waiting: list[str], record: str, text: str) -
     """A change that waits may still be refused: until then the larger of both counts."""
     bound = Bound(9, 9, quantity=30, value=11_999, worth=Decimal("119.99"))
     try:
-        allowance.check(bound, record, OWN, waiting, 3, HIGH)
+        allowance.check_bound(bound, record, OWN, waiting, 3, HIGH)
         found = ""
     except MessageError as fault:
         found = fault.text
@@ -94,9 +94,9 @@ def test_what_isnt_answered_counts(waiting: list[str], record: str, text: str) -
 def test_an_order_is_deleted_once_beyond_the_share() -> None:
     """Each command more would be another's."""
     bound = Bound(9, 3)
-    allowance.check(bound, "delete,1", OWN, ["delete,2"], 3, HIGH)
+    allowance.check_bound(bound, "delete,1", OWN, ["delete,2"], 3, HIGH)
     with pytest.raises(MessageError, match="3 commands a day"):
-        allowance.check(bound, "delete,1", OWN, ["delete,2", "delete,1"], 3, HIGH)
+        allowance.check_bound(bound, "delete,1", OWN, ["delete,2", "delete,1"], 3, HIGH)
 
 
 def test_the_share_of_a_day_that_says_nothing() -> None:

@@ -378,7 +378,7 @@ def test_a_process_that_cant_be_begun_now(what: str, monkeypatch: pytest.MonkeyP
 
     monkeypatch.setattr(asyncio, "create_subprocess_exec", fail)
     with pytest.raises(downloads.NotNowError, match="now, as memory is short: try again"):
-        asyncio.run(downloads.output(["true"], b""))
+        asyncio.run(downloads.printed_bytes(["true"], b""))
 
 
 MEMORY, SIGNAL = "memory is short", "its process was ended by signal 9"
@@ -399,7 +399,7 @@ def test_a_process_that_fails(last: str, why: str) -> None:
     words = [sys.executable, "-c", f"raise SystemExit({'Traceback ..' + chr(10) + last!r})"]
     said = f"it can't be made now, as {why}: try again" if why else last
     with pytest.raises(downloads.DownloadError) as found:
-        asyncio.run(downloads.output(words, b""))
+        asyncio.run(downloads.printed_bytes(words, b""))
     assert (str(found.value), isinstance(found.value, downloads.NotNowError)) == (said, bool(why))
 
 

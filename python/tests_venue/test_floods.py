@@ -432,8 +432,8 @@ def test_networks() -> None:
     assert rates.network_of("2001:db8::1:2%eth0") == rates.network_of("2001:db8::9")
     assert rates.network_of("2001:db8::9") == "2001:db8::/64"
     assert rates.network_of("nothing") == "nothing"
-    assert rates.names_of("10.1.2.3", "c") == ("c", "10.1.2.3", "10.1.0.0/16")
-    assert rates.names_of("2001:db8::9", "c") == ("c", "2001:db8::/64", "2001:db8::/32")
+    assert rates.counted_names("10.1.2.3", "c") == ("c", "10.1.2.3", "10.1.0.0/16")
+    assert rates.counted_names("2001:db8::9", "c") == ("c", "2001:db8::/64", "2001:db8::/32")
 
 
 GUESSES, GUESSERS, STUDENTS = 400, 20, 60

@@ -6,7 +6,7 @@ from collections.abc import Sequence
 
 import pytest
 from callauction.venue.accounts import Accounts, Fill
-from callauction.venue.gains import Predicted, Uncovered, Value, gain_of, most_gain, predicted
+from callauction.venue.gains import Predicted, Uncovered, Value, gain_in_ticks, most_gain, predicted
 from hypothesis import given
 from hypothesis import strategies as st
 
@@ -31,31 +31,31 @@ def test_the_most_gain_is_that_of_shares_in_their_order(values: list[Value]) -> 
 def test_a_gain() -> None:
     bid, ask = Value("bid", 600, 100), Value("ask", 400, 100)
     high = Uncovered(0, 1000)
-    assert gain_of(bid, [("bid", 60, 540), ("bid", 40, 500)], high) == 60 * 60 + 40 * 100
-    assert gain_of(ask, [("ask", 10, 700)], high) == 10 * 300
-    assert gain_of(bid, [("bid", 10, 650)], high) == -500
-    assert gain_of(bid, [], high) == 0
+    assert gain_in_ticks(bid, [("bid", 60, 540), ("bid", 40, 500)], high) == 60 * 60 + 40 * 100
+    assert gain_in_ticks(ask, [("ask", 10, 700)], high) == 10 * 300
+    assert gain_in_ticks(bid, [("bid", 10, 650)], high) == -500
+    assert gain_in_ticks(bid, [], high) == 0
 
 
 def test_what_no_value_covers_costs() -> None:
     bid, ask = Value("bid", 600, 100), Value("ask", 400, 100)
     high = Uncovered(0, 1000)
-    assert gain_of(bid, [("bid", 150, 500)], high) == 100 * 100 - 50 * 500
-    assert gain_of(bid, [("ask", 10, 500)], high) == 10 * (500 - 1000)
-    assert gain_of(ask, [("ask", 110, 500)], high) == 100 * 100 + 10 * (500 - 1000)
-    assert gain_of(ask, [("bid", 10, 500)], high) == -10 * 500
-    assert gain_of(None, [("bid", 10, 500)], high) == -10 * 500
-    assert gain_of(None, [("ask", 10, 500)], high) == 10 * (500 - 1000)
-    assert gain_of(None, [("ask", 10, 500)], Uncovered(300, 700)) == 10 * (500 - 700)
-    assert gain_of(bid, [("bid", 110, 500)], Uncovered(300, 700)) == 100 * 100 - 10 * 200
+    assert gain_in_ticks(bid, [("bid", 150, 500)], high) == 100 * 100 - 50 * 500
+    assert gain_in_ticks(bid, [("ask", 10, 500)], high) == 10 * (500 - 1000)
+    assert gain_in_ticks(ask, [("ask", 110, 500)], high) == 100 * 100 + 10 * (500 - 1000)
+    assert gain_in_ticks(ask, [("bid", 10, 500)], high) == -10 * 500
+    assert gain_in_ticks(None, [("bid", 10, 500)], high) == -10 * 500
+    assert gain_in_ticks(None, [("ask", 10, 500)], high) == 10 * (500 - 1000)
+    assert gain_in_ticks(None, [("ask", 10, 500)], Uncovered(300, 700)) == 10 * (500 - 700)
+    assert gain_in_ticks(bid, [("bid", 110, 500)], Uncovered(300, 700)) == 100 * 100 - 10 * 200
 
 
 def test_what_one_buys_and_sells_again_is_no_loss() -> None:
     bid = Value("bid", 600, 100)
     fills = [("bid", 150, 500), ("ask", 50, 540)]
-    assert gain_of(bid, fills, UNCOVERED) == 100 * 100 + 50 * 40
+    assert gain_in_ticks(bid, fills, UNCOVERED) == 100 * 100 + 50 * 40
     itself = [("bid", 190, 10), ("ask", 190, 10)]
-    assert gain_of(Value("ask", 4, 100), itself, UNCOVERED) == 0
+    assert gain_in_ticks(Value("ask", 4, 100), itself, UNCOVERED) == 0
 
 
 def worth(value: Value | None, shares: int) -> int:
@@ -105,7 +105,7 @@ def test_no_class_gains_more_than_was_possible(given: Class) -> None:
     total = 0
     for place, value in enumerate(values):
         fills = ((it.side, it.quantity, it.tick) for it in fills_of(deals, place))
-        total += gain_of(value, fills, UNCOVERED)
+        total += gain_in_ticks(value, fills, UNCOVERED)
     assert total <= most_gain([it for it in values if it])
 
 

@@ -599,4 +599,4 @@ async def test_a_line_of_a_message_is_as_all_lines_are(
     line |= {"from": source} if source else {}
     line |= {"note": note} if note else {}
     texts = "X", 'Ä "B"\n', -(1 << 70), "1,enter,bid,5,200", source, note
-    assert log.sent_text(*texts) == log.text_of(line)
+    assert log.sent_text(*texts) == log.line_text(line)

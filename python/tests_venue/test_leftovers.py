@@ -252,7 +252,7 @@ def test_who_has_a_file(tmp_path: pathlib.Path) -> None:
     with path.open() as file, subprocess.Popen(SLEEPS, stdin=file) as child:
         assert leftovers.holders_of(path) == []  # who reads it isn't in anybody's way
         child.kill()
-    assert leftovers.named([]) == ""
+    assert leftovers.how_to_end([]) == ""
 
 
 def test_processes_that_cant_be_seen(

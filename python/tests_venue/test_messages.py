@@ -82,14 +82,14 @@ def test_each_fault_of_a_message(change: dict[str, Any], code: str) -> None:
                                   '{"type": "enter", "a": "' + "x" * 5000 + '"}'])
 def test_what_is_no_message(text: str) -> None:
     with pytest.raises(MessageError):
-        messages.read(text)
+        messages.message_in(text)
 
 
 @pytest.mark.parametrize("key", ["side", "member", "\\ud800"])
 def test_a_key_that_is_there_twice(key: str) -> None:
     """Each reader would take another of the two."""
     with pytest.raises(MessageError, match="' is there twice$") as found:
-        messages.read('{"type":"enter","a":[{"%s":"bid","%s":"ask"}]}' % (key, key))
+        messages.message_in('{"type":"enter","a":[{"%s":"bid","%s":"ask"}]}' % (key, key))
     found.value.text.encode("utf-8")
 
 

@@ -1300,12 +1300,12 @@ def test_a_copy_that_was_changed_is_refused(tmp_path: pathlib.Path) -> None:
     text = ran("restore", copy, place, status=1)
     assert text == f"restore: {copy} isn't the copy that was made: XYZ.journal.csv differs\n"
     files = {it.name: it.read_bytes() for it in copy.iterdir() if it.name != copies.SUMS_FILE}
-    (copy / copies.SUMS_FILE).write_bytes(copies.sums_of(files))
+    (copy / copies.SUMS_FILE).write_bytes(copies.sums_text(files))
     assert "XYZ.journal.csv" in ran("restore", copy, place, status=1)
     journal.write_text(right)
     assert not place.exists()
     files["XYZ.journal.csv"] = right.encode()
-    (copy / copies.SUMS_FILE).write_bytes(copies.sums_of(files))
+    (copy / copies.SUMS_FILE).write_bytes(copies.sums_text(files))
     ran("restore", copy, place)
     text = ran("restore", copy, place, status=1)
     told = "is there already, and stays as it is: move it away, or name another folder"
@@ -1334,7 +1334,7 @@ def test_which_file_of_a_copy_was_changed(
     copy.mkdir()
     files = {it: it.encode() for it in ("venue.log", "XYZ.journal.csv")}
     files |= {f"{it}.token": it.encode() for it in ("beamer", "operator")}
-    for name, content in (files | {copies.SUMS_FILE: copies.sums_of(files)}).items():
+    for name, content in (files | {copies.SUMS_FILE: copies.sums_text(files)}).items():
         (copy / name).write_bytes(content)
     copy.chmod(0o700)
     subprocess.run(["sh", "-c", change], cwd=copy, check=True)
@@ -1432,7 +1432,7 @@ def hostile(copy: pathlib.Path, what: str) -> None:
         log.write_text(f"{log.read_text()}{what}\n")
     plain = [it for it in copy.iterdir() if it.is_file() and not it.is_symlink()]
     rows = {it.name: it.read_bytes() for it in plain if it.name not in (copies.SUMS_FILE, "x")}
-    (copy / copies.SUMS_FILE).write_bytes(copies.sums_of(rows))
+    (copy / copies.SUMS_FILE).write_bytes(copies.sums_text(rows))
 
 
 HOSTILE = {

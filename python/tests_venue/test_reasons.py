@@ -6,7 +6,7 @@ from typing import Any
 
 import pytest
 import served
-from browsing import Page, opened, joins
+from browsing import Page, joins, opened
 from callauction.venue import messages
 from callauction.venue.downloads import NotNowError
 from callauction.venue.recovery import LONGER, OTHER_ENTRIES, OTHER_FIRST

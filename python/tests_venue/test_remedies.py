@@ -31,19 +31,19 @@ SAID = [
 
 @pytest.mark.parametrize("fault, do, status", SAID)
 def test_a_fault_has_a_remedy(fault: Exception, do: str, status: int) -> None:
-    text, found = remedies.said(fault)
+    text, found = remedies.start_fault_said(fault)
     assert f": {do}" in text and found == status
 
 
 @pytest.mark.parametrize("number", remedies.OF_FILES)
 def test_a_fault_of_a_file_has_a_remedy(number: int) -> None:
-    text, status = remedies.said(OSError(number, os.strerror(number), "/a"))
+    text, status = remedies.start_fault_said(OSError(number, os.strerror(number), "/a"))
     assert text.startswith(f"/a: {os.strerror(number)}: ") and status == 3
 
 
 def test_what_is_no_fault_of_a_start() -> None:
     with pytest.raises(RuntimeError, match="^a mistake$"):
-        remedies.said(RuntimeError("a mistake"))
+        remedies.start_fault_said(RuntimeError("a mistake"))
 
 
 def test_what_isnt_in_the_place_of_a_folder(tmp_path: pathlib.Path) -> None:

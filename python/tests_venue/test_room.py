@@ -11,7 +11,7 @@ import served
 from callauction.venue import room
 from callauction.venue.bounds import Bounds
 from callauction.venue.config import DayTerms, InstrumentTerms, MemberTerms
-from callauction.venue.log import sent_text, text_of
+from callauction.venue.log import line_text, sent_text
 from callauction.venue.treatments import Treatment
 
 ON_A_DISK = """
@@ -54,8 +54,8 @@ def test_what_a_command_takes_at_most() -> None:
     record = f"63,change,1048576,1000000000,{tick}"
     lines = [
         sent_text(name, "B" * 40, 1_048_576, record, "192.168.100.100", {}),
-        text_of({"kind": "mark", "instrument": name, "entries": 1_048_576, "sha256": "a" * 64}),
-        text_of({"kind": "point", "instrument": name, "time": 1796006400.1234567, "side": "bid"}
+        line_text({"kind": "mark", "instrument": name, "entries": 1_048_576, "sha256": "a" * 64}),
+        line_text({"kind": "point", "instrument": name, "time": 1796006400.1234567, "side": "bid"}
                 | most),
         f"{record},,,changed moved",
     ]

@@ -121,9 +121,9 @@ def test_a_power_cut(tmp_path: pathlib.Path, kind: str, seconds: float) -> None:
 
 
 def test_an_empty_secret_is_nobodys() -> None:
-    assert not tokens.is_same("", "")
-    assert not tokens.is_same("a", "") and not tokens.is_same("", "a")
-    assert tokens.is_same("a", "a") and not tokens.is_same("a", "b")
+    assert not tokens.is_same_secret("", "")
+    assert not tokens.is_same_secret("a", "") and not tokens.is_same_secret("", "a")
+    assert tokens.is_same_secret("a", "a") and not tokens.is_same_secret("a", "b")
 
 
 @pytest.mark.parametrize("content", [b"", b"\n", b"short\n", b"a" * 33, b"\0" * 32, b"\xff" * 32])

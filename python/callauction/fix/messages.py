@@ -68,7 +68,7 @@ class Messages:
             yield from self._of(it, depth + 1)
 
 
-def row_of(kind: str, field: Field) -> str:
+def field_row(kind: str, field: Field) -> str:
     """The line of a field in a message. Raises KeyError where it has no meaning."""
     key = kind, field.tag
     values = "; ".join(f"`{value}` {meaning}" for value, meaning in VALUES.get(key, {}).items())
@@ -83,7 +83,7 @@ def row_of(kind: str, field: Field) -> str:
 def table_of(kind: str, fields: list[Field]) -> str:
     """The table of a message, and after it what changes nothing."""
     idle = IDLE.get(kind, set())
-    rows = [row_of(kind, it) for it in fields if it.tag not in idle]
+    rows = [field_row(kind, it) for it in fields if it.tag not in idle]
     named = ", ".join(f"{it.tag} {it.name}" for it in fields if it.tag in idle)
     parts = ["\n".join([TABLE_HEAD, *rows])] if rows else []
     parts += [f"These change nothing: {named}."] if named else []

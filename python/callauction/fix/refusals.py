@@ -178,11 +178,11 @@ def tell_rejected(
         *([(Tag.ORD_REJ_REASON, reason)] if is_rejected else []),
         (Tag.TEXT, text),
     ]
-    pairs += asked_of(given) if is_new else []
+    pairs += asked_fields(given) if is_new else []
     seat.reports.tell(Report(seat.name, Type.REPORT, event, pairs))
 
 
-def asked_of(given: Given) -> Pairs:
+def asked_fields(given: Given) -> Pairs:
     """What a new order asked for that its report has too."""
     copied = (Tag.ORD_TYPE, Tag.PRICE, Tag.MAX_FLOOR)
     pairs: Pairs = [(tag, given[tag]) for tag in copied if tag in given]

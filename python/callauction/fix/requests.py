@@ -131,11 +131,11 @@ async def show_list(seat: "Seat", rows: Pairs, given: Given, number: int) -> Non
         (Tag.SECURITY_REQUEST_RESULT, "0"),
         (Tag.TOT_NO_RELATED_SYM, str(len(boards))),
     ]
-    groups: Groups = [(Tag.NO_RELATED_SYM, Tag.SYMBOL, [row_of(it) for it in boards])]
+    groups: Groups = [(Tag.NO_RELATED_SYM, Tag.SYMBOL, [instrument_row(it) for it in boards])]
     seat.outbound.send(seat, Type.LIST, head, groups)
 
 
-def row_of(board: InstrumentBoard) -> Pairs:
+def instrument_row(board: InstrumentBoard) -> Pairs:
     """An instrument in a list."""
     terms = board.terms
     row: Pairs = [(Tag.SYMBOL, board.identity.instrument)]

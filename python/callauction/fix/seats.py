@@ -383,7 +383,7 @@ class CopySeat(Seat):
     def takes(self, password: str) -> bool:
         """Whether this is the operator's token."""
         secret = self.venue.secrets["operator"]
-        return tokens.is_same(password, secret) and self._hellos.takes()
+        return tokens.is_same_secret(password, secret) and self._hellos.takes()
 
     def _enters(self, given: Given) -> bool:
         """No order is one of its."""

@@ -16,7 +16,7 @@ from typing import TYPE_CHECKING, NamedTuple
 from callauction.fix._quickfix import Engine
 from callauction.fix.tags import Groups, Pairs, event_in, number_of, pairs_of
 from callauction.venue.fix_terms import SENT
-from callauction.venue.log import Line, Log, taking, text_of
+from callauction.venue.log import Line, Log, line_text, taking
 from callauction.venue.logger import NOTICES
 
 if TYPE_CHECKING:
@@ -290,7 +290,7 @@ def lines_of(kind: str, session: str, since: int, texts: list[New]) -> Iterator[
     settled: an answer may be before those to messages that wait. What passes one after the other
     has one line.
     """
-    head = text_of({"kind": kind, "session": session, "since": since})[:-1]
+    head = line_text({"kind": kind, "session": session, "since": since})[:-1]
     placed = enumerate(sorted(texts))
     for (passes, _), those in itertools.groupby(placed, lambda it: (it[1][2], it[1][0] - it[0])):
         if passes:
@@ -306,4 +306,4 @@ def passed_line(session: str, since: int, those: list[New]) -> str:
     events = (event_in(dict(pairs_of(text)), "", "") for _, text, _ in those)
     answered = [it for it in events if it.rpartition(".")[2].isdecimal()]
     said = {"first": those[0][0], "last": those[-1][0], "events": answered}
-    return text_of({"kind": "passed", "session": session, "since": since} | said)
+    return line_text({"kind": "passed", "session": session, "since": since} | said)

@@ -47,7 +47,7 @@ def enter_new(seat: "Seat", given: Given, number: int) -> None:
         asked["peak"] = int(peak)
     board = seat.board(given)
     check_beside(given, board)
-    seat.commands.submit(given, number, board, messages.entered(board.terms, asked), time)
+    seat.commands.submit(given, number, board, messages.enter_record(board.terms, asked), time)
 
 
 async def edit(seat: "Seat", rows: Pairs, given: Given, number: int) -> None:

@@ -34,11 +34,11 @@ async def seen_at(board: InstrumentBoard, program: str, place: int, known: int) 
     `known` trades were made before. A journal may be long, and others have their turn meanwhile.
     Raises DownloadError.
     """
-    records = await asyncio.to_thread(asked_of, board, place, known)
+    records = await asyncio.to_thread(views_at, board, place, known)
     words = [program, "--live", *NO_RESERVE, *board.terms.words()]
     try:
         async with asyncio.timeout(PROGRAM_SECONDS):
-            said = await replay.output(words, records)
+            said = await replay.printed_lines(words, records)
     except TimeoutError:
         raise DownloadError(f"the program hasn't ended for {PROGRAM_SECONDS:g} s") from None
     except OSError as fault:
@@ -46,7 +46,7 @@ async def seen_at(board: InstrumentBoard, program: str, place: int, known: int) 
     return await asyncio.to_thread(seen_in, said)
 
 
-def asked_of(board: InstrumentBoard, place: int, known: int) -> list[str]:
+def views_at(board: InstrumentBoard, place: int, known: int) -> list[str]:
     """What the program is asked for that. Raises DownloadError."""
     commands = [record for record, _ in replay.entries_of(board)[:place]]
     asked = ["show,orders", commands[-1], "show,orders", f"show,trades,{known + 1}", "show,day"]
@@ -57,9 +57,9 @@ def seen_in(said: Sequence[str]) -> Seen:
     """What the program has said of an uncross."""
     before, after, trades, day = [*replay.shows_of(said)]
     is_over = views.DayView.of(day[0]).auction == OVER
-    return Seen(open_of(before), open_of(after), views.trades_of(trades), is_over)
+    return Seen(open_of(before), open_of(after), views.trades_in_view(trades), is_over)
 
 
 def open_of(lines: Sequence[str]) -> Open:
     """The rows of `show,orders` by their orders."""
-    return {it.order: it for it in views.orders_of(lines)}
+    return {it.order: it for it in views.orders_in_view(lines)}

@@ -4,7 +4,7 @@ import io
 import pathlib
 import sys
 
-from callauction.market.command import examine, split_table
+from callauction.market.command import examine_files, split_table
 from callauction.market.forms import FORMS
 from callauction.market.names import SUFFIX
 
@@ -90,7 +90,7 @@ def main() -> int:
     for stream in (sys.stdout, sys.stderr):
         if isinstance(stream, io.TextIOWrapper):
             stream.reconfigure(errors="backslashreplace")
-    return split_table(asked) if asked.verb == "split" else examine(asked)
+    return split_table(asked) if asked.verb == "split" else examine_files(asked)
 
 
 if __name__ == "__main__":

@@ -197,7 +197,7 @@ def run_market(asked: argparse.Namespace, files: dict[str, str], rows: list[Row]
     return summary
 
 
-def examine(asked: argparse.Namespace) -> int:
+def examine_files(asked: argparse.Namespace) -> int:
     """Runs the program on files, writes the result, and prints what was found: the status."""
     try:
         files = journals(asked.paths)

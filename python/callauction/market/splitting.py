@@ -309,12 +309,12 @@ class Journals:
         return [str(folder / name) for name in names]
 
 
-def paths_of(table: "Table | None") -> list[str]:
+def table_paths(table: "Table | None") -> list[str]:
     """The paths of the files that a table consists of; none of what can be read once."""
     if isinstance(table, str | os.PathLike):
         return [os.fspath(table)]
     parts = table if isinstance(table, list | tuple) else ()
-    return [path for part in parts for path in paths_of(part)]
+    return [path for part in parts for path in table_paths(part)]
 
 
 def split(
@@ -351,6 +351,6 @@ def split(
             journals = Journals(begun, openings, by, ignore)
             for frame in partitions_of(table):
                 journals.add(frame)
-            return journals.finish(place, [*paths_of(table), *paths_of(days)])
+            return journals.finish(place, [*table_paths(table), *table_paths(days)])
         finally:
             shutil.rmtree(begun)

@@ -16,7 +16,7 @@ LENGTH = 4
 """How many bytes say how many an answer has, the lowest first."""
 
 
-def paths_of(asked: IO[bytes]) -> Iterator[str]:
+def paths_asked(asked: IO[bytes]) -> Iterator[str]:
     """The paths that are asked for, as they come. Raises EOFError where the input ends before."""
     while (path := pickle.load(asked)) is not None:
         yield path
@@ -27,7 +27,7 @@ def main() -> None:
     asked, out = sys.stdin.buffer, sys.stdout.buffer
     try:
         request = pickle.load(asked)
-        for answer in map(pickle.dumps, examine_each(paths_of(asked), request)):
+        for answer in map(pickle.dumps, examine_each(paths_asked(asked), request)):
             out.write(len(answer).to_bytes(LENGTH, "little") + answer)
             out.flush()
     except (EOFError, BrokenPipeError):

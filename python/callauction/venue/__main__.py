@@ -83,7 +83,7 @@ def add_address(parser: argparse.ArgumentParser) -> None:
     )
     parser.add_argument(
         "--metrics",
-        type=place,
+        type=host_and_port,
         metavar="HOST:PORT",
         help="serve /healthz and /metrics there, to everybody who reaches it",
     )
@@ -96,7 +96,7 @@ def port(text: str) -> int:
     return int(text)
 
 
-def place(text: str) -> tuple[str, int]:
+def host_and_port(text: str) -> tuple[str, int]:
     """A host and a port. Raises ValueError."""
     host, _, number = text.rpartition(":")
     if not host:
@@ -191,7 +191,7 @@ def main() -> int:
         run_asked(asked, address, program)
         return DONE
     except remedies.START_FAULTS as fault:
-        text, status = remedies.said(fault)
+        text, status = remedies.start_fault_said(fault)
         NOTICES.error("%s", text)
         return status
     finally:

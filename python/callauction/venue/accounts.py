@@ -9,7 +9,7 @@ import dataclasses
 from collections.abc import Iterable, Iterator, Mapping
 
 from callauction.venue.gains import (
-    Predicted, Uncovered, Value, gain_of, most_gain, predicted, used_of,
+    Predicted, Uncovered, Value, gain_in_ticks, most_gain, predicted, used_of,
 )
 
 
@@ -89,7 +89,7 @@ class Accounts:
         a value count nothing.
         """
         return sum(
-            gain_of(
+            gain_in_ticks(
                 period.values.get(member),
                 (
                     (it.side, it.quantity, it.tick)

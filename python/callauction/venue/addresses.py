@@ -35,7 +35,7 @@ def is_host(name: str) -> bool:
     return HOST_NAME.fullmatch(name) is not None
 
 
-def is_same(host: str, other: str) -> bool:
+def is_same_address(host: str, other: str) -> bool:
     """Whether two texts are the same address."""
     with contextlib.suppress(ValueError):
         first, second = map(ipaddress.ip_address, (host, other))
@@ -47,7 +47,7 @@ def is_named(host: str, name: str) -> bool:
     """Whether a certificate that is for this name, or for all of a domain, is for a host."""
     host, name = host.lower(), name.lower()
     is_wild = name.startswith("*.") and host.partition(".")[2] == name[2:]
-    return host == name or is_same(host, name) or is_wild
+    return host == name or is_same_address(host, name) or is_wild
 
 
 def own_addresses(host: str = "::") -> list[str]:
@@ -83,7 +83,7 @@ def address_by_route(family: int) -> str | None:
 
 
 @functools.lru_cache(8)
-def code_of(text: str) -> Code | None:
+def qr_code_of(text: str) -> Code | None:
     """The QR code of a text, None where Debian's python3-segno isn't installed."""
     try:
         import segno

@@ -4,11 +4,11 @@ orders, their shares and their value, and commands.
 from collections.abc import Iterable, Mapping
 
 from callauction.venue.bounds import Bound
-from callauction.venue.holdings import Own, Step, Ways, asked
+from callauction.venue.holdings import Own, Step, Ways, possible_orders
 from callauction.venue.messages import MessageError
 
 
-def check(
+def check_bound(
     bound: Bound, record: str, open_: dict[int, Own], records: list[str], calls: int, high: int
 ) -> None:
     """Raises MessageError where a member may not have this record beside its open orders, its
@@ -22,7 +22,7 @@ def check(
         raise above(f"{bound.orders} open orders")
     if bound.quantity is None and bound.value is None:
         return
-    step = Step.of(record, *asked(open_, records))
+    step = Step.of(record, *possible_orders(open_, records))
     for order in step.after:
         check_open(bound, order, step, high)
 

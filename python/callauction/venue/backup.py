@@ -22,7 +22,7 @@ def main() -> int:
         print(copies.summary(copies.backup(asked.folder, asked.copy)))
         return DONE
     except copies.COPY_FAULTS as fault:
-        return copies.said("backup", fault)
+        return copies.say_copy_fault("backup", fault)
 
 
 if __name__ == "__main__":

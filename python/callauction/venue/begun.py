@@ -44,11 +44,11 @@ def kept(day: config.DayTerms) -> Line:
         DAY_FILE_KEYS.get(field.name, field.name): sum_of(getattr(day, field.name))
         for field in dataclasses.fields(day)
     }
-    found: Line = {"instruments": {it.name: terms_of(it) for it in day.instruments}}
-    return found | {"parts": parts, "sessions": sessions_of(day)}
+    found: Line = {"instruments": {it.name: terms_kept(it) for it in day.instruments}}
+    return found | {"parts": parts, "sessions": sessions_kept(day)}
 
 
-def sessions_of(day: config.DayTerms) -> dict[str, str]:
+def sessions_kept(day: config.DayTerms) -> dict[str, str]:
     """The member of each CompID of a day; that of the operator's copy has none."""
     if day.fix is None:
         return {}
@@ -60,7 +60,7 @@ def sum_of(part: object) -> str:
     return hashlib.sha256(repr(part).encode("utf-8")).hexdigest()
 
 
-def terms_of(terms: config.InstrumentTerms) -> dict[str, str]:
+def terms_kept(terms: config.InstrumentTerms) -> dict[str, str]:
     """The terms of an instrument by their keys, as texts; prices as the file of a day has them."""
     found = {"tick_size": format(terms.grid.tick_size.normalize(), "f")}
     for name in TERMS:
@@ -80,7 +80,7 @@ def changes(day: config.DayTerms, lines: Iterable[Line], folder: pathlib.Path) -
         return None
     now = kept(day)
     with taking(known[-1]):
-        why = difference(known[-1]["instruments"], now["instruments"])
+        why = changed_term(known[-1]["instruments"], now["instruments"])
         parts = known[-1]["parts"]
         found = [name for name, sum_now in now["parts"].items() if parts.get(name) != sum_now]
     if why:
@@ -100,7 +100,7 @@ def check_sessions(
     before = {comp_id: name for line in known for comp_id, name in sessions_in(line).items()}
     others = [it for it, name in before.items() if now.get(it, name) != name]
     if (given := next((it for it in others if has_logged_on(it, folder)), None)) is not None:
-        text = f"is {named(now[given])}, and was {named(before[given])} in {folder}"
+        text = f"is {owner_of(now[given])}, and was {owner_of(before[given])} in {folder}"
         remedy = "a CompID stays its own for the day: give the other one a new CompID"
         raise OtherDayError(f"fix: sessions: {given!r} {text}; {remedy}; {BEGIN_ANEW}")
     owners = owners_in(lines)
@@ -132,7 +132,7 @@ def has_logged_on(comp_id: str, folder: pathlib.Path) -> bool:
         return any(own in line for line in file)
 
 
-def named(member: str) -> str:
+def owner_of(member: str) -> str:
     """Whose a CompID is."""
     return f"the member's {member!r}" if member else "the operator's copy"
 
@@ -156,7 +156,7 @@ def is_entered_by_fix(line: Line) -> bool:
     return bool(line["number"] < 0 and line["record"].split(",")[1] == "enter")
 
 
-def difference(before: dict[str, dict[str, str]], now: dict[str, dict[str, str]]) -> str:
+def changed_term(before: dict[str, dict[str, str]], now: dict[str, dict[str, str]]) -> str:
     """The first difference between the instruments of two days, empty where there is none."""
     if [*before] != [*now]:
         return f"its instruments were {', '.join(before)}, and are {', '.join(now)}"

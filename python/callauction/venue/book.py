@@ -4,7 +4,7 @@ order is, and which orders are open.
 import collections
 from collections.abc import Iterable
 
-from callauction.venue.holdings import Own, changed, entered
+from callauction.venue.holdings import Own, changed, order_entered
 from callauction.venue.recovery import Entry
 from callauction.venue.views import MemberOrder
 
@@ -52,7 +52,7 @@ class Book:
         orders, done = self._open_of(entry.member), entry.reply.partition(" ")
         before = len(orders)
         if order is not None:
-            orders[order] = entered(fields)
+            orders[order] = order_entered(fields)
         elif done[0] == "changed" and (found := orders.get(int(fields[0]))):
             orders[int(fields[0])] = changed(found, fields)
         elif done[0] == "deleted":

@@ -47,7 +47,7 @@ class Bounds:
         )
 
 
-def bounds_of(fields: Fields) -> Bounds:
+def bounds_from(fields: Fields) -> Bounds:
     """The bounds of a table. Raises ConfigError."""
     value = fields.price("value")
     found = Bounds(

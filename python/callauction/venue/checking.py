@@ -56,7 +56,7 @@ def checked(
     is_there = folder.exists()
     if is_there:
         owned.make_folder(folder)
-    check_room(folder if is_there else folder.parent, START_BYTES * (len(day.instruments) + 1))
+    check_disk_room(folder if is_there else folder.parent, START_BYTES * (len(day.instruments) + 1))
     if text := room.too_small(day, folder):
         yield f"warning: {text}"
     if not is_there:
@@ -91,7 +91,7 @@ def checked_terms(day: config.DayTerms) -> Iterator[str]:
         yield f"fix: {day.fix.host}:{day.fix.port}, {sessions} sessions"
 
 
-def check_room(folder: pathlib.Path, least: int) -> None:
+def check_disk_room(folder: pathlib.Path, least: int) -> None:
     """Raises OSError where a folder can't have as many bytes more: its disk is full, or is there to
     be read. What is tried leaves no name.
     """

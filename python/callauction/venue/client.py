@@ -53,7 +53,7 @@ class Answer:
         return self.reply.startswith("refused")
 
 
-def asked(side: str, quantity: int, price: Price, peak: int | None, only: str) -> Json:
+def order_fields(side: str, quantity: int, price: Price, peak: int | None, only: str) -> Json:
     """The fields of a new order."""
     found: Json = {"side": side, "quantity": quantity, "price": str(price)}
     return found | ({"peak": peak} if peak is not None else {}) | ({"only": only} if only else {})
@@ -95,7 +95,7 @@ class AsyncClient:
             place = f"{url.rstrip('/')}/api/join"
             async with web.post(place, json=body, ssl=tls) as answer:
                 found = await answer.json()
-                check(answer.status, found)
+                check_status(answer.status, found)
                 return str(found["token"])
 
     async def __aenter__(self) -> Self:
@@ -134,7 +134,8 @@ class AsyncClient:
         instrument: str | None = None,
     ) -> Answer:
         """A new order."""
-        return await self.send("enter", instrument, **asked(side, quantity, price, peak, only))
+        fields = order_fields(side, quantity, price, peak, only)
+        return await self.send("enter", instrument, **fields)
 
     async def change(
         self, order: int, quantity: int, price: Price = MARKET, *, instrument: str | None = None
@@ -174,7 +175,7 @@ class AsyncClient:
         place = f"{self.url}/api/look/{what}"
         async with self._web.get(place, params=words, ssl=self._tls) as answer:
             found: Json = await answer.json()
-            check(answer.status, found)
+            check_status(answer.status, found)
             return found
 
     async def events(self) -> AsyncIterator[Json]:
@@ -249,7 +250,7 @@ class AsyncClient:
         answer.set_result(Answer(number, entry, reply, order, message["again"]))
 
 
-def check(status: int, found: Json) -> None:
+def check_status(status: int, found: Json) -> None:
     """Raises VenueError where an answer by HTTP is an error."""
     if status != 200:
         raise VenueError(found.get("error", "bad_message"), found.get("text", f"status {status}"))
@@ -305,7 +306,7 @@ class Client:
         instrument: str | None = None,
     ) -> Answer:
         """A new order."""
-        fields = asked(side, quantity, price, peak, only)
+        fields = order_fields(side, quantity, price, peak, only)
         return self._wait(self._client.send("enter", instrument, **fields))
 
     def change(

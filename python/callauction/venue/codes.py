@@ -53,9 +53,9 @@ class Codes:
         """
         typed = code.strip().upper()
         for own, kept in self.by_name.items():
-            if own and tokens.is_same(typed, kept):
+            if own and tokens.is_same_secret(typed, kept):
                 return own
-        if "" not in self.by_name or not tokens.is_same(typed, self.by_name[""]):
+        if "" not in self.by_name or not tokens.is_same_secret(typed, self.by_name[""]):
             raise MessageError("bad_code")
         if not self.is_open:
             raise MessageError("joining_closed")

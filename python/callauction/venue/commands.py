@@ -154,7 +154,7 @@ class Commands:
         """
         own = self._book.of_member(member)
         records, calls = [*self._waiting.get(member, {}).values()], self._used(member)
-        allowance.check(self._bound, order.record, own, records, calls, self._terms.high)
+        allowance.check_bound(self._bound, order.record, own, records, calls, self._terms.high)
         if not allowance.takes_out(order.record, own, records):
             self._check_left(member, order.record)
 

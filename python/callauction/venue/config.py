@@ -14,14 +14,14 @@ from callauction.limits import (
 )  # fmt: skip
 from callauction.prices import BadCellError, Grid, decimal_of
 from callauction.venue import owned
-from callauction.venue.bounds import Bounds, bounds_of
+from callauction.venue.bounds import Bounds, bounds_from
 from callauction.venue.fields import TITLE, ConfigError, Fields
-from callauction.venue.fix_terms import Terms, terms_of
+from callauction.venue.fix_terms import Terms, terms_from
 from callauction.venue.gains import Uncovered
-from callauction.venue.handing import HandError, ListedValue, ListError
+from callauction.venue.handing import HandError, ListError, ListedValue
 from callauction.venue.names import folded, is_role, is_seen
 from callauction.venue.tokens import LEAST_CODE
-from callauction.venue.treatments import MOST_CALL_SECONDS, Limits, Read, Treatment, treatment_of
+from callauction.venue.treatments import MOST_CALL_SECONDS, Limits, Read, Treatment, treatment_from
 
 MOST_TRADERS = MOST_MEMBERS - 1
 """The members who may trade an instrument."""
@@ -231,13 +231,13 @@ class DayTerms:
             language=fields.choice("language", PAGE_LANGUAGES, default.language),
             is_synced=fields.flag("sync", default.is_synced),
             reserve=fields.whole("reserve", default.reserve, 1, 1000),
-            plan=plan_of(Fields("phases", fields.table("phases"))),
-            members=members_of(Fields("members", fields.table("members"))),
-            instruments=tuple(map(instrument_of, rows)) or default.instruments,
-            payoff=payoff_of(Fields("payoff", fields.table("payoff"))),
-            rounds=rounds_of(rounds, folder) or default.rounds,
-            bounds=bounds_of(Fields("limits", fields.table("limits"))),
-            fix=fix_of(fields),
+            plan=plan_from(Fields("phases", fields.table("phases"))),
+            members=members_from(Fields("members", fields.table("members"))),
+            instruments=tuple(map(instrument_from, rows)) or default.instruments,
+            payoff=payoff_from(Fields("payoff", fields.table("payoff"))),
+            rounds=rounds_from(rounds, folder) or default.rounds,
+            bounds=bounds_from(Fields("limits", fields.table("limits"))),
+            fix=fix_from(fields),
         )
         fields.ended()
         check_members(found)
@@ -277,9 +277,9 @@ def check_rounds_of_rows(day: DayTerms, rows: tuple[ListedValue, ...]) -> None:
             raise ListError(f"round {row.round} has another list, or none", row)
 
 
-def fix_of(fields: Fields) -> Terms | None:
+def fix_from(fields: Fields) -> Terms | None:
     """The FIX front, None where the day has none. Raises ConfigError."""
-    return terms_of(fields.table("fix")) if fields.has("fix") else None
+    return terms_from(fields.table("fix")) if fields.has("fix") else None
 
 
 def check_members(day: DayTerms) -> None:
@@ -294,7 +294,7 @@ def check_members(day: DayTerms) -> None:
         raise sessions.fault("sessions", why)
 
 
-def plan_of(fields: Fields) -> Plan:
+def plan_from(fields: Fields) -> Plan:
     """The lengths of the phases. Raises ConfigError."""
     default = Plan()
     found = Plan(
@@ -307,12 +307,12 @@ def plan_of(fields: Fields) -> Plan:
     return found
 
 
-def members_of(fields: Fields) -> MemberTerms:
+def members_from(fields: Fields) -> MemberTerms:
     """Who may be a member. Raises ConfigError."""
     default = MemberTerms()
     found = MemberTerms(
         is_open=fields.flag("open", default.is_open),
-        code=code_of(fields, default.code),
+        code=code_from(fields, default.code),
         names=fields.names("names"),
         most=fields.whole("most", default.most, 1, 10_000),
         joins=fields.whole("joins", default.joins, 0, 10_000),
@@ -327,7 +327,7 @@ def members_of(fields: Fields) -> MemberTerms:
     return found
 
 
-def code_of(fields: Fields, default: str) -> str:
+def code_from(fields: Fields, default: str) -> str:
     """The code of the day, empty for one that is made. Raises ConfigError where it is so short that
     it could be guessed.
     """
@@ -348,7 +348,7 @@ def check_names(fields: Fields, names: tuple[str, ...]) -> None:
             raise fields.fault("names", f"has two that look alike: {other!r}, {name!r}")
 
 
-def instrument_of(table: dict[str, Any]) -> InstrumentTerms:
+def instrument_from(table: dict[str, Any]) -> InstrumentTerms:
     """An instrument. Raises ConfigError."""
     fields = Fields("instrument", table)
     default = InstrumentTerms()
@@ -363,15 +363,15 @@ def instrument_of(table: dict[str, Any]) -> InstrumentTerms:
         title=fields.text("title", default.title, TITLE),
         grid=grid,
         currency=fields.text("currency", default.currency),
-        low=tick_of(fields, grid, "low", default.low),
-        high=tick_of(fields, grid, "high", default.high),
-        reference=tick_of(fields, grid, "reference", default.reference),
-        range=tick_of(fields, grid, "range", -1),
+        low=tick_from(fields, grid, "low", default.low),
+        high=tick_from(fields, grid, "high", default.high),
+        reference=tick_from(fields, grid, "reference", default.reference),
+        range=tick_from(fields, grid, "range", -1),
         open=fields.whole("open", default.open, 1, MOST_OPEN),
         calls=fields.whole("calls", default.calls, 1, MOST_CALLS),
         most_quantity=fields.whole("most_quantity", MOST_QUANTITY, 1, MOST_QUANTITY),
-        uncovered_bought=tick_of(fields, grid, "uncovered_bought", 0),
-        uncovered_sold=tick_of(fields, grid, "uncovered_sold", -1),
+        uncovered_bought=tick_from(fields, grid, "uncovered_bought", 0),
+        uncovered_sold=tick_from(fields, grid, "uncovered_sold", -1),
     )
     fields.ended()
     if found.uncovered_sold == -1:
@@ -397,7 +397,7 @@ def check_prices(fields: Fields, found: InstrumentTerms) -> None:
         raise fields.fault("high", f"{why} at most {MOST_TICKS}: a greater tick_size has fewer")
 
 
-def tick_of(fields: Fields, grid: Grid, name: str, default: int) -> int:
+def tick_from(fields: Fields, grid: Grid, name: str, default: int) -> int:
     """The tick of a price. Raises ConfigError where it isn't on the grid."""
     found = fields.decimal(name)
     if found is None:
@@ -414,7 +414,7 @@ def tick_of(fields: Fields, grid: Grid, name: str, default: int) -> int:
     return tick
 
 
-def payoff_of(fields: Fields) -> PayoffTerms:
+def payoff_from(fields: Fields) -> PayoffTerms:
     """What members are paid. Raises ConfigError."""
     default = PayoffTerms()
     base, rate = fields.decimal("base"), fields.decimal("rate")
@@ -430,10 +430,10 @@ def payoff_of(fields: Fields) -> PayoffTerms:
     return found
 
 
-def rounds_of(tables: list[dict[str, Any]], folder: pathlib.Path) -> tuple[Treatment, ...]:
+def rounds_from(tables: list[dict[str, Any]], folder: pathlib.Path) -> tuple[Treatment, ...]:
     """The rounds, whose lists of values are files of this folder. Raises ConfigError."""
     return tuple(
-        treatment_of(Fields(f"round {number}", table), reader(folder))
+        treatment_from(Fields(f"round {number}", table), reader(folder))
         for number, table in enumerate(tables, 1)
     )
 

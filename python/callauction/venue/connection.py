@@ -34,10 +34,10 @@ MESSAGE_RATE, MESSAGE_BURST = 20.0, 40
 """Messages of a connection that is no member's, a second and at once."""
 
 
-def read(text: str) -> tuple[dict[str, Any], MessageError | None]:
+def read_or_fault(text: str) -> tuple[dict[str, Any], MessageError | None]:
     """A message, or nothing and what is wrong with it."""
     try:
-        return messages.read(text), None
+        return messages.message_in(text), None
     except MessageError as fault:
         return {}, fault
 
@@ -183,7 +183,7 @@ class Connection:
         if message.type is not WSMsgType.TEXT:
             return False
         try:
-            hello = messages.read(message.data)
+            hello = messages.message_in(message.data)
             self.topics = messages.topics_of(hello)
             self.role, self.member = self._venue.role_of(messages.text_of(hello, "token"))
             if self.member is not None and not self.member.hellos.takes():
@@ -201,7 +201,7 @@ class Connection:
         """Takes a message, for whose answer there is room: whether it didn't come too fast."""
         number = None
         try:
-            given, fault = read(text)
+            given, fault = read_or_fault(text)
             if type(found := given.get("number")) is int:
                 number = found
             if given.get("type") == "ping":

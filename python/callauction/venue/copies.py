@@ -19,7 +19,7 @@ from callauction.venue import owned, tokens
 from callauction.venue.downloads import NAMES_FILE, RESULTS_FILE
 from callauction.venue.fix_terms import SENT
 from callauction.venue.journal import JOURNAL
-from callauction.venue.log import Line, LogError, read_lines, text_of
+from callauction.venue.log import Line, LogError, line_text, read_lines
 from callauction.venue.owned import OwnerError
 from callauction.venue.recovery import (
     Entry, RecoveryError, RolledBackError, entries_in, mark_of, runs_of, settled,
@@ -52,7 +52,7 @@ COPY_FAULTS = (CopyError, LogError, OwnerError, OSError)
 """Why a copy can't be made or put back."""
 
 
-def said(command: str, fault: Exception) -> int:
+def say_copy_fault(command: str, fault: Exception) -> int:
     """Says on standard error by which of the COPY_FAULTS a command has failed: its status."""
     text, status = str(fault), BAD_DAY if isinstance(fault, OwnerError) else BAD_FILE
     if isinstance(fault, OSError):
@@ -155,13 +155,13 @@ def most_known(lines: list[Line], entries: list[Entry]) -> int | None:
     return None
 
 
-def sums_of(files: Files) -> bytes:
+def sums_text(files: Files) -> bytes:
     """What `sha256sum --check` reads of these files."""
     rows = (f"{hashlib.sha256(files[name]).hexdigest()}  {name}\n" for name in sorted(files))
     return "".join(rows).encode()
 
 
-def difference(files: Files, sums: bytes) -> str:
+def changed_file(files: Files, sums: bytes) -> str:
     """The first of these files that isn't as the sums of a copy say, and how many others aren't;
     empty where all are.
     """
@@ -175,7 +175,7 @@ def difference(files: Files, sums: bytes) -> str:
             found.append(f"{name} differs")
     if not sums or end or None in rows or not found:
         others = f"its {SUMS_FILE} {'was changed' if sums else 'is missing'}"
-        return "" if sums == sums_of(files) else others
+        return "" if sums == sums_text(files) else others
     return found[0] + (f", and {len(found) - 1} more" if found[1:] else "")
 
 
@@ -217,7 +217,7 @@ def backup(folder: pathlib.Path, copy: pathlib.Path) -> Files:
         raise CopyError(f"{copy} is in the folder of the day itself")
     check_new(copy)
     files = consistent(*read_day(folder))
-    write_day(files | {SUMS_FILE: sums_of(files)}, copy)
+    write_day(files | {SUMS_FILE: sums_text(files)}, copy)
     return files
 
 
@@ -232,7 +232,7 @@ def restore(copy: pathlib.Path, folder: pathlib.Path, program: str) -> Files:
         owned.check_copy(it)
     files = {it.name: read_file(it) for it in sorted(copy.iterdir())}
     sums = files.pop(SUMS_FILE, b"")
-    if why := difference(files, sums):
+    if why := changed_file(files, sums):
         raise CopyError(f"{copy} isn't the copy that was made: {why}")
     if LOG not in files:
         raise CopyError(f"{copy} is no copy of a venue: it has no {LOG}")
@@ -259,7 +259,7 @@ def restored_line(files: Files) -> bytes:
     line: Line = {"time": max(last, round(time.time(), 3)), "kind": "restored"}
     line |= {"mark": f"v{secrets.token_hex(MARK_BYTES)}", "entries": counts}
     line["round"] = max(rounds, default=1)
-    return text_of(line).encode("ascii") + b"\n"
+    return line_text(line).encode("ascii") + b"\n"
 
 
 def audit(program: str, name: str, journal: bytes) -> None:

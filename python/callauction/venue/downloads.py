@@ -103,7 +103,7 @@ class Lesson:
 async def made(kind: str, lesson: Lesson, board: InstrumentBoard, language: str = PLAIN) -> bytes:
     """The bytes of a download, in a language of sheets.SHEET_LANGUAGES. Raises DownloadError."""
     if kind == "members":
-        return members_of(board, lesson.members.title_of, language)
+        return numbers_table(board, lesson.members.title_of, language)
     if kind == "journal":
         return journal_of(board)
     if kind == "results":
@@ -124,10 +124,10 @@ async def made_in(folder: str, kind: str, lesson: Lesson, language: str) -> byte
         paths[each.identity.key] = path = pathlib.Path(folder, f"{each.identity.key}.csv")
         path.write_bytes(journal_of(each))
     if kind == "trades":
-        return table(TRADE_COLUMNS, await trades_of(lesson, paths), language)
+        return table(TRADE_COLUMNS, await trade_rows(lesson, paths), language)
     asked = json.dumps(await asked_of(lesson, paths, language)).encode("utf-8")
     words = [sys.executable, *SAFE_PATH, "-m", "callauction.venue.report"]
-    return await output(words, asked)
+    return await printed_bytes(words, asked)
 
 
 def file_of(kind: str, lesson: Lesson, board: InstrumentBoard, language: str = PLAIN) -> str:
@@ -154,7 +154,7 @@ def journal_of(board: InstrumentBoard) -> bytes:
     return journal[: journal.rfind(b"\n") + 1]
 
 
-async def output(words: Sequence[str], given: bytes) -> bytes:
+async def printed_bytes(words: Sequence[str], given: bytes) -> bytes:
     """What a command prints of an input; where nobody waits for that any more it is ended. Raises
     DownloadError.
     """
@@ -199,7 +199,7 @@ async def started(words: Sequence[str]) -> asyncio.subprocess.Process:
 # ---- tables
 
 
-def members_of(board: InstrumentBoard, title_of: Titles, language: str = PLAIN) -> bytes:
+def numbers_table(board: InstrumentBoard, title_of: Titles, language: str = PLAIN) -> bytes:
     """The names of the members by their numbers in the journal."""
     numbers = board.book.numbers.items()
     rows: list[SheetRow] = [{"number": it, "name": plain(title_of(name))} for name, it in numbers]
@@ -208,10 +208,10 @@ def members_of(board: InstrumentBoard, title_of: Titles, language: str = PLAIN) 
 
 def results_table(lesson: Lesson, language: str = PLAIN) -> bytes:
     """The results as a CSV file."""
-    return table(RESULT_COLUMNS, results_of(lesson), language)
+    return table(RESULT_COLUMNS, result_rows(lesson), language)
 
 
-def results_of(lesson: Lesson) -> Iterator[SheetRow]:
+def result_rows(lesson: Lesson) -> Iterator[SheetRow]:
     """The results of all members, round by round, and then what they are paid, with who was removed
     and had a part.
     """
@@ -235,10 +235,12 @@ def parts_of(lesson: Lesson) -> Iterator[tuple[Member, SheetRow]]:
             if has_part or (is_there and not member.is_removed):
                 head: SheetRow = {"name": plain(member.title), "robot": member.robot}
                 head["removed"] = NO_OR_YES[member.is_removed]
-                yield member, head | result_of(lesson.day, round_, board, member.name)
+                yield member, head | result_row(lesson.day, round_, board, member.name)
 
 
-def result_of(day: config.DayTerms, round_: Round, board: InstrumentBoard, member: str) -> SheetRow:
+def result_row(
+    day: config.DayTerms, round_: Round, board: InstrumentBoard, member: str
+) -> SheetRow:
     """What a member came to on a board."""
     fills = board.accounts.fills_of(member)
     found: SheetRow = {
@@ -250,20 +252,22 @@ def result_of(day: config.DayTerms, round_: Round, board: InstrumentBoard, membe
     for side, shares, money in (("bid", "bought", "paid"), ("ask", "sold", "received")):
         those = [it for it in fills if it.side == side]
         found[shares] = sum(it.quantity for it in those)
-        found[money] = results.money_of(board, sum(it.quantity * it.tick for it in those))
+        found[money] = results.amount_of(board, sum(it.quantity * it.tick for it in those))
     if value := board.accounts.values.get(member):
         price = board.terms.price(value.tick)
         found |= {"side": value.side, "value": price, "quantity": value.quantity}
     if board.accounts.has_values:
-        found |= gains_of(day, round_, board, member)
+        found |= gain_cells(day, round_, board, member)
     return found
 
 
-def gains_of(day: config.DayTerms, round_: Round, board: InstrumentBoard, member: str) -> SheetRow:
+def gain_cells(
+    day: config.DayTerms, round_: Round, board: InstrumentBoard, member: str
+) -> SheetRow:
     """What a member gained on a board, what all could, and the share of it that they did."""
-    gain = results.money_of(board, board.accounts.gain_of(member))
+    gain = results.amount_of(board, board.accounts.gain_of(member))
     most = board.accounts.most
-    found: SheetRow = {"gain": gain, "possible": results.money_of(board, most)}
+    found: SheetRow = {"gain": gain, "possible": results.amount_of(board, most)}
     if most:
         found["efficiency"] = f"{board.accounts.gain / most:.4f}"
     if not round_.treatment.is_practice:
@@ -271,12 +275,12 @@ def gains_of(day: config.DayTerms, round_: Round, board: InstrumentBoard, member
     return found
 
 
-async def trades_of(lesson: Lesson, paths: dict[str, pathlib.Path]) -> list[SheetRow]:
+async def trade_rows(lesson: Lesson, paths: dict[str, pathlib.Path]) -> list[SheetRow]:
     """The trades of all rounds, with the names of both members, in money. Raises DownloadError."""
     found: list[SheetRow] = []
     for round_, board in lesson.boards():
         given = paths[board.identity.key].read_bytes()
-        printed = await output([lesson.program, "--print", "trades"], given)
+        printed = await printed_bytes([lesson.program, "--print", "trades"], given)
         for row in csv.DictReader(io.StringIO(printed.decode("ascii"))):
             quantity, tick = int(row["quantity"]), int(row["tick"])
             names = [board.book.names.get(int(row[f"{it}_member"]), "") for it in ("bid", "ask")]
@@ -291,7 +295,7 @@ async def trades_of(lesson: Lesson, paths: dict[str, pathlib.Path]) -> list[Shee
                     "seller": seller,
                     "quantity": quantity,
                     "price": board.terms.price(tick),
-                    "amount": results.money_of(board, quantity * tick),
+                    "amount": results.amount_of(board, quantity * tick),
                 }
             )
     return found
@@ -304,9 +308,9 @@ async def asked_of(
     lesson: Lesson, paths: dict[str, pathlib.Path], language: str
 ) -> dict[str, Any]:
     """What report.py makes a page of. Raises DownloadError."""
-    trades = await trades_of(lesson, paths)
-    rows = [*results_of(lesson)]
-    boards = [board_of(lesson, round_, board, language) for round_, board in lesson.boards()]
+    trades = await trade_rows(lesson, paths)
+    rows = [*result_rows(lesson)]
+    boards = [report_board(lesson, round_, board, language) for round_, board in lesson.boards()]
     for it in boards:
         it["journal"] = str(paths[it["key"]])
     return {
@@ -319,7 +323,7 @@ async def asked_of(
     }
 
 
-def board_of(
+def report_board(
     lesson: Lesson, round_: Round, board: InstrumentBoard, language: str
 ) -> dict[str, Any]:
     """What a report says of a board."""
@@ -331,7 +335,7 @@ def board_of(
         "instrument": board.terms.name,
         "tick_size": format(board.terms.grid.tick_size, "f"),
         "currency": board.terms.currency,
-        "possible": format(results.money_of(board, most), "f"),
+        "possible": format(results.amount_of(board, most), "f"),
         "efficiency": f"{100 * board.accounts.gain // most} %" if most else None,
     }
 

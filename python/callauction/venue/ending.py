@@ -49,10 +49,10 @@ def left() -> list[str]:
     thread does.
     """
     found = dict.fromkeys(it.name() for it in [*_all])
-    return [*filter(None, found)] or [f"what the venue does at {place()}"]
+    return [*filter(None, found)] or [f"what the venue does at {line_of_first_thread()}"]
 
 
-def place() -> str:
+def line_of_first_thread() -> str:
     """The line of this package in which the first thread is."""
     frame = sys._current_frames()[threading.main_thread().ident or 0]
     while frame.f_back is not None and not frame.f_code.co_filename.startswith(PACKAGE):

@@ -29,11 +29,11 @@ class Terms:
     fix50: tuple[str, ...] = ()
 
 
-def terms_of(table: dict[str, Any]) -> Terms:
+def terms_from(table: dict[str, Any]) -> Terms:
     """The front of a table. Raises ConfigError."""
     fields = Fields("fix", table)
-    host, port = address_of(fields)
-    members = sessions_of(fields, fields.table("sessions"))
+    host, port = address_from(fields)
+    members = sessions_from(fields, fields.table("sessions"))
     copy = fields.text("copy", "", COMP_ID)
     fix50 = fields.names("fix50")
     fields.ended()
@@ -45,7 +45,7 @@ def terms_of(table: dict[str, Any]) -> Terms:
     return Terms(members, host, port, copy, tuple(sorted(fix50)))
 
 
-def address_of(fields: Fields) -> tuple[str, int]:
+def address_from(fields: Fields) -> tuple[str, int]:
     """The host and the port of `address`. Raises ConfigError."""
     text = fields.text("address", f"{DEFAULT_HOST}:{DEFAULT_PORT}", ADDRESS)
     found = ADDRESS.fullmatch(text)
@@ -54,7 +54,7 @@ def address_of(fields: Fields) -> tuple[str, int]:
     return found["host"].strip("[]"), int(found["port"])
 
 
-def sessions_of(fields: Fields, table: dict[str, Any]) -> dict[str, str]:
+def sessions_from(fields: Fields, table: dict[str, Any]) -> dict[str, str]:
     """The member of each CompID. Raises ConfigError."""
     if not table:
         raise fields.fault("sessions", "has no CompID")

@@ -4,7 +4,7 @@ closes that are long or in parts; it takes frames without a mask, and a message 
 """
 from callauction.venue import tried
 
-tried.check()  # before anything of it is taken
+tried.check_tried()  # before anything of it is taken
 
 from aiohttp import FlowControlDataQueue, WSCloseCode, WSMessage, WSMsgType, web  # noqa: E402
 from aiohttp.http_websocket import WebSocketError, WebSocketReader, WebSocketWriter  # noqa: E402

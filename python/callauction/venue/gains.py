@@ -48,7 +48,7 @@ def worth_of(value: Value | None, shares: int, uncovered: Uncovered) -> int:
     return covered * own + rest * (uncovered.bought if rest > 0 else uncovered.sold)
 
 
-def gain_of(value: Value | None, fills: Fills, uncovered: Uncovered) -> int:
+def gain_in_ticks(value: Value | None, fills: Fills, uncovered: Uncovered) -> int:
     """What these fills gain, in ticks times shares: each counts, whatever its side."""
     shares = money = 0
     for side, quantity, tick in fills:

@@ -150,7 +150,7 @@ def values_of(
     }
 
 
-def named(
+def rows_of_members(
     rows: Iterable[ListedValue], titles: Mapping[str, str]
 ) -> tuple[tuple[ListedValue, ...], tuple[ListedValue, ...]]:
     """The rows of members, with their names, and those of nobody yet; `titles` are keys of names.

@@ -40,7 +40,7 @@ Ways = list[Own]
 """What an order may be: as it is, and as each record that isn't answered may make it."""
 
 
-def entered(fields: list[str]) -> Own:
+def order_entered(fields: list[str]) -> Own:
     """The order of a record after `enter`."""
     side, quantity, limit = fields[:3]
     return Own(side, int(quantity), None if limit == MARKET else int(limit))
@@ -58,7 +58,9 @@ def changed_new(new: Iterable[Ways], fields: list[str]) -> Ways:
     return [changed(Own(side, 0, None), fields) for side in sides]
 
 
-def asked(open_: Mapping[int, Own], records: Iterable[str]) -> tuple[dict[int, Ways], list[Ways]]:
+def possible_orders(
+    open_: Mapping[int, Own], records: Iterable[str]
+) -> tuple[dict[int, Ways], list[Ways]]:
     """What each open order of a member may be, and the new ones that records ask for which aren't
     answered. What a change makes of an order that isn't known, which may be a new one, is one more.
     """
@@ -67,7 +69,7 @@ def asked(open_: Mapping[int, Own], records: Iterable[str]) -> tuple[dict[int, W
     for record in records:
         word, *fields = record.split(",")
         if word == "enter":
-            new.append([entered(fields)])
+            new.append([order_entered(fields)])
         elif word == "change" and (ways := own.get(int(fields[0]))):
             ways.append(changed(ways[0], fields))
         elif word == "change" and new:
@@ -87,10 +89,10 @@ class Step:
 
     @classmethod
     def of(cls, record: str, own: Mapping[int, Ways], new: list[Ways]) -> Self:
-        """What a record makes beside what `asked` has found."""
+        """What a record makes beside what `possible_orders` has found."""
         word, *fields = record.split(",")
         if word == "enter":
-            return cls([entered(fields)], [], [*own.values(), *new])
+            return cls([order_entered(fields)], [], [*own.values(), *new])
         number = int(fields[0])
         before = own.get(number, [])
         others = [*(ways for order, ways in own.items() if order != number), *new]
@@ -118,7 +120,7 @@ class Holding:
 
     def check(self, limits: Limits, record: str) -> None:
         """Raises MessageError where the limits refuse the record of a message."""
-        step = Step.of(record, *asked(self.orders, self.waiting))
+        step = Step.of(record, *possible_orders(self.orders, self.waiting))
         for order in step.after:
             self._check(limits, order, step)
 
@@ -132,7 +134,7 @@ class Holding:
             self._check_covered(order, others)
         if limits.shares is not None and order.side == "ask" and is_more:
             left = limits.shares + position(self.fills) - shares_of(others, "ask")
-            check_room("no_shares", order.quantity, left)
+            check_shares_left("no_shares", order.quantity, left)
         if limits.money is not None and order.side == "bid":
             cost = order.value(self.high)
             least = min((it.value(self.high) for it in step.before), default=-1)
@@ -146,7 +148,7 @@ class Holding:
         is_bid = order.side == "bid"
         own = self.value.quantity if self.value and self.value.side == order.side else 0
         held = position(self.since) if is_bid else -position(self.since)
-        check_room("not_covered", order.quantity, own - held - shares_of(others, order.side))
+        check_shares_left("not_covered", order.quantity, own - held - shares_of(others, order.side))
 
     def _cost(self, orders: Iterable[Ways]) -> int:
         """What the bids among these cost at most, in ticks times shares."""
@@ -156,7 +158,7 @@ class Holding:
         )
 
 
-def check_room(code: str, quantity: int, left: int) -> None:
+def check_shares_left(code: str, quantity: int, left: int) -> None:
     """Raises MessageError where an order has more shares than there is room for."""
     if quantity > left:
         raise MessageError(code, f"at most {max(0, left)} shares more can be entered on this side")

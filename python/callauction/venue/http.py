@@ -100,7 +100,7 @@ def name_of(host: str) -> str:
 def is_reached_by(request: web.Request, host: str) -> bool:
     """Whether a host is the address of this machine at which a request has come."""
     own = request.transport.get_extra_info("sockname") if request.transport else None
-    return own is not None and addresses.is_same(host, own[0].partition("%")[0])
+    return own is not None and addresses.is_same_address(host, own[0].partition("%")[0])
 
 
 class Site:
@@ -425,7 +425,7 @@ async def body_of(request: web.Request) -> dict[str, Any]:
         text = (await request.read()).decode("utf-8")
     except ValueError:
         raise MessageError("bad_message", "this is no JSON") from None
-    found = messages.value_of(text)
+    found = messages.json_value(text)
     if not isinstance(found, dict):
         raise MessageError("bad_message", "this is no object")
     return found

@@ -11,9 +11,9 @@ from collections.abc import Callable, Iterable
 from typing import Any, ParamSpec, TypeVar
 
 from callauction.venue import ending, owned
-from callauction.venue.log import Log, text_of
+from callauction.venue.log import Log, line_text
 from callauction.venue.recovery import (
-    Entry, OTHER_FIRST, Mark, RolledBackError, Sum, known_entries, sums_of,
+    OTHER_FIRST, Entry, Mark, RolledBackError, Sum, journal_sums, known_entries,
 )
 
 JOURNAL = ".journal.csv"
@@ -70,7 +70,7 @@ class Journal:
         """The log's line of the entries so far, and of more."""
         mark = self.mark
         kept = {"entries": mark.entries, "sha256": mark.sha256}
-        return text_of({"kind": kind, "instrument": self.name} | kept | more)
+        return line_text({"kind": kind, "instrument": self.name} | kept | more)
 
     # ---- what is on the disk
 
@@ -89,13 +89,13 @@ class Journal:
         as it was answered, and OSError. It is read where something has changed since the last look.
         """
         mark, size = self.mark, self._sum.size
-        state = state_of(self.path), mark
+        state = file_state(self.path), mark
         if state == self._looked:
             return
         if not owned.check_file(self.path):
             await self.known_entries(mark)  # which says that it is missing
             raise RolledBackError("the journal is missing")
-        first, rest = await self.in_thread(sums_of, self.path, size)
+        first, rest = await self.in_thread(journal_sums, self.path, size)
         self.first = self.first or first
         if (first, rest) != (self.first, mark.sha256):
             await self.known_entries(dataclasses.replace(mark, first=self.first))
@@ -124,7 +124,7 @@ class Journal:
             raise OSError(errno.EAGAIN, str(fault), str(self.path)) from None
 
 
-def state_of(path: pathlib.Path) -> tuple[int, ...]:
+def file_state(path: pathlib.Path) -> tuple[int, ...]:
     """What tells that a file was changed, or another one put into its place; empty where there is
     none. Raises OSError.
     """

@@ -36,7 +36,7 @@ class Program:
         """The process that has this number, None where there is none or it can't be seen."""
         boot = clock.boot()
         with contextlib.suppress(OSError, ValueError, IndexError):
-            return cls(pid, int(fields_of(pid)[START_FIELD]), boot)
+            return cls(pid, int(process_fields(pid)[START_FIELD]), boot)
         return None
 
     def kept(self) -> dict[str, Any]:
@@ -86,7 +86,7 @@ def writes(pid: int, about: os.stat_result) -> bool:
     return False
 
 
-def fields_of(pid: int) -> list[str]:
+def process_fields(pid: int) -> list[str]:
     """The fields behind a process's name in its /proc/PID/stat. Raises OSError."""
     text = (PROCESSES / str(pid) / "stat").read_text("utf-8", "replace")
     return text.rpartition(")")[2].split()
@@ -111,7 +111,7 @@ def is_left(pid: int, program: str, journal: pathlib.Path) -> bool:
     """
     about = PROCESSES / str(pid)
     with contextlib.suppress(OSError, ValueError, IndexError):
-        fields, words = fields_of(pid), words_of(pid)
+        fields, words = process_fields(pid), words_of(pid)
         is_program = program in words[:2] or os.path.samefile(about / "exe", program)
         own = about / "cwd" / words[words.index("--journal") + 1]
         is_own = os.stat(about).st_uid == os.geteuid() and int(fields[SESSION_FIELD]) == pid
@@ -121,7 +121,7 @@ def is_left(pid: int, program: str, journal: pathlib.Path) -> bool:
     return False
 
 
-def named(pids: list[int]) -> str:
+def how_to_end(pids: list[int]) -> str:
     """Which processes these are, with the command that ends them; empty where none is seen."""
     numbers = " ".join(map(str, pids))
     return f" by process {numbers}: `kill -9 {numbers}` ends it" if pids else ""

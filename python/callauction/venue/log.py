@@ -64,7 +64,7 @@ class OtherVersion(LogError):
     """The log is of another version."""
 
 
-def text_of(line: Line) -> str:
+def line_text(line: Line) -> str:
     """A line of the log as it is written, with the time in seconds of the epoch."""
     return ENCODER.encode({"time": round(clock.now(), 3)} | line)
 
@@ -72,8 +72,8 @@ def text_of(line: Line) -> str:
 def sent_text(
     instrument: str, member: str, number: int, record: str, source: str, note: Mapping[str, str]
 ) -> str:
-    """The line of a message that is sent to a program, as `text_of` writes it, from parts: each
-    order has one, and it takes half of the time.
+    """The line of a message that is sent to a program, as `line_text` writes it, from parts:
+    each order has one, and it takes half of the time.
     """
     time = round(clock.now(), 3)
     whose = f'"instrument":{known(instrument)},"member":{known(member)},"number":{number}'
@@ -90,7 +90,7 @@ def read_lines(text: bytes, name: str) -> list[Line]:
         try:
             read = json.loads(line)
             found.append(read | {"kind": read["kind"]})
-            is_line = all(type(read[field]) is kind for field, kind in fields_of(read))
+            is_line = all(type(read[field]) is kind for field, kind in line_fields(read))
         except (ValueError, TypeError, KeyError, RecursionError):
             is_line = False
         if not is_line:
@@ -98,7 +98,7 @@ def read_lines(text: bytes, name: str) -> list[Line]:
     return found
 
 
-def fields_of(line: Line) -> list[tuple[str, type]]:
+def line_fields(line: Line) -> list[tuple[str, type]]:
     """The fields that a line has to have by its kind, and the kind of each."""
     found: list[tuple[str, type]] = [("kind", str), *LINE_FIELDS.get(line["kind"], {}).items()]
     return found + [("instrument", str)] * ("instrument" in line)
@@ -116,7 +116,7 @@ def taking(line: Line) -> Iterator[None]:
     try:
         yield
     except (ArithmeticError, LookupError, TypeError, ValueError, AttributeError):
-        text = text_of(line)[:MOST_LINE_LETTERS]
+        text = line_text(line)[:MOST_LINE_LETTERS]
         raise LogError(f"this line of the log can't be: {text}") from None
 
 
@@ -197,7 +197,7 @@ class Log:
     def note(self, then: Then | None = None, **line: Any) -> None:
         """Writes a line with these fields, and from where it was asked for."""
         source = SOURCE.get()
-        self.append(text_of(line | ({"from": source} if source else {})), then)
+        self.append(line_text(line | ({"from": source} if source else {})), then)
 
     async def written(self) -> None:
         """Waits until all lines so far are on the disk."""

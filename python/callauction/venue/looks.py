@@ -117,7 +117,7 @@ class Looks:
                 [lines] = await self._engine.show([f"show,orders,{number}"])
             except ProcessError:
                 raise MessageError("halted", DOES_NOT_ANSWER) from None
-            self.orders[member] = views.orders_of(lines)
+            self.orders[member] = views.orders_in_view(lines)
 
     async def look(self, has_ladder: bool = False) -> None:
         """Looks at the program once, and at the book where somebody wants it. Raises ProcessError.
@@ -153,18 +153,18 @@ class Looks:
         self.indication = views.Indication.of(found[0][0])
         self._auctions.indicated(self.indication)
         self.day = views.DayView.of(found[1][0])
-        self._add_trades(trades := views.trades_of(found[2]))
-        self.orders.update(zip(asked, map(views.orders_of, found[3:])))
+        self._add_trades(trades := views.trades_in_view(found[2]))
+        self.orders.update(zip(asked, map(views.orders_in_view, found[3:])))
         self.is_ladder_seen = has_ladder
         if has_ladder:
-            self.levels = views.levels_of(found[3 + len(asked)])
+            self.levels = views.levels_in_view(found[3 + len(asked)])
         if sees_hidden:
-            orders, self._listed = views.orders_of(found[-1]), count
+            orders, self._listed = views.orders_in_view(found[-1]), count
             self.visible_levels = views.visible_levels(orders, self.day.auction)
         elif has_ladder and not is_hidden:
             self.visible_levels = self.levels
         if sees_book and entries == book.entries:
-            book.seen(views.orders_of(found[-1]))
+            book.seen(views.orders_in_view(found[-1]))
         is_first, self.is_seen = not self.is_seen, True
         told = [it for it in self.wanted() if self.knows_orders_of(it)] if is_first else asked
         self.on_shown(frozenset(told), is_first or bool(trades))

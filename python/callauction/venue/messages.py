@@ -78,7 +78,7 @@ class Order:
     note: Mapping[str, str] = dataclasses.field(default_factory=dict, compare=False)
 
 
-def value_of(text: str) -> Any:
+def json_value(text: str) -> Any:
     """What a text of JSON says. Raises MessageError where it is none, where a text in it is none
     that can be written, as half a pair of UTF-16, and where a key is there twice.
     """
@@ -105,11 +105,11 @@ def object_of(pairs: list[tuple[str, Any]]) -> dict[str, Any]:
     return found
 
 
-def read(text: str) -> dict[str, Any]:
+def message_in(text: str) -> dict[str, Any]:
     """An object of JSON with a type. Raises MessageError."""
     if len(text) > MOST_MESSAGE_BYTES:
         raise MessageError("bad_message", "the message is too long")
-    found = value_of(text)
+    found = json_value(text)
     if not isinstance(found, dict) or not isinstance(found.get("type"), str):
         raise MessageError("bad_message", "the message has no type")
     return found
@@ -141,7 +141,7 @@ def number_of(message: dict[str, Any], name: str, least: int, most: int) -> int:
     return found
 
 
-def tick_of(terms: InstrumentTerms, price: object) -> str:
+def limit_text(terms: InstrumentTerms, price: object) -> str:
     """The limit of a record: a tick, or `market`. Raises MessageError."""
     if price == MARKET:
         return MARKET
@@ -172,16 +172,16 @@ def order_of(terms: InstrumentTerms, message: dict[str, Any]) -> Order:
         raise MessageError("bad_message", f"there is no {name} in {kind}")
     number = number_of(message, "number", 1, MOST_MESSAGE)
     if kind == "enter":
-        rest = entered(terms, message)
+        rest = enter_record(terms, message)
     else:
         rest = f"{kind},{number_of(message, 'order', 0, MOST_NUMBER)}"
     if kind == "change":
-        limit = tick_of(terms, message.get("price"))
+        limit = limit_text(terms, message.get("price"))
         rest += f",{quantity_of(terms, message)},{limit}"
     return Order(number, terms.name, rest)
 
 
-def entered(terms: InstrumentTerms, message: dict[str, Any]) -> str:
+def enter_record(terms: InstrumentTerms, message: dict[str, Any]) -> str:
     """The record of a new order after its member, in its shortest form. Raises MessageError."""
     side, only = text_of(message, "side"), text_of(message, "only", "")
     if side not in SIDES:
@@ -192,4 +192,4 @@ def entered(terms: InstrumentTerms, message: dict[str, Any]) -> str:
     has_peak = message.get("peak") is not None
     peak = str(number_of(message, "peak", 0, MOST_NUMBER)) if has_peak else ""
     end = f",{peak},{only}" if only else f",{peak}" if peak else ""
-    return f"enter,{side},{quantity},{tick_of(terms, message.get('price'))}{end}"
+    return f"enter,{side},{quantity},{limit_text(terms, message.get('price'))}{end}"

@@ -88,14 +88,14 @@ class Measures:
             gauge = GaugeMetricFamily(f"{PREFIX}_{name}", what, labels=OF_INSTRUMENTS)
             for of, board in self._known(name):
                 is_halted = name == "halted" and self._venue.halts.halted is not None
-                gauge.add_metric([of], max(is_halted, value_of(board, name)))
+                gauge.add_metric([of], max(is_halted, measure_of(board, name)))
             for early, _ in self._venue.rounds.early_halts if name == "halted" else ():
                 gauge.add_metric([early_name(early)], 1)
             yield gauge
         for name, what in counters.items():
             counter = CounterMetricFamily(f"{PREFIX}_{name}", what, labels=OF_INSTRUMENTS)
             for of, board in self._known(name):
-                counter.add_metric([of], value_of(board, name))
+                counter.add_metric([of], measure_of(board, name))
             yield counter
 
     def _known(self, name: str) -> Iterator[tuple[str, InstrumentBoard]]:
@@ -139,7 +139,7 @@ class Text:
         return self._text
 
 
-def value_of(board: InstrumentBoard, name: str) -> float:
+def measure_of(board: InstrumentBoard, name: str) -> float:
     """A measure of an instrument."""
     engine = board.engine
     values = {

@@ -104,7 +104,7 @@ class Sparing(logging.Filter):
         return line, "times more"
 
 
-def text_of(record: logging.LogRecord) -> str:
+def record_text(record: logging.LogRecord) -> str:
     """A record in one line: what is said, what was raised and where, how many were left out."""
     text = " ".join(record.getMessage().split())
     if record.exc_info and record.exc_info[1] is not None:
@@ -179,7 +179,7 @@ class Plain(logging.Formatter):
 
     def format(self, record: logging.LogRecord) -> str:
         """The line of a record."""
-        return f"venue: {text_of(record)}"
+        return f"venue: {record_text(record)}"
 
 
 class AsJson(logging.Formatter):
@@ -192,7 +192,7 @@ class AsJson(logging.Formatter):
         found = {
             "time": round(record.created, 3),
             "level": record.levelname.lower(),
-            "text": text_of(record),
+            "text": record_text(record),
         }
         if member := getattr(record, "member", ""):
             found["member"] = member

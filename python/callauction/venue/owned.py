@@ -26,10 +26,10 @@ def make_folder(path: pathlib.Path) -> None:
         path.mkdir(mode=FOLDER_MODE)
     if path.is_symlink() and os.lstat(path).st_uid not in (0, os.geteuid()):
         raise OwnerError(f"{path} is a link of another user: find out who, then chown -h")
-    check(path, os.stat(path), WRITES_OF_OTHERS, is_folder=True)
+    check_owner(path, os.stat(path), WRITES_OF_OTHERS, is_folder=True)
 
 
-def check(
+def check_owner(
     path: pathlib.Path, found: os.stat_result, refused: int, is_folder: bool = False
 ) -> None:
     """Raises OwnerError where a file isn't this user's, or gives others one of these rights."""
@@ -54,7 +54,7 @@ def check_file(path: pathlib.Path) -> bool:
         found = os.lstat(path)
     except FileNotFoundError:
         return False
-    check(path, found, WRITES_OF_OTHERS)
+    check_owner(path, found, WRITES_OF_OTHERS)
     return True
 
 
@@ -81,14 +81,14 @@ def opened(path: pathlib.Path, flags: int) -> int:
     flags |= os.O_CLOEXEC | os.O_NOFOLLOW | os.O_NONBLOCK
     file = os.open(path, flags, FILE_MODE)
     try:
-        check(path, os.fstat(file), OF_OTHERS)
+        check_owner(path, os.fstat(file), OF_OTHERS)
     except OwnerError:
         os.close(file)
         raise
     return file
 
 
-def read(path: pathlib.Path, most: int) -> bytes:
+def secret_bytes(path: pathlib.Path, most: int) -> bytes:
     """The bytes of a secret file, at most as many and one. Raises OwnerError, and OSError."""
     file = opened(path, os.O_RDONLY)
     try:

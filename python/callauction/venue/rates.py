@@ -85,7 +85,7 @@ class Guesses:
     def wrong(self, address: str, connection: str) -> bool:
         """A code was wrong: whether from now on each code waits for its turn."""
         are_few = self._wrong.is_full()
-        for counts, name in zip(self._counts, names_of(address, connection)):
+        for counts, name in zip(self._counts, counted_names(address, connection)):
             if are_few:
                 counts.clear()
             counts.add(name)
@@ -97,7 +97,7 @@ class Guesses:
         """
         if not self._waiting and self._wrong.has_room():
             return True
-        names = names_of(address, connection)
+        names = counted_names(address, connection)
         first, second, third = (counts[it] for counts, it in zip(self._counts, names))
         turn: asyncio.Future[bool] = asyncio.get_running_loop().create_future()
         self._waiting[first, second, third, next(self._places)] = turn
@@ -123,7 +123,7 @@ class Guesses:
         return True
 
 
-def names_of(address: str, connection: str) -> tuple[str, str, str]:
+def counted_names(address: str, connection: str) -> tuple[str, str, str]:
     """By what wrong codes are counted: the connection, its address, and the wide network of it."""
     return connection, network_of(address), network_of(address, *WIDE_NETWORK_BITS)
 

@@ -149,7 +149,7 @@ class Sum:
         return Mark(self.count, self._sum.hexdigest(), earlier=self._earlier)
 
 
-def sums_of(path: pathlib.Path, size: int) -> tuple[str, str]:
+def journal_sums(path: pathlib.Path, size: int) -> tuple[str, str]:
     """The SHA-256 of a journal's first line, and of as many bytes behind it. Raises OSError."""
     with open(path, "rb") as file:
         first, rest = hashlib.sha256(file.readline(JOURNAL_BLOCK)), hashlib.sha256()

@@ -62,7 +62,7 @@ START_FAULTS = (
 )
 
 
-def said(fault: Exception) -> tuple[str, int]:
+def start_fault_said(fault: Exception) -> tuple[str, int]:
     """What is said of one of the START_FAULTS, and the status. Raises it where it is none of a
     start.
     """
@@ -72,7 +72,7 @@ def said(fault: Exception) -> tuple[str, int]:
         case OtherVersion():
             return f"{fault}: go on by that, or {BEGIN_ANEW}", BAD_FILE
         case LogError() | RecoveryError():
-            return f"{board_of(fault)}{fault}: {PUT_FILE_BACK}", BAD_FILE
+            return f"{unstarted_board(fault)}{fault}: {PUT_FILE_BACK}", BAD_FILE
         case AddressError() | OtherDayError() | OwnerError():
             return str(fault), BAD_DAY
         case ConfigError() | TokenError():
@@ -95,10 +95,10 @@ def said_of_program(fault: ProcessError) -> tuple[str, int]:
     remedies = OF_DAY if is_begun else OF_PROGRAM
     found = (do for begin, do in remedies.items() if text.startswith(begin))
     status = fault.status if BAD_FILE <= fault.status <= UNLAWFUL else FAILED
-    return f"{board_of(fault)}{text}: {next(found, 'docs/FORMATS.md has it')}", status
+    return f"{unstarted_board(fault)}{text}: {next(found, 'docs/FORMATS.md has it')}", status
 
 
-def board_of(fault: Exception) -> str:
+def unstarted_board(fault: Exception) -> str:
     """Which board can't start, where that is known."""
     return "".join(getattr(fault, "__notes__", ()))
 

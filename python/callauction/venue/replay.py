@@ -39,11 +39,11 @@ async def replay_of(board: InstrumentBoard, program: str, number: int | None = N
         raise DownloadError(f"{len(ends)} auctions have ended: there is no auction {number}")
     begin, end = (ends[place - 1] + 1 if place else 0), ends[place]
     commands = [record for record, _ in entries[: end + 1]]
-    said = await output([program, "--live", *board.terms.words()], session(commands, begin))
+    said = await printed_lines([program, "--live", *board.terms.words()], session(commands, begin))
     reference = views.DayView.of(said[-1]).reference
     found["frames"] = frames_of(board, said[:-1], places(begin, end))
     words = [program, "--print", "book", *board.terms.words()]
-    table = csv.DictReader(await output(words, commands))
+    table = csv.DictReader(await printed_lines(words, commands))
     rows = [row for row in table if row["command"] == str(end + 1)]
     found["book"] = book_of(board, rows, reference)
     return found
@@ -78,12 +78,12 @@ def places(begin: int, end: int) -> range:
     return range(begin + (end - begin - 1) % step, end, step)
 
 
-async def output(words: Sequence[str], records: Iterable[str]) -> list[str]:
+async def printed_lines(words: Sequence[str], records: Iterable[str]) -> list[str]:
     """The lines that the program prints of these records, of which there may be many: others have
     their turn meanwhile. Raises DownloadError.
     """
     given = await asyncio.to_thread("\n".join, [*records, ""])
-    printed = await downloads.output(words, given.encode("ascii"))
+    printed = await downloads.printed_bytes(words, given.encode("ascii"))
     return await asyncio.to_thread(printed.decode("ascii").splitlines)
 
 
@@ -95,7 +95,7 @@ def frames_of(board: InstrumentBoard, said: Sequence[str], entries: Sequence[int
         found = views.Indication.of(indicated[0])
         levels = [
             [shown.price_of(board, it.limit), it.bid, it.ask]
-            for it in views.levels_of(ladder)
+            for it in views.levels_in_view(ladder)
         ]
         indication = shown.indication_of(board, found)
         frames.append({"entry": entry + 1, "indication": indication, "levels": levels})

@@ -105,9 +105,9 @@ def said(asked: Json, key: str, *values: str) -> str:
 
 def html_of(asked: Json) -> str:
     """The page of what downloads.asked_of says."""
-    parts = paid_of(asked)
+    parts = paid_part(asked)
     for board in asked["boards"]:
-        parts += board_of(asked, board)
+        parts += board_part(asked, board)
     page = html_page(asked["title"], parts)
     return in_german(page) if asked["language"] == "de" else page
 
@@ -119,7 +119,7 @@ def in_german(page: str) -> str:
     return FIRST_ROWS.sub(lambda it: german.number(f" (die ersten {it[1]} von {it[2]})"), page)
 
 
-def paid_of(asked: Json) -> list[Part]:
+def paid_part(asked: Json) -> list[Part]:
     """What members are paid, who gained most first."""
     rows = [marked(asked, row) for row in asked["results"] if row["round"] == "all"]
     if not rows:
@@ -129,10 +129,10 @@ def paid_of(asked: Json) -> list[Part]:
     return [(said(asked, "result"), table)]
 
 
-def board_of(asked: Json, board: Json) -> list[Part]:
+def board_part(asked: Json, board: Json) -> list[Part]:
     """The part of a board: its audit, its members, its auctions."""
     day = Day(pathlib.Path(board["journal"]).read_bytes())
-    text = audited(asked, day) + efficiency(asked, board) + members_of(asked, board)
+    text = audited(asked, day) + efficiency(asked, board) + members_part(asked, board)
     for command, book in auctions_of(day):
         text += auction_of(asked, board, day, command, book)
     return [(board["title"], text)]
@@ -157,7 +157,7 @@ def efficiency(asked: Json, board: Json) -> str:
     return f"<p>{words} {html.escape(board['currency'])}.</p>"
 
 
-def members_of(asked: Json, board: Json) -> str:
+def members_part(asked: Json, board: Json) -> str:
     """What the members of a board traded and gained."""
     rows = [
         marked(asked, row)
@@ -243,7 +243,7 @@ def auction_of(
     name = f"{board['key']}-{command}"
     return (
         f"<h3>{head}</h3><ol>{steps}</ol>"
-        f"{html_image(figure, label, name)}{trades_of(asked, board, found[1], name)}"
+        f"{html_image(figure, label, name)}{trades_part(asked, board, found[1], name)}"
     )
 
 
@@ -253,7 +253,7 @@ def namer(tick_size: str) -> Callable[[int], str]:
     return lambda tick: format(tick * size, "f")
 
 
-def trades_of(asked: Json, board: Json, auction: str, name: str) -> str:
+def trades_part(asked: Json, board: Json, auction: str, name: str) -> str:
     """The trades of an auction with the names of both members; none where it was interrupted."""
     where = str(board["round"]), board["instrument"], auction
     rows = [

@@ -26,7 +26,7 @@ def main() -> int:
         print(copies.summary(copies.restore(asked.copy, asked.folder, finder.program())))
         return DONE
     except copies.COPY_FAULTS as fault:
-        return copies.said("restore", fault)
+        return copies.say_copy_fault("restore", fault)
 
 
 if __name__ == "__main__":

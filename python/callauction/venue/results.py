@@ -37,7 +37,7 @@ class Payoff:
     is_removed: bool = False
 
 
-def money_of(board: InstrumentBoard, ticks: int) -> Decimal:
+def amount_of(board: InstrumentBoard, ticks: int) -> Decimal:
     """Ticks times shares as money."""
     return ticks * board.terms.grid.tick_size
 
@@ -47,10 +47,10 @@ def gain_in(round_: Round, member: str) -> Decimal | None:
     boards = [it for it in round_.boards.values() if it.accounts.has_values]
     if not boards:
         return None
-    return sum((money_of(it, it.accounts.gain_of(member)) for it in boards), Decimal(0))
+    return sum((amount_of(it, it.accounts.gain_of(member)) for it in boards), Decimal(0))
 
 
-def payoff_of(day: config.DayTerms, rounds: Iterable[Round], member: Member) -> Payoff:
+def payoff_to(day: config.DayTerms, rounds: Iterable[Round], member: Member) -> Payoff:
     """What a member is paid; its rank isn't known yet."""
     gains = tuple(
         Gain(it.number, it.treatment.title, it.treatment.is_practice, gain_in(it, member.name))
@@ -69,7 +69,7 @@ def payoffs(
     day: config.DayTerms, rounds: Sequence[Round], members: Iterable[Member]
 ) -> list[Payoff]:
     """What members are paid, who has most first, robots aside."""
-    paid = [payoff_of(day, rounds, it) for it in members if not it.robot]
+    paid = [payoff_to(day, rounds, it) for it in members if not it.robot]
     paid.sort(key=lambda it: -it.gain)
     ranks: dict[Decimal, int] = {}
     for place, it in enumerate(paid, 1):

@@ -99,11 +99,11 @@ def record_of(kind: str, board: InstrumentBoard, member: str) -> str | None:
     left = board.accounts.left_of(member)
     if not left:
         return None
-    tick = max(board.terms.low, min(board.terms.high, tick_of(kind, value, board)))
+    tick = max(board.terms.low, min(board.terms.high, robot_limit(kind, value, board)))
     return f"enter,{value.side},{min(left, board.terms.most_quantity)},{tick}"
 
 
-def tick_of(kind: str, value: Value, board: InstrumentBoard) -> int:
+def robot_limit(kind: str, value: Value, board: InstrumentBoard) -> int:
     """The limit of a robot with a value."""
     is_bid = value.side == "bid"
     if kind == "truthful":

@@ -105,7 +105,7 @@ class Runs:
         journal = self._journal
         holders = await journal.in_thread(leftovers.holders_of, journal.path)
         begun = await journal.in_thread(has_entries, journal.path.parent)
-        return InUseError(leftovers.named(holders), begun)
+        return InUseError(leftovers.how_to_end(holders), begun)
 
     async def _end_left(self) -> None:
         """Ends programs that were left and have the journal still, as they hang. Raises OSError

@@ -37,7 +37,7 @@ class Screen:
         """
         code, (url, *others) = self._members.codes.of_day, self.urls()
         robots = [it for it in self._members.all if it.robot]
-        picture = addresses.code_of(f"{url}#{code}" if code else url)
+        picture = addresses.qr_code_of(f"{url}#{code}" if code else url)
         return {
             "type": "beamer",
             "shows": self.shows,

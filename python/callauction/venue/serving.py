@@ -143,7 +143,7 @@ class Address:
         left = (ends_of(self.cert) - time.time()) / DAY_SECONDS if self.cert else SOON_DAYS
         if left < SOON_DAYS:
             yield f"the certificate {self.cert} ends in {left:.0f} days: put a new one there"
-        names = names_of(self.cert) if self.cert else []
+        names = hosts_of(self.cert) if self.cert else []
         for host in self.names or self.reached()[:1]:
             if self.cert and not any(addresses.is_named(host, name) for name in names):
                 named = ", ".join(names) or "no host"
@@ -176,7 +176,8 @@ class Address:
 def is_one(place: tuple[str, int], other: tuple[str, int]) -> bool:
     """Whether who listens at one host and port takes the other, too."""
     hosts = [it[0].replace("localhost", "127.0.0.1") for it in (place, other)]
-    is_host = addresses.is_same(*hosts) or hosts[0] == hosts[1] or {*hosts} & {"0.0.0.0", "::"}
+    is_same = addresses.is_same_address(*hosts) or hosts[0] == hosts[1]
+    is_host = is_same or {*hosts} & {"0.0.0.0", "::"}
     return 0 != place[1] == other[1] and bool(is_host)
 
 
@@ -202,7 +203,7 @@ def ends_of(cert: str) -> float:
     return ssl.cert_time_to_seconds(str(decoded(cert)["notAfter"]))
 
 
-def names_of(cert: str) -> list[str]:
+def hosts_of(cert: str) -> list[str]:
     """The hosts for which a certificate is: names and addresses."""
     named = decoded(cert).get("subjectAltName", ())
     return [value for kind, value in named if kind in HOST_NAME_KINDS]
@@ -375,7 +376,7 @@ async def begin(
         NOTICES.warning(DAY_IS_OVER)
 
 
-async def live(stopped: asyncio.Event) -> None:
+async def tell_manager(stopped: asyncio.Event) -> None:
     """Tells the service manager that the venue serves and lives, until it is stopped."""
     supervising.notify("READY=1")
     seconds = supervising.watchdog_seconds()
@@ -416,7 +417,7 @@ def take(venue: Venue, address: Address) -> None:
     """Keeps when the certificate that is served ends and for whom it is, and says for whom not."""
     if address.cert:
         venue.certificate_ends = ends_of(address.cert)
-        venue.certificate_names = names_of(address.cert)
+        venue.certificate_names = hosts_of(address.cert)
     for text in address.warnings():
         NOTICES.warning(text)
 
@@ -481,7 +482,7 @@ async def serve(
     doors: list[Door] = []
     try:
         if await unless(stopped, begin(venue, program, address, tls, fronts, doors)):
-            await live(stopped)
+            await tell_manager(stopped)
             supervising.notify("STOPPING=1")
             NOTICES.info("ending")
     finally:

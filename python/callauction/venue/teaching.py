@@ -28,7 +28,9 @@ from typing import Any
 from callauction.limits import MOST_QUANTITY
 from callauction.venue.auctions import Auctions
 from callauction.venue.fields import SENTENCE, ConfigError, Fields, flaw_of
-from callauction.venue.handing import HANDING_WAYS, HandError, ListedValue, Rule, named, rows_of
+from callauction.venue.handing import (
+    HANDING_WAYS, HandError, ListedValue, Rule, rows_of, rows_of_members,
+)
 from callauction.venue.instrument_board import InstrumentBoard
 from callauction.venue.json_types import Json
 from callauction.venue.log import SOURCE
@@ -38,7 +40,7 @@ from callauction.venue.messages import MessageError, number_of, text_of
 from callauction.venue.phases import PhaseError
 from callauction.venue.robots import MOST_ROBOTS, ROBOT_KINDS
 from callauction.venue.tokens import new_code
-from callauction.venue.treatments import MOST_CALL_SECONDS, Treatment, treatment_of
+from callauction.venue.treatments import MOST_CALL_SECONDS, Treatment, treatment_from
 from callauction.venue.venue import Venue
 from callauction.words import SIDES
 
@@ -176,7 +178,7 @@ def treatment_of_message(table: object) -> Treatment:
     """The round of a message, whose file is its text. Raises MessageError, ConfigError."""
     if not isinstance(table, dict):
         raise MessageError("bad_message", "treatment is no object")
-    return treatment_of(Fields("round", table), None)
+    return treatment_from(Fields("round", table), None)
 
 
 async def announce(venue: Venue, message: dict[str, Any]) -> Json:
@@ -302,7 +304,7 @@ async def give(venue: Venue, message: dict[str, Any]) -> Json:
     """
     rule = rule_of(message)
     instrument = venue.rounds.named_boards(message.get("instrument"))[0].identity.instrument
-    rows, absent = named(rule.rows, {it.title: it.name for it in venue.members.all})
+    rows, absent = rows_of_members(rule.rows, {it.title: it.name for it in venue.members.all})
     rule = dataclasses.replace(rule, rows=rows)
     held = venue.rounds.now.values(instrument)
     whom = text_of(message, "to", "named" if rule.how == "list" else "all")

@@ -34,7 +34,7 @@ def digest(token: str) -> str:
     return hashlib.sha256(token.encode("utf-8", "replace")).hexdigest()
 
 
-def is_same(first: str, second: str) -> bool:
+def is_same_secret(first: str, second: str) -> bool:
     """Whether two secrets are the same, in a time that doesn't say where they differ. An empty one
     is no secret, and the same as nothing.
     """
@@ -56,7 +56,7 @@ def secret_of(folder: pathlib.Path, role: str) -> str:
     """
     path = folder / f"{role}.token"
     try:
-        kept = owned.read(path, TOKEN_BYTES * 2)
+        kept = owned.secret_bytes(path, TOKEN_BYTES * 2)
     except FileNotFoundError:
         return new_secret_of(folder, role)
     if not is_token(kept):

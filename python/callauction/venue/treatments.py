@@ -67,7 +67,7 @@ class Treatment:
         return cls(**fields)
 
 
-def treatment_of(fields: Fields, read: Read | None) -> Treatment:
+def treatment_from(fields: Fields, read: Read | None) -> Treatment:
     """The round of a table, whose list of values is a file, or, without `read`, a text. Raises
     ConfigError.
     """
@@ -76,7 +76,7 @@ def treatment_of(fields: Fields, read: Read | None) -> Treatment:
         title=fields.text("title", default.title),
         is_practice=fields.flag("practice", default.is_practice),
         book=fields.choice("book", BOOKS, default.book),
-        rule=rule_of(fields, read),
+        rule=rule_from(fields, read),
         reference=fields.price("reference"),
         message=fields.sentence("message"),
         call=fields.whole_or_none("call", 0, MOST_CALL_SECONDS),
@@ -89,7 +89,7 @@ def treatment_of(fields: Fields, read: Read | None) -> Treatment:
     return found
 
 
-def rule_of(fields: Fields, read: Read | None) -> Rule:
+def rule_from(fields: Fields, read: Read | None) -> Rule:
     """How the values of a round are handed out. Raises ConfigError."""
     default = Rule()
     file = fields.text("file", "", SENTENCE if read else TABLE)

@@ -8,7 +8,7 @@ from callauction.statuses import FAILED
 AIOHTTP_VERSION = "3.8"
 
 
-def check() -> None:
+def check_tried() -> None:
     """Raises ImportError where it is another aiohttp."""
     if not aiohttp.__version__.startswith(f"{AIOHTTP_VERSION}."):
         text = f"aiohttp {aiohttp.__version__} is installed, and the venue needs {AIOHTTP_VERSION}"
@@ -19,7 +19,7 @@ def check() -> None:
 def check_start() -> None:
     """Ends this process by a line and its status where it is another aiohttp."""
     try:
-        check()
+        check_tried()
     except ImportError as fault:
         print(f"venue: {fault}", file=sys.stderr)
         sys.exit(FAILED)

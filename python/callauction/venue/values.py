@@ -4,7 +4,7 @@ import dataclasses
 
 from callauction.venue.audience import Audience
 from callauction.venue.gains import Value
-from callauction.venue.handing import ListedValue, Rule, named
+from callauction.venue.handing import ListedValue, Rule, rows_of_members
 from callauction.venue.instrument_board import InstrumentBoard
 from callauction.venue.log import Line, Log
 from callauction.venue.members import Member, Members
@@ -126,7 +126,8 @@ class Values:
         """Hands out to members who have no value the one that waits for them in a list."""
         titles = {it.title: it.name for it in newcomers}
         for board in self._rounds.now.boards.values():
-            rows, _ = named(self._listed_in(self._rounds.now, board.identity.instrument), titles)
+            listed = self._listed_in(self._rounds.now, board.identity.instrument)
+            rows, _ = rows_of_members(listed, titles)
             members = [it for it in newcomers if it.name not in board.accounts.values]
             if rows and (values := board.dealt(Rule("list", rows=rows), members, {})):
                 board.hand(values, False)

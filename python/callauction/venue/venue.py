@@ -224,7 +224,7 @@ class Venue:
         """
         for key, board in self.rounds.boards.items():
             if board.engine.is_open:
-                names = downloads.members_of(board, self.members.title_of)
+                names = downloads.numbers_table(board, self.members.title_of)
                 yield f"{key}{downloads.NAMES_FILE}", names
         if self.rounds.are_seen and self.lesson("").rounds:
             results = downloads.results_table(self.lesson(""))
@@ -256,7 +256,7 @@ class Venue:
     def role_of(self, token: str) -> tuple[str, Member | None]:
         """Whose a token is. Raises MessageError."""
         for role, secret in self.secrets.items():
-            if tokens.is_same(token, secret):
+            if tokens.is_same_secret(token, secret):
                 return role, None
         member = self.members.of_token(token)
         if member is None:

@@ -93,7 +93,7 @@ def limit_of(text: str) -> int | None:
     return None if text == MARKET else int(text)
 
 
-def levels_of(lines: Sequence[str]) -> list[Level]:
+def levels_in_view(lines: Sequence[str]) -> list[Level]:
     """The rows of `show,ladder`. Raises ValueError."""
     rows = (line.split(",") for line in lines[1:])
     return [Level(limit_of(limit), int(bid), int(ask)) for limit, bid, ask in rows]
@@ -112,12 +112,12 @@ def visible_levels(orders: Sequence[MemberOrder], auction: str) -> list[Level]:
     return [Level(it, shares[it, "bid"], shares[it, "ask"]) for it in falling]
 
 
-def trades_of(lines: Sequence[str]) -> list[Trade]:
+def trades_in_view(lines: Sequence[str]) -> list[Trade]:
     """The rows of `show,trades`. Raises ValueError."""
     return [Trade(*map(int, line.split(","))) for line in lines[1:]]
 
 
-def orders_of(lines: Sequence[str]) -> list[MemberOrder]:
+def orders_in_view(lines: Sequence[str]) -> list[MemberOrder]:
     """The rows of `show,orders`. Raises ValueError."""
     found = []
     for line in lines[1:]:

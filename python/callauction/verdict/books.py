@@ -24,7 +24,7 @@ from callauction.verdict.table import Table
 from callauction.words import AUCTIONS
 
 
-def found_in(
+def verdicts_on_books(
     files: Mapping[str, bytes], reading: Reading, asked: argparse.Namespace, watch: Progress
 ) -> list[Audited]:
     """The verdicts on auctions of files: books, then what was published. Raises as audit_events."""

@@ -161,7 +161,7 @@ class Source:
         return dataclasses.replace(self, labels=self.labels[rows], given=given, base=base)
 
 
-def joined(base: Source, columns: Mapping[str, Sequence[str]]) -> Source:
+def with_joined_columns(base: Source, columns: Mapping[str, Sequence[str]]) -> Source:
     """The rows with joined columns, parted by blanks: empty where the last of them is. Their texts
     are behind the others' buffer, whose places hold in theirs: events._ids and by_kind go by it.
     """

@@ -89,14 +89,14 @@ def plain(name: str) -> str:
     return re.sub(r"[^a-z0-9]", "", name.casefold())
 
 
-def form_of(name: str) -> str:
+def form_of_id(name: str) -> str:
     """An id with a 0 for each of its numbers."""
     return re.sub(r"\d+", "0", name)
 
 
 def look_of(name: str) -> str:
     """An id with a 0 for each of its numbers, and an A for each of its words."""
-    return re.sub(r"[^\W\d_]+", "A", form_of(name))
+    return re.sub(r"[^\W\d_]+", "A", form_of_id(name))
 
 
 def is_unknown(text: str) -> bool:
@@ -188,7 +188,7 @@ def _refuse_unmapped(names: Collection[object], columns: Mapping[str, str]) -> N
             raise ColumnError(f"columns: the table has no column {missing!r}{hint}")
 
 
-def renamed(found: Iterable[object], columns: Mapping[str, str]) -> dict[object, str]:
+def names_of_columns(found: Iterable[object], columns: Mapping[str, str]) -> dict[object, str]:
     """By each column that a mapping of our names to theirs names, our name, but for those of a
     kind. Raises ValueError for a name of ours that isn't one, or two of ours for one of theirs, and
     ColumnError for one of theirs that the table hasn't.

@@ -21,7 +21,7 @@ import callauction
 from callauction import finder
 from callauction.market.names import guarded
 from callauction.prices import number_of
-from callauction.program import NO_JOURNAL, BadFileError, Day, program
+from callauction.program import NO_JOURNAL, BadFileError, Day, found_program
 from callauction.progress import Progress
 from callauction.statuses import DONE
 from callauction.verdict import books, shapes
@@ -35,8 +35,8 @@ from callauction.verdict.extract import read_table
 from callauction.verdict.extract_files import GZIP
 from callauction.verdict.findings import STATUSES, Verdict, counts_of, lines_of
 from callauction.verdict.instruments import (
-    FAULT, RECORD, TERMS, Audited, Days, Market, audited, days_of, frame_of, market_of, terms_of,
-    worst_of,
+    FAULT, RECORD, TERMS, Audited, Days, Market, audited, days_of, instruments_frame, market_of,
+    terms_of, worst_of,
 )  # fmt: skip
 from callauction.verdict.reading import Reading
 from callauction.verdict.table import Table
@@ -101,7 +101,7 @@ def add_reading(parser: argparse.ArgumentParser) -> None:
     add("--ignore", action="append", default=[], metavar="COLUMN,..", help="columns; * for all")
 
 
-def reading_of(asked: argparse.Namespace) -> Reading:
+def reading_asked(asked: argparse.Namespace) -> Reading:
     """How an extract is asked to be read. Raises UsageError, ShapeError and OSError."""
     if vars(asked).get("days") is not None and asked.by is None:
         raise UsageError("--days needs --by: the column of the instruments whose days they are")
@@ -116,7 +116,7 @@ def reading_of(asked: argparse.Namespace) -> Reading:
         "decimal", "thousands", "encoding", "where", "market", "quantity", "sort", "pair", "dates",
         "unrestricted",
     )  # fmt: skip
-    return shapes.joined(shape, said | {name: getattr(asked, name) for name in plain})
+    return shapes.joined_shapes(shape, said | {name: getattr(asked, name) for name in plain})
 
 
 def _names(texts: Sequence[str]) -> tuple[str, ...]:
@@ -160,9 +160,9 @@ def is_recorded(content: bytes, asked: argparse.Namespace) -> bool:
     return not is_shaped and not content.startswith(GZIP) and bool(_RECORD.match(content))
 
 
-def table_of(content: bytes, asked: argparse.Namespace) -> tuple[Table, Reading]:
+def table_asked(content: bytes, asked: argparse.Namespace) -> tuple[Table, Reading]:
     """The table of an extract. Raises as read_table, with the options that help."""
-    reading = reading_of(asked)
+    reading = reading_asked(asked)
     try:
         return read_table(io.BytesIO(content), reading, vars(asked).get("by")), reading
     except ColumnError as fault:
@@ -177,7 +177,7 @@ def plain_table(content: bytes, asked: argparse.Namespace) -> pandas.DataFrame:
     """An extract's rows in our columns, words and numbers. Raises as read_table, and UsageError for
     what a journal hasn't.
     """
-    table, reading = table_of(content, asked)
+    table, reading = table_asked(content, asked)
     if reading.pair:
         raise UsageError(
             "--pair: a journal has a trade in one row: leave these rows out by --where, such as "
@@ -193,7 +193,7 @@ def plain_table(content: bytes, asked: argparse.Namespace) -> pandas.DataFrame:
 
 def market(content: bytes, asked: argparse.Namespace) -> Market:
     """The instruments of an extract. Raises as read_table."""
-    table, reading = table_of(content, asked)
+    table, reading = table_asked(content, asked)
     terms = {name: vars(asked)[name] for name in TERMS}
     found = market_of(table, reading, asked.by, _days_of(asked), terms)
     return dataclasses.replace(found, is_explained=vars(asked).get("explain", False))
@@ -209,12 +209,14 @@ def _days_of(asked: argparse.Namespace) -> Days:
 
 def audited_extract(content: bytes, asked: argparse.Namespace, watch: Progress = iter) -> Verdict:
     """The verdict on an extract of one instrument. Raises as audit."""
-    table, reading = table_of(content, asked)
+    table, reading = table_asked(content, asked)
     terms = {name: vars(asked)[name] for name in TERMS}
     return audit_events(table, reading=reading, watch=watch, **terms_of(terms, reading))
 
 
-def found_in(content: bytes, asked: argparse.Namespace, watch: Progress) -> list[Audited]:
+def verdicts_on_extract(
+    content: bytes, asked: argparse.Namespace, watch: Progress
+) -> list[Audited]:
     """The verdicts on an extract's instruments. Raises as audit."""
     if asked.by is None:
         return [audited("", audited_extract(content, asked, watch), asked.explain)]
@@ -226,8 +228,8 @@ def found_in(content: bytes, asked: argparse.Namespace, watch: Progress) -> list
 
 def audit_auctions(files: Mapping[str, bytes], asked: argparse.Namespace, watch: Progress) -> int:
     """Prints the verdict on auctions from their books: the status. Raises as audit."""
-    program()
-    found = books.found_in(files, reading_of(asked), asked, watch)
+    found_program()
+    found = books.verdicts_on_books(files, reading_asked(asked), asked, watch)
     return show(found, asked, [*files.values()])
 
 
@@ -246,11 +248,11 @@ def audit(content: bytes, asked: argparse.Namespace, watch: Progress = iter) -> 
         print(journal)
         return journal.status
     if asked.check:
-        table, reading = table_of(content, asked)
+        table, reading = table_asked(content, asked)
         print("\n".join(understood(table, reading, asked)))
         return DONE
-    program()  # where there is none no day is judged, as findings are told by it
-    return show(found_in(content, asked, watch), asked, [content])
+    found_program()  # where there is none no day is judged, as findings are told by it
+    return show(verdicts_on_extract(content, asked, watch), asked, [content])
 
 
 # ---- what is printed
@@ -349,7 +351,7 @@ def facts_of(contents: Iterable[bytes], asked: argparse.Namespace) -> dict[str, 
     """What a verdict on files is of and by (FACTS). Raises ShapeError, OSError, and ProgramError
     where there is no program.
     """
-    digest = finder.digest(program())
+    digest = finder.digest(found_program())
     now = datetime.datetime.now(datetime.UTC).isoformat(timespec="seconds")
     every = [*contents, *(path.read_bytes() for path in _files_of(vars(asked)))]
     files = " ".join(hashlib.sha256(content).hexdigest() for content in every)
@@ -368,7 +370,7 @@ def _files_of(options: Mapping[str, str | None]) -> Iterator[pathlib.Path]:
 
 def write_rows(found: Iterable[Audited], path: str, facts: Mapping[str, str]) -> None:
     """Writes a row for each instrument, as CSV."""
-    _write(frame_of(each.row() for each in found).assign(**facts), path)
+    _write(instruments_frame(each.row() for each in found).assign(**facts), path)
 
 
 def _write(frame: pandas.DataFrame, path: str) -> None:

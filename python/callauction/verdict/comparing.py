@@ -47,7 +47,7 @@ def keys_of(made: Trade | Fill) -> tuple[int, ...]:
     return (made.bid, made.ask) if isinstance(made, Trade) else (made.order,)
 
 
-def members_of(made: Trade | Fill) -> tuple[str, ...]:
+def member_columns(made: Trade | Fill) -> tuple[str, ...]:
     """The columns with their members, in the order of keys_of."""
     return ("bid_member", "ask_member") if isinstance(made, Trade) else ("member",)
 
@@ -385,7 +385,7 @@ def _marks(value: Value) -> tuple[object, ...]:
     return ()
 
 
-def reconciled(
+def reconciled_uncrosses(
     uncrosses: list[tuple[Difference, ...]], auctions: list[int]
 ) -> list[list[Difference]]:
     """The differences of each uncross, a trade that is missing in one auction and extra in another

@@ -17,7 +17,7 @@ from callauction.verdict import clocks
 from callauction.verdict.busts import Busts
 from callauction.verdict.cells import Ints
 from callauction.verdict.columns import ExtractError
-from callauction.verdict.comparing import Difference, Fill, Trade, keys_of, members_of
+from callauction.verdict.comparing import Difference, Fill, Trade, keys_of, member_columns
 from callauction.verdict.mixed import is_one_session
 from callauction.verdict.names import is_placeholder, respelled
 from callauction.verdict.phases import Book, Result
@@ -298,7 +298,7 @@ class Doubts:
         names = [
             rows.names.recorded(place, column, int(getattr(rows, column)[place]))
             for place in each.places
-            for key, column in zip(keys_of(one), members_of(one))
+            for key, column in zip(keys_of(one), member_columns(one))
             if getattr(rows, column)[place] not in (MISSING, rows.member[self.entered[key]])
         ]
         if names and all(map(is_placeholder, names)):

@@ -34,7 +34,7 @@ def reconciled(judged: Sequence[Judged]) -> list[list[Difference]]:
     those = [each.differences for each in judged]
     if not any(each.recorded is None for it in those for each in it):
         return [list(each) for each in those]
-    return comparing.reconciled(those, [each.auction for each in judged])
+    return comparing.reconciled_uncrosses(those, [each.auction for each in judged])
 
 
 def count_of(path: Path) -> tuple[int, int]:

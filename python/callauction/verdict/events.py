@@ -310,7 +310,7 @@ def _refuse_forms(columns: Columns, lead: Codes) -> None:
     cells = columns.cells("time")
     codes, first = cells.layouts()
     texts = [cells.text(int(row)) for row in first]
-    forms = [times.form_of(text) for text in texts]
+    forms = [times.form_of_time(text) for text in texts]
     known = {it: place for place, it in enumerate(filter(None, dict.fromkeys(forms)))}
     if len(known) < 2:
         return

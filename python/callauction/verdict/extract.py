@@ -11,11 +11,11 @@ import pandas
 
 from callauction.verdict import clocks, conditions, fix
 from callauction.verdict.cells import (
-    Codes, Mask, Short, Source, by_kind, frame_source, joined,
+    Codes, Mask, Short, Source, by_kind, frame_source, with_joined_columns,
 )  # fmt: skip
 from callauction.verdict.columns import (
     EMPTY, EVENT_COLUMNS, EVENTS, KINDS, NEEDED, ColumnError, ExtractError, hint_of, joins_of,
-    kinds_of, plain, refuse_unknown, renamed,
+    kinds_of, names_of_columns, plain, refuse_unknown,
 )  # fmt: skip
 from callauction.verdict.extract_files import file_of, without_totals
 from callauction.verdict.reading import Reading
@@ -86,7 +86,7 @@ def _named(
     rows are to meet. Raises ColumnError and ConditionError.
     """
     joins = joins_of(reading.columns, columns)
-    found = joined(table.source, joins)
+    found = with_joined_columns(table.source, joins)
     keys = columns_of(by, columns)
     asked = [conditions.condition_of(text, columns) for text in reading.where]
     used = {condition.name for condition in asked} | {*keys, *filter(None, [reading.pair])}
@@ -171,7 +171,7 @@ def _names(source: Source, reading: Reading, used: set[str], parts: set[str]) ->
     """By our name of each column that is read the table's own. Raises ColumnError. `used` are
     theirs that need no name of ours; one of `parts` isn't read where another is mapped to its name.
     """
-    mapped, kinds = renamed(source.names, reading.columns), kinds_of(reading.columns)
+    mapped, kinds = names_of_columns(source.names, reading.columns), kinds_of(reading.columns)
     used = used | {name for those in kinds.values() for name in those.values()}
     if reading.pair and reading.pair not in source.names:
         raise ColumnError(f"pair: the table has no column {reading.pair!r}")

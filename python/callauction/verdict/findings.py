@@ -147,7 +147,7 @@ class Verdict:
 
     def frame(self) -> pandas.DataFrame:
         """The findings as a frame (FINDING_COLUMNS), under their numbers from 1."""
-        return frame_of(self.findings)
+        return findings_frame(self.findings)
 
     def reasons(self) -> dict[str, list[Finding]]:
         """The doubtful findings by their reasons."""
@@ -234,7 +234,7 @@ def counts_of(bad_rows: int, findings: int, doubtful: int) -> list[str]:
     return [*unread, f"findings {findings}", *[f"doubtful {doubtful}"] * bool(doubtful)]
 
 
-def frame_of(findings: Iterable[Finding]) -> pandas.DataFrame:
+def findings_frame(findings: Iterable[Finding]) -> pandas.DataFrame:
     """Findings as a frame (FINDING_COLUMNS), numbered from 1; the rule of a doubtful one is its
     reason.
     """
@@ -267,7 +267,7 @@ def _findings(judgement: Judgement, rows: Rows, rules: Rules) -> Iterator[Findin
 def _finding(number: int, context: Context, those: Sequence[Difference]) -> Finding:
     """Differences that are one finding, most harm first; a doubtful one's rule is its reason."""
     first, *others = those
-    whole = jumps.joined(those)
+    whole = jumps.joined_differences(those)
     recorded, lawful = _both(context, first)
     labels = [context.rows.labels[place] for place in whole.places] or [context.label]
     moved = (f"{each.item}: recorded {one}, lawful {other}"

@@ -452,10 +452,10 @@ def audit_instruments(
         raise TypeError(f"there is no argument {strange[0]}; there are {', '.join(TERMS)}")
     table = read_table(source, reading, by)
     market = market_of(table, reading, by, days_of(days, by), terms)
-    return frame_of(each.row() for each in market.one_by_one(workers))
+    return instruments_frame(each.row() for each in market.one_by_one(workers))
 
 
-def frame_of(rows: Iterable[dict[str, object]]) -> pandas.DataFrame:
+def instruments_frame(rows: Iterable[dict[str, object]]) -> pandas.DataFrame:
     """Rows as a frame (INSTRUMENT_COLUMNS)."""
     found = pandas.DataFrame([*rows], columns=[*INSTRUMENT_COLUMNS])
     texts = ("instrument", "verdict", "first_finding", "fault")

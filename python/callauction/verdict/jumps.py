@@ -68,7 +68,7 @@ def _shares(each: Difference) -> int:
     return max(shares, default=0)
 
 
-def joined(those: Sequence[Difference]) -> Difference:
+def joined_differences(those: Sequence[Difference]) -> Difference:
     """The first of some differences, with the rows and the orders of all."""
     places = tuple(dict.fromkeys(place for each in those for place in each.places))
     keys = tuple(dict.fromkeys(key for each in those for key in each.keys))

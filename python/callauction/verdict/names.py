@@ -11,7 +11,7 @@ import numpy
 import pandas
 
 from callauction.verdict.cells import Codes, Ints
-from callauction.verdict.columns import UNKNOWN, form_of, look_of
+from callauction.verdict.columns import UNKNOWN, form_of_id, look_of
 from callauction.verdict.judged import Judged, Judgement
 from callauction.verdict.phases import recorded_sums, sums
 from callauction.verdict.rows import (
@@ -315,8 +315,8 @@ def renamed(rows: Rows, judgement: Judgement) -> tuple[Rows, str] | None:
         for one, other in _pairs(rows, judged, unknown):
             if meant.setdefault(one, other) != other or other not in retired:
                 return None
-    forms = {form_of(rows.names.order(key)) for key in rows.key[entered].tolist()}
-    is_like = len(named) > 1 or all(form_of(rows.names.order(key)) in forms for key in meant)
+    forms = {form_of_id(rows.names.order(key)) for key in rows.key[entered].tolist()}
+    is_like = len(named) > 1 or all(form_of_id(rows.names.order(key)) in forms for key in meant)
     if not meant or len({*meant.values()}) < len(meant) or not is_like:
         return None
     key, order = next(iter(meant.items()))

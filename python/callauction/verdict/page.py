@@ -21,7 +21,7 @@ from callauction.pages import (
 )  # fmt: skip
 from callauction.progress import Progress
 from callauction.verdict.context import Context, price_text
-from callauction.verdict.findings import LAWFUL, MOST_BAD_ROWS, Finding, Verdict, frame_of
+from callauction.verdict.findings import LAWFUL, MOST_BAD_ROWS, Finding, Verdict, findings_frame
 from callauction.verdict.instruments import FAULT, Audited, Market
 from callauction.verdict.judged import Judged
 from callauction.verdict.orders import members_of
@@ -95,7 +95,7 @@ def _listed(verdict: Verdict, is_doubtful: bool, caption: str) -> str:
     below = MOST_EXPLAINED if len(verdict.shown()) > MOST_EXPLAINED else "all"
     more = f": the first {MOST_FIRST}, {below} are below" if len(found) > MOST_FIRST else ""
     shown = found[:MOST_FIRST]
-    frame = frame_of(it for it, _ in shown).astype({"row": "str"})
+    frame = findings_frame(it for it, _ in shown).astype({"row": "str"})
     if any(others for _, others in shown):
         frame["others"] = [others for _, others in shown]
     links = {str(it.row): f"#{mark_of(it)}" for it, _ in shown[::-1]}

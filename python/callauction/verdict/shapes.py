@@ -76,7 +76,7 @@ def _plain(value: Any) -> Any:
     return tuple(value) if isinstance(value, list) else value
 
 
-def joined(shape: Reading, own: Mapping[str, Any]) -> Reading:
+def joined_shapes(shape: Reading, own: Mapping[str, Any]) -> Reading:
     """A shape with what is said beside it: tables and lists grow, what isn't None replaces."""
     said: dict[str, Any] = {}
     for name, value in own.items():

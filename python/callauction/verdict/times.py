@@ -92,7 +92,7 @@ def seconds(value: object, dates: str = "") -> Decimal | None:
     return date * DAY_SECONDS + clock - offset(found["zone"]) + part
 
 
-def form_of(text: str) -> tuple[bool, bool, bool] | None:
+def form_of_time(text: str) -> tuple[bool, bool, bool] | None:
     """Whether a time is a number, has a date or is of an epoch, and has a zone; None for none."""
     number, found = _number(text), _found(text)
     if number is not None:
