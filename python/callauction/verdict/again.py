@@ -14,8 +14,7 @@ from callauction.verdict.columns import is_id, is_trade_id, is_unknown, look_of
 from callauction.verdict.judged import Judgement
 from callauction.verdict.phases import recorded_sums
 from callauction.verdict.rows import (
-    BAD, CANCEL, CONTINUOUS_STATE, FILL, MISSING, NEW, OF_ORDERS, REPLACE, SAID, STOPPED, TAKEN,
-    TRADE, UNCROSS, BadRow, Doubt, Hole, Rows,
+    OF_ORDERS, SAID, BadRow, Cell, Doubt, Hole, Kind, Rows, StateCode,
 )  # fmt: skip
 from callauction.verdict.worded import Columns
 
@@ -25,7 +24,7 @@ GAPS = "numbers of the sequence that no row has (are rows missing?)"
 BEGINS = "the sequence begins above 1 (are rows cut off?), with"
 RARE = 20
 """Of so many numbers one is missing at most, or one of less, where none but a row's may be."""
-_MADE = (TRADE, FILL)
+_MADE = (Kind.TRADE, Kind.FILL)
 TRIES = 2_000
 """How many ways there are at most to leave copies out of an auction."""
 
@@ -45,7 +44,7 @@ def drop_sent_again(rows: Rows, columns: Columns, sequence: Ints | None, lead: C
     _drop_results(rows, columns, lead)
     marks = paired_codes(paired_codes(lead, numbered(rows.time)), sequence + 1)
     twice = pandas.Series(marks).duplicated(keep=False).to_numpy()
-    these = numpy.flatnonzero(twice & (sequence >= 0) & (rows.kind != BAD))
+    these = numpy.flatnonzero(twice & (sequence >= 0) & (rows.kind != Kind.BAD))
     if len(these) < 2:
         return
     content = pandas.Series(columns.content(these))
@@ -53,7 +52,7 @@ def drop_sent_again(rows: Rows, columns: Columns, sequence: Ints | None, lead: C
     for place in these[again & _has_others(rows, these, content).to_numpy()].tolist():
         _unsay(rows, place, these)
     _drop(rows, these[again])
-    left = these[(rows.kind[these] != BAD) & (rows.kind[these] != UNCROSS)]
+    left = these[(rows.kind[these] != Kind.BAD) & (rows.kind[these] != Kind.UNCROSS)]
     for place in left[pandas.Series(marks[left]).duplicated().to_numpy()]:
         _refuse_both(rows, columns, int(left[marks[left] == marks[place]][0]), int(place))
 
@@ -62,7 +61,7 @@ def drop_sides_again(rows: Rows, columns: Columns, sequence: Ints, lead: Codes) 
     """Leaves out rows of trades that were sent again, with all cells, the sequence and the time,
     before those of both sides are joined.
     """
-    made = rows.of(TRADE)
+    made = rows.of(Kind.TRADE)
     these = made[sequence[made] >= 0]
     if len(these) < 2:
         return
@@ -75,7 +74,7 @@ def _drop_results(rows: Rows, columns: Columns, lead: Codes) -> None:
     """Leaves out later results that say what the one before of their auction says, with its name
     and its time: all but the sequence is the same.
     """
-    is_named = (rows.kind == UNCROSS) & (rows.state > 0) & (rows.time != clocks.NO_TIME)
+    is_named = (rows.kind == Kind.UNCROSS) & (rows.state > 0) & (rows.time != clocks.NO_TIME)
     these = numpy.flatnonzero(is_named)
     if len(these) > 1:
         own = paired_codes(lead[these], columns.content(these, "sequence"))
@@ -88,11 +87,11 @@ def _unsay(rows: Rows, place: int, these: Ints) -> None:
     """Takes out of the other results of an auction, of these rows, what one that is there twice
     says otherwise: nothing says which is right.
     """
-    is_own = (rows.kind[these] == UNCROSS) & (rows.state[these] == rows.state[place])
+    is_own = (rows.kind[these] == Kind.UNCROSS) & (rows.state[these] == rows.state[place])
     for name in SAID:
         values = getattr(rows, name)
         odd = these[is_own & (values[these] != values[place])]
-        values[odd] = MISSING
+        values[odd] = Cell.MISSING
         for other in odd.tolist():
             why = f"row {rows.labels[place]} says another {name}, and has its sequence"
             rows.bad.append(BadRow(other, rows.labels[other], why, Doubt.ITEM, other))
@@ -100,7 +99,7 @@ def _unsay(rows: Rows, place: int, these: Ints) -> None:
 
 def _refuse_both(rows: Rows, columns: Columns, first: int, second: int) -> None:
     """Refuses a row with another's sequence, as either may be right; of two trades both."""
-    made = [rows.kind[it] in (TRADE, FILL) for it in (first, second)]
+    made = [rows.kind[it] in (Kind.TRADE, Kind.FILL) for it in (first, second)]
     doubt = Doubt.TRADES if made[1] else Doubt.BOOKS
     why = f"sequence {columns.cells('sequence').text(second)!r} is another row's"
     rows.refuse(second, why, doubt, first)
@@ -110,14 +109,14 @@ def _refuse_both(rows: Rows, columns: Columns, first: int, second: int) -> None:
 
 def _has_others(rows: Rows, these: Ints, content: "pandas.Series") -> "pandas.Series":
     """Which of these rows are results of an auction above which another one is: the last counts."""
-    is_result = (rows.kind[these] == UNCROSS) & (rows.state[these] != STOPPED)
+    is_result = (rows.kind[these] == Kind.UNCROSS) & (rows.state[these] != StateCode.INTERRUPTED)
     of_auction = pandas.Series(numpy.where(is_result, rows.state[these], _NO_RESULT))
     return (content.groupby(of_auction).shift() != content) & is_result
 
 
 def _with_ids(rows: Rows, columns: Columns) -> Ints:
     """The trades and fills with another's id in an unread column, whose cells are all the same."""
-    these = rows.of(TRADE, FILL)
+    these = rows.of(Kind.TRADE, Kind.FILL)
     read = {*columns.names.values(), *columns.reading.columns.values(), columns.reading.pair}
     for name in columns.source.names:
         if name in read or not is_id(name):
@@ -132,18 +131,19 @@ def _with_ids(rows: Rows, columns: Columns) -> Ints:
 
 
 def _drop(rows: Rows, again: Ints) -> None:
-    rows.kind[again] = BAD
+    rows.kind[again] = Kind.BAD
     rows.notes[ROWS_AGAIN] += len(again)
 
 
 def _repeatable(rows: Rows) -> Ints:
     """Rows of which one more changes nothing: at one time, an entry or a named result at any."""
     kind = rows.kind
-    named = (kind == UNCROSS) & (rows.state > 0) & (rows.time != clocks.NO_TIME)
-    whole = (kind == REPLACE) | (kind == UNCROSS) & ~named | (kind == CANCEL) & (rows.quantity <= 0)
+    named = (kind == Kind.UNCROSS) & (rows.state > 0) & (rows.time != clocks.NO_TIME)
+    whole = (kind == Kind.REPLACE) | (kind == Kind.UNCROSS) & ~named
+    whole |= (kind == Kind.CANCEL) & (rows.quantity <= 0)
     tied = numpy.flatnonzero(whole & (numpy.bincount(rows.group)[rows.group] > 1))
     marks = paired_codes(rows.group[tied] * 8 + kind[tied], rows.key[tied] + 1)
-    news, named = numpy.flatnonzero(kind == NEW), numpy.flatnonzero(named)
+    news, named = numpy.flatnonzero(kind == Kind.NEW), numpy.flatnonzero(named)
     twice = [
         these[pandas.Series(values).duplicated(keep=False).to_numpy()]
         for these, values in ((tied, marks), (news, rows.key[news]), (named, rows.state[named]))
@@ -159,8 +159,8 @@ def second_trades(rows: Rows) -> Ints:
     has two; else none.
     """
     unread = [it.place for it in rows.bad if it.doubt is Doubt.TRADES and it.place >= 0]
-    is_other = (rows.kind == BAD) & (rows.state == CONTINUOUS_STATE) & (rows.bid >= 0)
-    trades = numpy.union1d(rows.of(TRADE, TAKEN), numpy.flatnonzero(is_other))
+    is_other = (rows.kind == Kind.BAD) & (rows.state == StateCode.CONTINUOUS) & (rows.bid >= 0)
+    trades = numpy.union1d(rows.of(Kind.TRADE, Kind.TAKEN), numpy.flatnonzero(is_other))
     trades = numpy.union1d(trades, numpy.array(unread, "i8"))
     keys = [rows.quantity[trades], *(side[trades].astype("i8") for side in (rows.ask, rows.bid))]
     order: Ints = numpy.lexsort(keys)
@@ -176,8 +176,8 @@ def copies(rows: Rows, judgement: Judgement) -> Ints:
     """The rows of trades and fills that are the same as one above, and those of cancels of some
     shares that are; first those whose orders differ. Trades with sure ids of their own are none.
     """
-    parts = (rows.kind == CANCEL) & (rows.quantity > 0)
-    made = numpy.union1d(rows.of(TRADE, FILL), numpy.flatnonzero(parts))
+    parts = (rows.kind == Kind.CANCEL) & (rows.quantity > 0)
+    made = numpy.union1d(rows.of(Kind.TRADE, Kind.FILL), numpy.flatnonzero(parts))
     names = ("kind", "time", "key", "bid", "ask", "quantity", "price", "state", "member",
              "bid_member", "ask_member")  # fmt: skip
     frame = pandas.DataFrame({name: getattr(rows, name)[made] for name in names})
@@ -202,7 +202,7 @@ def unsure_ids(rows: Rows, made: Ints, name: str) -> Mask:
     looks as none of the others does, which are alike, or where each other id has several rows, one
     of two that have one row each.
     """
-    gone = numpy.flatnonzero((rows.kind == BAD) & (rows.bid >= 0))
+    gone = numpy.flatnonzero((rows.kind == Kind.BAD) & (rows.bid >= 0))
     codes, texts = rows.names.texts(numpy.concatenate([made, gone]), name)
     known = codes >= 0
     if not texts:
@@ -268,7 +268,7 @@ def _without(
 
 def _keys(rows: Rows, place: int) -> set[int]:
     """The orders of a trade or a fill."""
-    if rows.kind[place] == TRADE:
+    if rows.kind[place] == Kind.TRADE:
         return {int(rows.bid[place]), int(rows.ask[place])}
     return {int(rows.key[place])}
 
@@ -277,7 +277,7 @@ def amended(rows: Rows) -> tuple[Ints, str]:
     """The trades and fills which a later one may correct, and why: it has their orders, and their
     id in a column that isn't read and isn't of their orders.
     """
-    made = rows.of(TRADE, FILL)
+    made = rows.of(Kind.TRADE, Kind.FILL)
     for name in filter(is_id, rows.names.unread):
         codes = rows.names.codes(made, name)
         keys = {name: getattr(rows, name)[made] for name in ("bid", "ask", "key")}
@@ -365,7 +365,7 @@ def find_holes(rows: Rows, gaps: Sequence[Gap]) -> None:
     nexts = numpy.searchsorted(rows.number[own], lasts, "right")
     rows.lacks_rows = any(it.is_rare for it in gaps)
     first_below = numpy.minimum.accumulate(own[::-1])[::-1]
-    ends = rows.of(UNCROSS)
+    ends = rows.of(Kind.UNCROSS)
     is_above = bool(numpy.isin(rows.kind[ends[ends > 0] - 1], _MADE).any())
     for number in numpy.unique(nexts, return_index=True)[1].tolist():
         at, doubt, since = int(nexts[number]), Doubt.TRADES, len(rows.kind) - 1
@@ -379,8 +379,8 @@ def find_holes(rows: Rows, gaps: Sequence[Gap]) -> None:
 
 def _doubt_between(rows: Rows, above: int, below: int, is_above: bool) -> Doubt:
     """What rows may be that are missing between two: among trades of one auction trades alone."""
-    one, other = (int(rows.kind[it]) if it >= 0 else NEW for it in (above, below))
-    if other in _MADE and one in (UNCROSS, *_MADE) and rows.time[above] == rows.time[below]:
+    one, other = (int(rows.kind[it]) if it >= 0 else Kind.NEW for it in (above, below))
+    if other in _MADE and one in (Kind.UNCROSS, *_MADE) and rows.time[above] == rows.time[below]:
         return Doubt.TRADES
-    is_of_orders = other in OF_ORDERS or other == UNCROSS and not is_above
+    is_of_orders = other in OF_ORDERS or other == Kind.UNCROSS and not is_above
     return Doubt.BOOKS if one in OF_ORDERS and is_of_orders else Doubt.ANY

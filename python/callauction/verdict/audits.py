@@ -28,7 +28,7 @@ from callauction.verdict.mixed import (
 from callauction.verdict.otherwise import judged_day
 from callauction.verdict.reading import Reading
 from callauction.verdict.reorderings import all_times
-from callauction.verdict.rows import NEW, REPLACE, BadRow, Doubt, Rows
+from callauction.verdict.rows import BadRow, Doubt, Kind, Rows
 from callauction.verdict.rules import Rules, range_of
 from callauction.verdict.table import Table
 from callauction.verdict.units import without_noise
@@ -105,7 +105,7 @@ def judge_rows(rows: Rows, rules: Rules, watch: Progress = iter) -> Verdict:
     if found.unlawful:
         refuse_sums(whole, rules.due)
         if rows.is_unsaid and len(rules.due) > 1:
-            found.notes[UNRESTRICTED] += len(rows.of(NEW))
+            found.notes[UNRESTRICTED] += len(rows.of(Kind.NEW))
             found = restricted.doubt_restrictions(found, Judge(rows, rules))
     found = doubt_times(found, early, functools.partial(_is_lawful, rows, rules))
     return verdict_of(found, rows, rules)
@@ -113,7 +113,7 @@ def judge_rows(rows: Rows, rules: Rules, watch: Progress = iter) -> Verdict:
 
 def _refuse_zero(rows: Rows, rules: Rules) -> None:
     """Raises ValueError for a reference of 0, as systems write none, where all limits are above."""
-    limits = rows.price[rows.of(NEW, REPLACE)]
+    limits = rows.price[rows.of(Kind.NEW, Kind.REPLACE)]
     limits = limits[limits >= 0]
     if rules.reference == 0 and len(limits) and min(rows.prices[it] for it in limits) > 0:
         raise ValueError("the reference is 0, and no limit: say --reference, the last price before")

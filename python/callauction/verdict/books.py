@@ -18,7 +18,7 @@ from callauction.verdict.extract_files import file_of
 from callauction.verdict.findings import Verdict
 from callauction.verdict.instruments import TERMS, Audited, Market, days_of, market_of, terms_of
 from callauction.verdict.reading import Reading
-from callauction.verdict.rows import NEW, UNCROSS, Rows
+from callauction.verdict.rows import Kind, Rows
 from callauction.verdict.rules import Rules
 from callauction.verdict.table import Table
 from callauction.words import AUCTIONS
@@ -93,7 +93,7 @@ def _rules(market: Market, is_named: bool) -> dict[str, Rules | str]:
     """What each auction, which its result names or else is said, was opened with, or its fault."""
     kinds, states, only = said_in(market.table, market.reading)
     found: dict[str, Rules | str] = {}
-    uncrosses = numpy.flatnonzero((kinds == UNCROSS) & (market.codes >= 0))
+    uncrosses = numpy.flatnonzero((kinds == Kind.UNCROSS) & (market.codes >= 0))
     named: dict[str, list[int]] = {}
     for place in uncrosses.tolist():
         named.setdefault(market.names[market.codes[place]], []).append(int(states[place]))
@@ -172,7 +172,7 @@ def audit_auction(
 
 def _held(rows: Rows, said: str | None) -> str:
     """Which auction the rows are of. Raises ValueError."""
-    states, only = rows.state[rows.of(UNCROSS)].tolist(), rows.only[rows.of(NEW)]
+    states, only = rows.state[rows.of(Kind.UNCROSS)].tolist(), rows.only[rows.of(Kind.NEW)]
     if len(states) != 1:
         raise ValueError(f"published has {len(states)} uncrosses, and not one")
     return auction_of(states, said, bool((only > 0).any()))

@@ -8,7 +8,7 @@ import numpy
 
 from callauction.verdict.cells import Ints, Mask
 from callauction.verdict.comparing import Difference, Fill, Trade, keys_of
-from callauction.verdict.rows import BAD, FILL, MISSING, TAKEN, BadRow, Doubt, Rows
+from callauction.verdict.rows import BadRow, Cell, Doubt, Kind, Rows
 
 UNREAD = "a row that isn't read may take it out: {}"
 MOST = 300
@@ -21,13 +21,13 @@ class Busts:
     def __init__(self, rows: Rows) -> None:
         self.rows = rows
         both = ((row, self._named(row)) for row in rows.bad if row.is_bust)
-        twice = 1 + bool(len(rows.of(FILL)))
+        twice = 1 + bool(len(rows.of(Kind.FILL)))
         self.unread = [it for it in both for _ in range(1 if it[1] else twice)]
         """With the orders that each names; one without may take out both fills of a trade."""
         self.free = [named for row, named in self.unread if not self._is_one(row)]
         """The orders of each that may be a result or an order too, which explain more trades."""
         self.many = len(self.unread) - len(self.free)
-        has_any = bool(len(rows.of(TAKEN)) or self.unread)
+        has_any = bool(len(rows.of(Kind.TAKEN)) or self.unread)
         self.lost = [it for it in rows.holes if has_any or it.is_trade]
         self.last = max((it.since for it in rows.holes if has_any), default=-1)
         """Above which place a bust may be missing that contradictions go by."""
@@ -37,7 +37,7 @@ class Busts:
         if row.place < 0:
             return set()
         rows, at = self.rows, row.place
-        return {int(rows.key[at]), int(rows.bid[at]), int(rows.ask[at])} - {MISSING, BAD}
+        return {int(rows.key[at]), int(rows.bid[at]), int(rows.ask[at])} - {Cell.MISSING, Cell.BAD}
 
     def _is_one(self, row: BadRow) -> bool:
         """Whether a row is of one trade, as what names its bid or its ask is."""

@@ -8,9 +8,7 @@ import numpy
 from callauction.verdict.cells import Ints, Mask
 from callauction.verdict.comparing import Difference, Trade
 from callauction.verdict.doubts import Doubts
-from callauction.verdict.rows import (
-    INTERRUPTED, MARKET, MISSING, NEW, NO_PRICE, REPLACE, STOPPED, Rows,
-)  # fmt: skip
+from callauction.verdict.rows import INTERRUPTED, Cell, Kind, PriceCode, Rows, StateCode
 from callauction.words import AUCTIONS
 
 ONE_PRICE = "All trades of an auction are at its one price."
@@ -43,7 +41,7 @@ class Certain:
     def __init__(self, rows: Rows, doubts: Doubts, due: int, entered: Ints) -> None:
         self.rows, self.doubts, self.entered = rows, doubts, entered
         self.busts = doubts.busts
-        held = (rows.state[doubts.uncrosses] != STOPPED).sum()
+        held = (rows.state[doubts.uncrosses] != StateCode.INTERRUPTED).sum()
         of_books = (row.place for row in rows.bad if row.is_blank)
         self.is_blank = any(place < 0 or rows.key[place] < 0 for place in of_books)
         """Whether it isn't known of some row which order it is of, if of any."""
@@ -57,8 +55,8 @@ class Certain:
 
     def of(self, place: int, auction: int, traded: Ints, filled: Ints) -> list[Difference]:
         """The contradictions of an auction's uncross at a place with its trades and fills."""
-        if self.rows.state[place] == STOPPED:
-            if self.rows.price[place] != NO_PRICE and self.rows.count[place] <= 0:
+        if self.rows.state[place] == StateCode.INTERRUPTED:
+            if self.rows.price[place] != PriceCode.NO_PRICE and self.rows.count[place] <= 0:
                 return []
             # an interruption without a price, or with trades
             names = INTERRUPTED, AUCTIONS[auction]
@@ -86,9 +84,10 @@ class Certain:
         prices = prices if len(prices) > 1 or published not in prices else numpy.unique(at)
         first = (*(int(these[at == it][0]) for it in prices),)
         text = f"trades at {' and '.join(str(rows.prices[it]) for it in prices[:3])}"
+        is_said = published not in (PriceCode.UNSAID, PriceCode.NO_PRICE)
         if len(prices) > 1 and not any(is_open[it] for it in prices.tolist()):
             yield Difference("trade", text, "at one price", first, rule=ONE_PRICE)
-        elif len(prices) and published not in (MISSING, NO_PRICE) and not is_open[published]:
+        elif len(prices) and is_said and not is_open[published]:
             due = f"at the published {rows.prices[published]}"
             yield Difference("trade", text, due, first, rule=PRICE_RULE)
 
@@ -134,14 +133,14 @@ class Certain:
     def _worst(self, side: int) -> tuple[Ints, Mask]:
         """By key the worst limit of a side's orders, and whether all rows are read and have one."""
         rows = self.rows
-        limits = rows.of(NEW, REPLACE)
+        limits = rows.of(Kind.NEW, Kind.REPLACE)
         key, at = rows.key[limits], rows.price[limits].astype("i8")
-        worst = numpy.full(len(self.entered), MISSING, "i8")
+        worst = numpy.full(len(self.entered), Cell.MISSING, "i8")
         order = numpy.argsort(at if side == 1 else -at, kind="stable")
         worst[key[order]] = at[order]
         is_known = self.entered >= 0
         is_known[is_known] = rows.side[self.entered[is_known]] == side
-        is_known[key[at == MARKET]] = False
+        is_known[key[at == PriceCode.MARKET]] = False
         odd = [row.place for row in rows.bad if row.place >= 0]
         is_known[rows.key[odd]] = False
         return worst, is_known

@@ -6,10 +6,14 @@ import pandas
 
 from callauction.verdict.cells import Ints
 from callauction.verdict.names import is_placeholder
-from callauction.verdict.rows import FILL, MISSING, OF_ORDERS, TRADE, Rows
+from callauction.verdict.rows import OF_ORDERS, Cell, Kind, Rows
 
 RENAMED = "members of trades may be renamed: {} in orders, {} in trades{}"
-_PARTS = (("bid_member", TRADE, "bid"), ("ask_member", TRADE, "ask"), ("member", FILL, "key"))
+_PARTS = (
+    ("bid_member", Kind.TRADE, "bid"),
+    ("ask_member", Kind.TRADE, "ask"),
+    ("member", Kind.FILL, "key"),
+)
 """The columns that say members, of which rows, and which of their ids is of the order."""
 
 
@@ -47,7 +51,7 @@ def _said(rows: Rows) -> "pandas.DataFrame":
         these = these[entered[getattr(rows, ids)[these]] >= 0]
         order, said = getattr(rows, ids)[these], getattr(rows, column)[these]
         owner = rows.member[entered[order]]
-        is_new = (said != MISSING) & ~numpy.isin(said, known)
+        is_new = (said != Cell.MISSING) & ~numpy.isin(said, known)
         cells = {"place": these, "column": column, "order": order, "owner": owner, "code": ""}
         part = pandas.DataFrame(cells)
         part.loc[is_new, "code"] = _texts(rows, these[is_new], column)

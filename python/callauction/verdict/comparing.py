@@ -7,7 +7,7 @@ import pandas
 
 from callauction.verdict.cells import Codes, Ints, Mask
 from callauction.verdict.phases import Result, Sums, sums
-from callauction.verdict.rows import MISSING, NO_PRICE, SIDES, STATES, STOPPED, Rows
+from callauction.verdict.rows import SIDES, STATES, Cell, PriceCode, Rows, StateCode
 from callauction.words import AUCTIONS
 
 FILL_ITEM = "fill"
@@ -27,7 +27,7 @@ class Trade:
     bid: int
     ask: int
     quantity: int
-    price: int = MISSING
+    price: int = PriceCode.UNSAID
 
 
 @dataclasses.dataclass(frozen=True, slots=True)
@@ -36,7 +36,7 @@ class Fill:
 
     order: int
     quantity: int
-    price: int = MISSING
+    price: int = PriceCode.UNSAID
 
 
 Value = Trade | Fill | int | str | None
@@ -119,17 +119,17 @@ def compared_items(
     found: dict[str, Difference | None] = {}
     price, state = int(rows.price[place]), int(rows.state[place])
     is_priced = result.price is not None
-    is_same_kind = price == MISSING or (price == NO_PRICE) != is_priced
+    is_same_kind = price == PriceCode.UNSAID or (price == PriceCode.NO_PRICE) != is_priced
     if state > 0:
         found["auction"] = _item("auction", STATES[state], STATES[word], place)
-    if price != MISSING:
-        due = NO_PRICE if result.price is None else result.price
+    if price != PriceCode.UNSAID:
+        due = PriceCode.NO_PRICE if result.price is None else result.price
         found["price"] = _item("price", price, due, place)
     lawful = {"volume": result.volume, "surplus": result.surplus, "count": len(result.quantity)}
     arrays = {"volume": rows.quantity, "surplus": rows.surplus, "count": rows.count}
     for item, array in arrays.items():
         number = int(array[place])
-        if item == "count" and STOPPED in (state, word):
+        if item == "count" and StateCode.INTERRUPTED in (state, word):
             if state == word and number > 0:
                 found[item] = Difference(item, number, 0, (place,))
             continue
@@ -170,7 +170,7 @@ def compared_trades(
 
 def _at_other_prices(rows: Rows, these: Ints, result: Result, allowed: int) -> Mask:
     """Which of these rows have another price than the lawful one."""
-    return ~numpy.isin(rows.price[these], [result.number, allowed, MISSING])
+    return ~numpy.isin(rows.price[these], [result.number, allowed, PriceCode.UNSAID])
 
 
 def _of_others(rows: Rows, these: Ints, owners: Ints) -> Mask:
@@ -178,7 +178,7 @@ def _of_others(rows: Rows, these: Ints, owners: Ints) -> Mask:
     found = numpy.zeros(len(these), bool)
     for keys, members in ((rows.bid, rows.bid_member), (rows.ask, rows.ask_member)):
         owner, member = owners[keys[these]], members[these]
-        found |= (member != MISSING) & (owner >= 0) & (member != owner)
+        found |= (member != Cell.MISSING) & (owner >= 0) & (member != owner)
     return found
 
 
@@ -297,7 +297,7 @@ def compared_fills(
     """How these fills differ from the lawful ones, or from each order's member in `owners`."""
     filled = sums(rows.key[these], rows.quantity[these])
     owner, member = owners[rows.key[these]], rows.member[these]
-    of_others = (owner >= 0) & (member != MISSING) & (member != owner)
+    of_others = (owner >= 0) & (member != Cell.MISSING) & (member != owner)
     odd = these[_at_other_prices(rows, these, result, allowed) | of_others]
     if filled.agrees(result.fills) and not len(odd):
         return []
@@ -347,8 +347,8 @@ def compared_shares(
 
 def _recorded_price(rows: Rows, places: tuple[int, ...], lawful: int) -> int:
     """The price of these rows, of several one that isn't lawful; MISSING for none."""
-    priced = {int(rows.price[place]) for place in places} - {MISSING}
-    return min(priced - {lawful}, default=lawful if priced else MISSING)
+    priced = {int(rows.price[place]) for place in places} - {PriceCode.UNSAID}
+    return min(priced - {lawful}, default=lawful if priced else PriceCode.UNSAID)
 
 
 # ---- differences that are one
@@ -408,7 +408,7 @@ def reconciled_uncrosses(
             found[other].remove(gap)
             found[number].remove(each)
             name = AUCTIONS[auctions[other]]
-            is_there = each.stamp in (None, MISSING, other, NAMED + auctions[other])
+            is_there = each.stamp in (None, Cell.MISSING, other, NAMED + auctions[other])
             if not is_there and each.auction != name:
                 found[number].append(dataclasses.replace(each, lawful=name))
     return [paired(those) for those in found]

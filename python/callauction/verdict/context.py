@@ -15,7 +15,7 @@ from callauction.tables import BOOK, table_of
 from callauction.verdict.cells import Ints
 from callauction.verdict.judged import Judged
 from callauction.verdict.phases import Result, Uncross, recorded_sums
-from callauction.verdict.rows import CANCEL, FILL, MARKET, NEW, OWN, REPLACE, SIDES, TRADE, Rows
+from callauction.verdict.rows import OWN, SIDES, Kind, PriceCode, Rows
 from callauction.verdict.rules import Range, Rules
 from callauction.words import AUCTIONS
 
@@ -118,19 +118,19 @@ class Context:
     @functools.cached_property
     def entered(self) -> dict[int, int]:
         """By its key the row that enters an order."""
-        news = self.rows.of(NEW)
+        news = self.rows.of(Kind.NEW)
         return dict(zip(self.rows.key[news].tolist(), news.tolist()))
 
     @functools.cached_property
     def owners(self) -> frozenset[int]:
         """The numbers of the members that orders have."""
-        return frozenset(self.rows.member[self.rows.of(NEW)].tolist())
+        return frozenset(self.rows.member[self.rows.of(Kind.NEW)].tolist())
 
     @functools.cached_property
     def _renamed(self) -> dict[int, int]:
         """By its key the last new id of an order before the uncross."""
         rows = self.rows
-        these = numpy.flatnonzero((rows.kind == REPLACE) & (rows.new_id >= 0))
+        these = numpy.flatnonzero((rows.kind == Kind.REPLACE) & (rows.new_id >= 0))
         these = these[these < self.judged.place]
         return dict(zip(rows.key[these].tolist(), rows.new_id[these].tolist()))
 
@@ -138,17 +138,18 @@ class Context:
         """The order at a place of the book."""
         book, rows = self.judged.book, self.rows
         key, price, since = int(book.key[at]), int(book.price[at]), int(book.since[at])
+        limit = None if price == PriceCode.MARKET else rows.prices[price]
         return RestingOrder(
             key, self.order(key), self.member(key), SIDES[book.side[at]], int(book.quantity[at]),
-            None if price == MARKET else rows.prices[price], rows.names.legible_time(since),
-            rows.labels[since], "replaced" if rows.kind[since] == REPLACE else "entered",
+            limit, rows.names.legible_time(since), rows.labels[since],
+            "replaced" if rows.kind[since] == Kind.REPLACE else "entered",
         )  # fmt: skip
 
     def closed_by(self, key: int) -> int | None:
         """The last row above that cancels an order whole, or executes it; None where none does."""
         rows = self.rows
-        is_out = (rows.kind == CANCEL) & (rows.quantity <= 0) | (rows.kind == FILL)
-        is_trade = (rows.kind == TRADE) & ((rows.bid == key) | (rows.ask == key))
+        is_out = (rows.kind == Kind.CANCEL) & (rows.quantity <= 0) | (rows.kind == Kind.FILL)
+        is_trade = (rows.kind == Kind.TRADE) & ((rows.bid == key) | (rows.ask == key))
         these = numpy.flatnonzero(is_out & (rows.key == key) | is_trade)
         own = numpy.concatenate([self.judged.traded, self.judged.filled])
         these = these[(these < self.judged.place) & ~numpy.isin(these, own)]
@@ -159,7 +160,7 @@ class Context:
         only = int(self.rows.only[self.entered[key]])
         own = OWN.index(only) if only > 0 else len(OWN)
         last = self.closed_by(key)
-        if own >= self.judged.auction or last is not None and self.rows.kind[last] == CANCEL:
+        if own >= self.judged.auction or last is not None and self.rows.kind[last] == Kind.CANCEL:
             return ""
         for each in self.earlier:
             open_shares = each.book.quantity[each.book.key == key].sum()
@@ -184,7 +185,7 @@ class Context:
         """The orders of a side that trade at a price, in their priority: keys, and open shares."""
         book, queue = self.judged.book, self.queues[side]
         at = book.price[queue]
-        meets = queue[(at == MARKET) | (at >= number if side == "bid" else at <= number)]
+        meets = queue[(at == PriceCode.MARKET) | (at >= number if side == "bid" else at <= number)]
         return book.key[meets].astype("i8"), book.quantity[meets]
 
     @functools.cached_property

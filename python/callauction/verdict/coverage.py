@@ -3,7 +3,7 @@ import dataclasses
 
 from callauction.verdict.comparing import FILL_ITEM, Fill, Trade
 from callauction.verdict.judged import Judged, Judgement
-from callauction.verdict.rows import STOPPED, Rows
+from callauction.verdict.rows import Rows, StateCode
 
 ITEMS = ("price", "volume", "surplus", "side", "auction", "count")
 PLURALS = {it: f"{it}{'es' if it == 'surplus' else 's'}" for it in (*ITEMS, "trade", FILL_ITEM)}
@@ -56,7 +56,7 @@ def coverage_of(judgement: Judgement, rows: Rows) -> Coverage:
         compared = sum(item in each.items for each in due)
         counts[PLURALS[item]] = compared, len(due) + missing
     executed = [each for each in judged if not each.is_interrupted]
-    recorded = [each for each in executed if rows.state[each.place] != STOPPED]
+    recorded = [each for each in executed if rows.state[each.place] != StateCode.INTERRUPTED]
     trades = sum(map(_trades, recorded)) if judgement.has_trades else 0
     counts[PLURALS["trade"]] = trades, sum(map(_trades, executed))
     if judgement.has_fills:

@@ -1,7 +1,7 @@
 """A day's rows, told apart by what they are."""
 import numpy
 
-from callauction.verdict.rows import FILL, MISSING, NEW, OF_ORDERS, TRADE, UNCROSS, Rows
+from callauction.verdict.rows import OF_ORDERS, Cell, Kind, Rows
 from callauction.verdict.rules import Rules
 
 
@@ -12,13 +12,14 @@ class DayRows:
 
     def __init__(self, rows: Rows, rules: Rules) -> None:
         self.rows, self.rules, self.due = rows, rules, rules.due
-        self.uncrosses, self.orders = rows.of(UNCROSS), rows.of(*OF_ORDERS)
-        self.traded, self.filled = rows.of(TRADE), rows.of(FILL)
+        self.uncrosses, self.orders = rows.of(Kind.UNCROSS), rows.of(*OF_ORDERS)
+        self.traded, self.filled = rows.of(Kind.TRADE), rows.of(Kind.FILL)
         keys = (array.max(initial=-1) for array in (rows.key, rows.bid, rows.ask))
         self.room = numpy.zeros(int(max(keys)) + 2, "i8")
         """A number for each order, which whoever counts may overwrite."""
-        self.entered, self.owners = (numpy.full(len(self.room), MISSING, "i8") for _ in range(2))
-        news = rows.of(NEW)
+        none = numpy.full(len(self.room), Cell.MISSING, "i8")
+        self.entered, self.owners = none, none.copy()
+        news = rows.of(Kind.NEW)
         self.entered[rows.key[news]], self.owners[rows.key[news]] = news, rows.member[news]
 
     @property

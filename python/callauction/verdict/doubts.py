@@ -21,9 +21,7 @@ from callauction.verdict.comparing import Difference, Fill, Trade, keys_of, memb
 from callauction.verdict.mixed import is_one_session
 from callauction.verdict.names import is_placeholder, respelled
 from callauction.verdict.phases import Book, Result
-from callauction.verdict.rows import (
-    BAD, FILL, MISSING, NEW, STOPPED, TAKEN, TRADE, BadRow, Doubt, Rows,
-)  # fmt: skip
+from callauction.verdict.rows import BadRow, Cell, Doubt, Kind, Rows, StateCode
 from callauction.verdict.strays import Strays
 from callauction.verdict.ties import Ties
 from callauction.words import AUCTIONS
@@ -132,7 +130,7 @@ class Doubts:
         old = orders[(rows.time[orders] // clocks.DAY != day) & (rows.time[orders] >= clocks.DAY)]
         if not len(day) or day <= 0 or (rows.time[old] // clocks.DAY > day).any():
             return False
-        own = numpy.flatnonzero((rows.kind != BAD) & (rows.time // clocks.DAY == day))
+        own = numpy.flatnonzero((rows.kind != Kind.BAD) & (rows.time // clocks.DAY == day))
         named = numpy.concatenate([it[own] for it in (rows.key, rows.bid, rows.ask)])
         return bool(numpy.isin(rows.key[old], named).all())
 
@@ -159,7 +157,7 @@ class Doubts:
         auctions leave one out, or there are fewer rows than auctions, and no names.
         """
         state = self.rows.state[self.uncrosses]
-        places = self.uncrosses[state != STOPPED]
+        places = self.uncrosses[state != StateCode.INTERRUPTED]
         names = (self.rows.state[places] - 1).tolist()
         first = next((at for at, (name, it) in enumerate(zip(names, due)) if name != it), None)
         if first is None or len(names) >= len(due):
@@ -216,8 +214,8 @@ class Doubts:
         for row in sorted(rows.bad, key=lambda it: -it.place):
             if row.doubt is Doubt.ORDER and row.place >= 0:  # the first one enters it
                 own[rows.key[row.place]] = row.place
-        for event, keys in ((TRADE, rows.bid), (TRADE, rows.ask), (FILL, rows.key)):
-            made = (rows.kind == event) | (rows.kind == TAKEN) | unread
+        for event, keys in ((Kind.TRADE, rows.bid), (Kind.TRADE, rows.ask), (Kind.FILL, rows.key)):
+            made = (rows.kind == event) | (rows.kind == Kind.TAKEN) | unread
             these = numpy.flatnonzero(made & (keys >= 0))
             at = own[keys[these]]
             named += these[(at < 0) | (self.entered[keys[these]] < 0) & (at > these)][:1].tolist()
@@ -236,11 +234,11 @@ class Doubts:
         """
         rows = self.rows
         found = [
-            (row.place, side) for row in rows.bad if row.kind == TRADE and row.place >= 0
+            (row.place, side) for row in rows.bad if row.kind == Kind.TRADE and row.place >= 0
             for side, one, other in (("bid", rows.bid, rows.ask), ("ask", rows.ask, rows.bid))
             if one[row.place] < 0 <= other[row.place]
         ]  # fmt: skip
-        fills = (row.place for row in rows.bad if row.kind == FILL and row.place >= 0)
+        fills = (row.place for row in rows.bad if row.kind == Kind.FILL and row.place >= 0)
         found += [(place, "order") for place in fills if rows.key[place] < 0]
         return min(found, default=(-1, ""))
 
@@ -299,7 +297,7 @@ class Doubts:
             rows.names.recorded(place, column, int(getattr(rows, column)[place]))
             for place in each.places
             for key, column in zip(keys_of(one), member_columns(one))
-            if getattr(rows, column)[place] not in (MISSING, rows.member[self.entered[key]])
+            if getattr(rows, column)[place] not in (Cell.MISSING, rows.member[self.entered[key]])
         ]
         if names and all(map(is_placeholder, names)):
             return f"{names[0]!r} is no member of orders, and may stand for any"
@@ -309,8 +307,9 @@ class Doubts:
     def _other_names(self) -> str:
         """Why no member of a trade or a fill is known: none is an order's in any spelling."""
         rows = self.rows
-        named = numpy.concatenate([rows.bid_member, rows.ask_member, rows.member[rows.of(FILL)]])
-        own = rows.member[rows.kind != FILL]
+        of_fills = rows.member[rows.of(Kind.FILL)]
+        named = numpy.concatenate([rows.bid_member, rows.ask_member, of_fills])
+        own = rows.member[rows.kind != Kind.FILL]
         if numpy.isin(named[named >= 0], own).any() or respelled(rows):
             return ""
         return "no member of a trade is one of orders: the names may be others'"
@@ -385,7 +384,8 @@ class Doubts:
         rows, end = self.rows, self.rows.end
         if end is None:
             return ""
-        last, these = int(numpy.flatnonzero(rows.kind >= NEW)[-1]), numpy.append(traded, filled)
+        last = int(numpy.flatnonzero(rows.kind >= Kind.NEW)[-1])
+        these = numpy.append(traded, filled)
         is_own = (rows.labels[numpy.append(these, place)] == end.label).any()
         ends = clocks.nanosecond(end.time, rows.names.dates)
         is_timed = clocks.NO_TIME not in (ends, rows.time[last])
@@ -418,7 +418,7 @@ class Doubts:
     def _half(self, lawful: object) -> str:
         """Why a fill may be missing: a trade of its price has no row of its order's side."""
         rows = self.rows
-        halves = numpy.flatnonzero(rows.is_half & (rows.kind == FILL))
+        halves = numpy.flatnonzero(rows.is_half & (rows.kind == Kind.FILL))
         if isinstance(lawful, Fill):
             halves = halves[rows.side[halves] != rows.side[self.entered[lawful.order]]]
             is_own = (rows.price[halves] == lawful.price) | (rows.price[halves] < 0)
@@ -433,10 +433,11 @@ class Doubts:
         """
         rows = self.rows
         lost = [it.place for it in rows.bad if it.doubt is Doubt.BUST and it.place >= 0]
-        taken = numpy.union1d(rows.of(TAKEN), numpy.array(lost, "i8"))
+        taken = numpy.union1d(rows.of(Kind.TAKEN), numpy.array(lost, "i8"))
         if isinstance(lawful, Trade | Fill):
             shares = rows.quantity[taken]
-            taken = taken[(rows.kind[taken] != BAD) | (shares < 0) | (shares == lawful.quantity)]
+            is_read = rows.kind[taken] != Kind.BAD
+            taken = taken[is_read | (shares < 0) | (shares == lawful.quantity)]
         if isinstance(lawful, Trade):
             taken = taken[(rows.bid[taken] == lawful.bid) & (rows.ask[taken] == lawful.ask)]
         elif isinstance(lawful, Fill):
@@ -445,7 +446,7 @@ class Doubts:
         if not len(taken):
             return ""
         label = rows.labels[taken[0]]
-        is_lost = rows.kind[taken[0]] == BAD
+        is_lost = rows.kind[taken[0]] == Kind.BAD
         return (
             f"row {label} is a bust of it, and the trade may have no row" if is_lost
             else f"a bust takes the trade of row {label} out"

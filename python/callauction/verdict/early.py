@@ -14,7 +14,7 @@ from callauction.verdict.comparing import Difference
 from callauction.verdict.events import over_midnight
 from callauction.verdict.judged import Judged, Judgement
 from callauction.verdict.mixed import LONGEST
-from callauction.verdict.rows import FILL, OF_ORDERS, TRADE, Rows
+from callauction.verdict.rows import OF_ORDERS, Kind, Rows
 
 EARLY = "trades and fills timed before an order of theirs was entered, by {:f} s at most"
 TOLD = (
@@ -79,7 +79,7 @@ class Early:
         """How many trades and fills are timed before an entry of their orders, and by how much at
         most; empty for none.
         """
-        made = self.rows.of(TRADE, FILL)
+        made = self.rows.of(Kind.TRADE, Kind.FILL)
         gaps = self.gaps(made, self.entries(made))
         many = int((gaps > 0).sum())
         most = EARLY.format(_seconds(int(gaps.max(initial=0))))

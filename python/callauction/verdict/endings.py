@@ -14,7 +14,7 @@ from callauction.verdict.executions import Executions
 from callauction.verdict.fix import TAGS
 from callauction.verdict.judged import Judged, Judgement, Path
 from callauction.verdict.orders import notes_of
-from callauction.verdict.rows import BAD, CANCEL, FILL, MISSING, TRADE, Rows
+from callauction.verdict.rows import Cell, Kind, Rows
 from callauction.words import AUCTIONS
 
 FALLING = "times that come before that of the row above (sort reads rows by time)"
@@ -25,7 +25,7 @@ UNSAID = ": no column says which auction they are of (--columns auction=THEIRS)"
 LATE_ORDERS = "orders and replaces after the last auction"
 BEYOND = "auctions beyond what this program holds"
 NO_SEARCH = "uncrosses whose other moments are too many orders to try"
-NO_AUCTION_NAMED = (BAD, MISSING, 0)
+NO_AUCTION_NAMED = (Cell.BAD, Cell.MISSING, 0)
 """What a row says of its auction where it names none."""
 
 
@@ -100,12 +100,12 @@ class Ending:
         if path.state.ended >= len(self.day.due):
             below = self.day.orders[path.taken :]
             below = below[self.rows.are_behind(below, path.judged[-1].place)]
-            late = self.rows.kind[below] == CANCEL
+            late = self.rows.kind[below] == Kind.CANCEL
             notes[LATE_CANCELS] += int(late.sum())
             notes[LATE_ORDERS] += int((~late).sum())
         if not path.judged:
             why = _without_names(self.rows) if self.rows.makes_results else FROM_TRADES
-            notes[f"{NO_UNCROSS}{why}"] += len(self.rows.of(TRADE, FILL))
+            notes[f"{NO_UNCROSS}{why}"] += len(self.rows.of(Kind.TRADE, Kind.FILL))
         for each in path.judged:
             notes[f"{BEYOND} ({each.beyond})"] += bool(each.beyond)
         notes[NO_SEARCH] += left_out
@@ -115,7 +115,7 @@ class Ending:
         """Auctions without a row uncross whose trades, which name them, are at two prices; one of
         another name is none of theirs.
         """
-        made, state = self.rows.of(TRADE, FILL), self.rows.state
+        made, state = self.rows.of(Kind.TRADE, Kind.FILL), self.rows.state
         held = {
             it.auction for it in judged
             if state[it.place] in (*NO_AUCTION_NAMED, 1 + it.auction)

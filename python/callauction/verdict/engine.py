@@ -5,7 +5,7 @@ from typing import Any
 
 import numpy
 
-from callauction.arrays import COMMAND, REPLY, Structs
+from callauction.arrays import REPLY, Structs
 from callauction.program import Day
 from callauction.words import AUCTIONS, AuctionKind, ReplyTag, Side
 from callauction.written import command_of, fields_of

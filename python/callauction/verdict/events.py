@@ -23,11 +23,11 @@ from callauction.verdict.mixed import LONGEST
 from callauction.verdict.names import below_their_entries, make_keys
 from callauction.verdict.reading import Reading
 from callauction.verdict.rows import (
-    BAD, BUST, CANCEL, CONTINUOUS, CONTINUOUS_STATE, FILL, MARKET, MISSING, NEW, NO_PRICE, REPLACE,
-    RESTRICTIONS, SIDES, STATES, STOPPED, TRADE, UNCROSS, BadRow, Doubt, Int8s, Names, Rows,
+    CONTINUOUS, RESTRICTIONS, SIDES, STATES, BadRow, Cell, Doubt, Int8s, Kind, Names, PriceCode,
+    Rows, StateCode,
 )  # fmt: skip
 from callauction.verdict.table import Table
-from callauction.verdict.worded import EMPTY_PRICE, Columns
+from callauction.verdict.worded import Columns
 
 _SIDE = {"bid": 1, "buy": 1, "ask": 2, "sell": 2}
 _SURPLUS_SIDE = {**_SIDE, "none": 0}
@@ -112,15 +112,15 @@ def _look_at_peaks(rows: Rows, columns: Columns) -> None:
     rows.is_iceberg = numpy.zeros(len(rows.kind), bool)
     if "peak" in columns.names:
         peak = columns.wholes("peak")
-        rows.is_iceberg = (peak > 0) & (peak < rows.quantity) & (rows.kind == NEW)
-        odd = (peak <= 0) | (peak > rows.quantity) | (rows.price == MARKET)
-        rows.notes[PEAKS] += int((odd & (peak != MISSING) & (rows.kind == NEW)).sum())
+        rows.is_iceberg = (peak > 0) & (peak < rows.quantity) & (rows.kind == Kind.NEW)
+        odd = (peak <= 0) | (peak > rows.quantity) | (rows.price == PriceCode.MARKET)
+        rows.notes[PEAKS] += int((odd & (peak != Cell.MISSING) & (rows.kind == Kind.NEW)).sum())
 
 
 def _unread_ids(rows: Rows, kind: Int8s) -> Codes:
     """The ids in bad rows that may enter an order: of this kind, or of none that is known."""
     unread = numpy.array([it.place for it in rows.bad], "i8")
-    is_new = (kind[unread] < 0) | (kind[unread] == NEW)
+    is_new = (kind[unread] < 0) | (kind[unread] == Kind.NEW)
     found: Codes = numpy.concatenate([rows.key[unread[is_new]], rows.new_id[unread]])
     return found
 
@@ -163,7 +163,7 @@ def _read(
     columns: Columns, table: Table, given: Iterable[Decimal], time: Ints, groups: Ints, lead: Codes
 ) -> tuple[Rows, Mask]:
     """The rows as they are in columns, and which have a word for a market order."""
-    reading, none = columns.reading, numpy.full(len(time), MISSING, "i4")
+    reading, none = columns.reading, numpy.full(len(time), Cell.MISSING, "i4")
     price, prices, is_market = columns.prices(given)
     ids, first = _ids(columns, lead)
     member, members = columns.texts("member")
@@ -194,7 +194,7 @@ def said_in(table: Table, reading: Reading) -> tuple[Int8s, Int8s, Int8s]:
 
 def orders_in_time(table: Table, reading: Reading) -> tuple[Ints, Ints]:
     """The places of rows `new` by time, sequence and place, and of others. Raises ExtractError."""
-    is_new = Columns(table.source, table.names, reading).words("event", KINDS) == NEW
+    is_new = Columns(table.source, table.names, reading).words("event", KINDS) == Kind.NEW
     orders, others = numpy.flatnonzero(is_new), numpy.flatnonzero(~is_new)
     if "time" in table.names:
         sorts = dataclasses.replace(reading, sort=True)
@@ -264,7 +264,7 @@ def _refuse_unread(columns: Columns, time: Ints) -> None:
     """Raises ExtractError where more than a few times can't be read by which rows are sorted."""
     is_unread = (time == clocks.NO_TIME) & _has(columns, "time")
     kinds = columns.words("event", KINDS)
-    unread = numpy.flatnonzero(is_unread & (_has(columns, "order") | (kinds > CANCEL)))
+    unread = numpy.flatnonzero(is_unread & (_has(columns, "order") | (kinds > Kind.CANCEL)))
     if len(unread) > len(time) // FEW_UNTIMED:
         first = int(unread[0])
         cell, label = columns.cells("time").text(first), columns.source.labels[first]
@@ -282,9 +282,9 @@ def _are_moved(order: Ints, lead: Codes) -> Mask:
 def _untimed(columns: Columns, time: Ints, which: Mask) -> Ints:
     """The places of those of some rows that have no time, and would have a place by one."""
     kinds = columns.words("event", KINDS)
-    is_order = (kinds >= NEW) & (kinds <= CANCEL) & _has(columns, "order")
-    is_trade = ((kinds == TRADE) | (kinds == FILL)) & ~_has(columns, "auction")
-    is_due = is_order | is_trade | (kinds == UNCROSS)
+    is_order = (kinds >= Kind.NEW) & (kinds <= Kind.CANCEL) & _has(columns, "order")
+    is_trade = ((kinds == Kind.TRADE) | (kinds == Kind.FILL)) & ~_has(columns, "auction")
+    is_due = is_order | is_trade | (kinds == Kind.UNCROSS)
     return numpy.flatnonzero((time == clocks.NO_TIME) & is_due & which)
 
 
@@ -336,7 +336,7 @@ def _slack(columns: Columns, kind: Int8s) -> int:
     of_rows = numpy.array([*steps, 0], "i8")[codes]
     own, due = (
         int(of_rows[(kind >= least) & (kind <= most) & (codes >= 0)].min(initial=clocks.DAY))
-        for least, most in ((UNCROSS, UNCROSS), (NEW, CANCEL))
+        for least, most in ((Kind.UNCROSS, Kind.UNCROSS), (Kind.NEW, Kind.CANCEL))
     )
     return own if due < own < clocks.DAY else 0
 
@@ -374,7 +374,8 @@ def _members(columns: Columns, name: str, known: list[str]) -> Codes:
     """The number of each row's member, BAD for one who has no order."""
     numbers = {member: place for place, member in enumerate(known)}
     codes, texts = columns.texts(name)
-    return numpy.array([*(numbers.get(text, BAD) for text in texts), MISSING], "i4")[codes]
+    found = [numbers.get(text, Cell.BAD) for text in texts]
+    return numpy.array([*found, Cell.MISSING], "i4")[codes]
 
 
 def _groups(time: Ints, sequence: Ints | None, lead: Codes) -> Ints:
@@ -399,7 +400,7 @@ def _dropped(table: Table, names: Mapping[str, str], reading: Reading) -> frozen
         return frozenset()
     columns = Columns(table.dropped, names, reading)
     kinds = columns.words("event", KINDS)
-    these = numpy.flatnonzero((kinds == TRADE) | (kinds == FILL))
+    these = numpy.flatnonzero((kinds == Kind.TRADE) | (kinds == Kind.FILL))
     found = Columns(table.dropped.take(these), names, reading)
     return frozenset(text for name in ("order", "bid", "ask") for text in found.texts(name)[1])
 
@@ -407,15 +408,20 @@ def _dropped(table: Table, names: Mapping[str, str], reading: Reading) -> frozen
 # ---- rows that can't be read
 
 
-_DOUBTS = {NEW: Doubt.ORDER, TRADE: Doubt.TRADES, FILL: Doubt.TRADES, BUST: Doubt.BUST}
+_DOUBTS = {
+    Kind.NEW: Doubt.ORDER,
+    Kind.TRADE: Doubt.TRADES,
+    Kind.FILL: Doubt.TRADES,
+    Kind.BUST: Doubt.BUST,
+}
 """What a row of each kind leaves in doubt that can't be read; of others the books."""
 
 
 def _refuse(rows: Rows, columns: Columns, which: Mask, name: str, why: str) -> None:
     """Notes rows whose cell of a column is missing or unread, for `why`; of results it alone."""
-    for place in numpy.flatnonzero(which & (rows.kind != BAD)).tolist():
+    for place in numpy.flatnonzero(which & (rows.kind != Kind.BAD)).tolist():
         text = _unread(rows, columns, place, name, why)
-        if rows.kind[place] == UNCROSS:
+        if rows.kind[place] == Kind.UNCROSS:
             rows.bad.append(BadRow(place, rows.labels[place], text, Doubt.ITEM, place))
         else:
             rows.refuse(place, text, _DOUBTS.get(int(rows.kind[place]), Doubt.BOOKS))
@@ -427,7 +433,7 @@ def _unread(rows: Rows, columns: Columns, place: int, name: str, why: str) -> st
     if not cell:
         return f"{name} is missing"
     text, kind = f"{name} {cell!r} {why}", rows.kind[place]
-    if name == "price" and cell.isalpha() and kind in (NEW, REPLACE):
+    if name == "price" and cell.isalpha() and kind in (Kind.NEW, Kind.REPLACE):
         text += f" (--market {cell} reads a market order)"
     if name == "price" and re.search(r"[$€£¥]|\d ?[A-Z]{3}$|^[A-Z]{3} ?\d", cell):
         text += " (is it with a currency? leave that out)"
@@ -463,49 +469,51 @@ def _look_at_orders(rows: Rows, columns: Columns, is_market: Mask) -> None:
         if cell:
             text = f"event {cell!r} {_none_of(EVENTS)}{_meaning('event', cell)}"
         rows.bad.append(BadRow(int(place), rows.labels[place], text, Doubt.ANY, int(place)))
-    kind[kind < 0] = BAD
-    is_new, is_cancel = kind == NEW, kind == CANCEL
-    is_limit = is_new | (kind == REPLACE)
+    kind[kind < 0] = Kind.BAD
+    is_new, is_cancel = kind == Kind.NEW, kind == Kind.CANCEL
+    is_limit = is_new | (kind == Kind.REPLACE)
     _refuse(rows, columns, (is_limit | is_cancel) & (rows.key < 0), "order", "")
     _refuse(rows, columns, is_new & (rows.side <= 0), "side", _none_of(_SIDE))
     if not rows.has_market:
-        rows.price[is_limit & (rows.price == EMPTY_PRICE)] = MARKET
-    quantity = is_limit & (rows.quantity < 0) | is_cancel & (rows.quantity == BAD)
+        rows.price[is_limit & (rows.price == PriceCode.EMPTY)] = PriceCode.MARKET
+    quantity = is_limit & (rows.quantity < 0) | is_cancel & (rows.quantity == Cell.BAD)
     _refuse(rows, columns, quantity, "quantity", _NO_WHOLE)
-    unread = rows.price < MARKET
+    unread = rows.price < PriceCode.MARKET
     if columns.reading.market:
-        unread |= rows.price == MARKET
+        unread |= rows.price == PriceCode.MARKET
     _refuse(rows, columns, is_limit & unread & ~is_market, "price", _NO_DECIMAL)
-    _refuse(rows, columns, is_new & (rows.only == BAD), "restriction", _none_of(RESTRICTIONS))
-    _refuse(rows, columns, (kind == REPLACE) & (rows.kept == BAD), "kept", _none_of(_KEPT))
-    rows.price[is_limit & is_market] = MARKET
+    _refuse(rows, columns, is_new & (rows.only == Cell.BAD), "restriction", _none_of(RESTRICTIONS))
+    kept = (kind == Kind.REPLACE) & (rows.kept == Cell.BAD)
+    _refuse(rows, columns, kept, "kept", _none_of(_KEPT))
+    rows.price[is_limit & is_market] = PriceCode.MARKET
 
 
 def _look_at_results(rows: Rows, columns: Columns) -> None:
     """Refuses rows of trades that can't be read, and the cells of uncrosses that can't."""
     kind = rows.kind
-    rows.price[(kind >= UNCROSS) & (rows.price == EMPTY_PRICE)] = MISSING
-    is_alone = (kind == BUST) & (rows.key >= 0) & (rows.bid < 0) & (rows.ask < 0)
-    is_trade, is_fill = (kind == TRADE) | (kind == BUST) & ~is_alone, (kind == FILL) | is_alone
+    rows.price[(kind >= Kind.UNCROSS) & (rows.price == PriceCode.EMPTY)] = PriceCode.UNSAID
+    is_alone = (kind == Kind.BUST) & (rows.key >= 0) & (rows.bid < 0) & (rows.ask < 0)
+    is_trade = (kind == Kind.TRADE) | (kind == Kind.BUST) & ~is_alone
+    is_fill = (kind == Kind.FILL) | is_alone
     both = is_trade | is_fill
-    rows.state[(kind == UNCROSS) & (rows.state == CONTINUOUS_STATE)] = BAD
-    for place in numpy.flatnonzero(both & (rows.state == CONTINUOUS_STATE)):
+    rows.state[(kind == Kind.UNCROSS) & (rows.state == StateCode.CONTINUOUS)] = Cell.BAD
+    for place in numpy.flatnonzero(both & (rows.state == StateCode.CONTINUOUS)):
         rows.refuse(place, NO_AUCTION, Doubt.BOOKS)
     _refuse(rows, columns, is_fill & (rows.key < 0), "order", "")
     _refuse(rows, columns, is_trade & (rows.bid < 0), "bid", "")
     _refuse(rows, columns, is_trade & (rows.ask < 0), "ask", "")
     _refuse(rows, columns, both & (rows.quantity < 0), "quantity", _NO_WHOLE)
-    _refuse(rows, columns, both & (rows.price < MARKET), "price", _NO_DECIMAL)
-    named = (rows.state == BAD) | (rows.state == STOPPED)
+    _refuse(rows, columns, both & (rows.price < PriceCode.MARKET), "price", _NO_DECIMAL)
+    named = (rows.state == Cell.BAD) | (rows.state == StateCode.INTERRUPTED)
     _refuse(rows, columns, both & named, "auction", _none_of(STATES[1:-1]))
-    uncross = kind == UNCROSS
+    uncross = kind == Kind.UNCROSS
     volume = columns.wholes("volume")
-    rows.quantity = numpy.where(uncross & (volume != MISSING), volume, rows.quantity)
-    unread = uncross & (rows.price < NO_PRICE)
+    rows.quantity = numpy.where(uncross & (volume != Cell.MISSING), volume, rows.quantity)
+    unread = uncross & (rows.price < PriceCode.NO_PRICE)
     _refuse(rows, columns, unread, "price", _NO_DECIMAL)
-    rows.price[unread] = MISSING
-    without = (rows.price == MISSING) & (rows.quantity == 0)
-    rows.price[uncross & (without | _is_zero(rows) & (rows.quantity == 0))] = NO_PRICE
+    rows.price[unread] = PriceCode.UNSAID
+    without = (rows.price == PriceCode.UNSAID) & (rows.quantity == 0)
+    rows.price[uncross & (without | _is_zero(rows) & (rows.quantity == 0))] = PriceCode.NO_PRICE
     cells: list[tuple[str, Any, str]] = [
         ("quantity", rows.quantity, _NO_WHOLE),
         ("surplus", rows.surplus, _NO_WHOLE),
@@ -514,14 +522,14 @@ def _look_at_results(rows: Rows, columns: Columns) -> None:
         ("auction", rows.state, _none_of(STATES[1:])),
     ]
     for name, values, why in cells:
-        unread = uncross & (values == BAD)
+        unread = uncross & (values == Cell.BAD)
         _refuse(rows, columns, unread, name, why)
-        values[unread] = MISSING
+        values[unread] = Cell.MISSING
 
 
 def _is_zero(rows: Rows) -> Mask:
     """Which prices are 0."""
-    zero = rows.prices.index(Decimal(0)) if Decimal(0) in rows.prices else BAD + BAD
+    zero = rows.prices.index(Decimal(0)) if Decimal(0) in rows.prices else PriceCode.UNREAD
     found: Mask = rows.price == zero
     return found
 
@@ -538,12 +546,12 @@ def read_zeros(rows: Rows, said: Iterable[Decimal]) -> None:
     below = (rows.price >= 0) & (rows.price < rows.price[is_zero].max(initial=0))
     if not is_zero.any() or below.any() or min(said) <= 0:
         return
-    made = (rows.kind == TRADE) | (rows.kind == FILL)
+    made = (rows.kind == Kind.TRADE) | (rows.kind == Kind.FILL)
     if is_zero[made].all():
-        rows.price[made] = MISSING
-    zero = is_zero & ((rows.kind == NEW) | (rows.kind == REPLACE))
+        rows.price[made] = PriceCode.UNSAID
+    zero = is_zero & ((rows.kind == Kind.NEW) | (rows.kind == Kind.REPLACE))
     if not rows.has_market:
-        rows.price[zero] = MARKET
+        rows.price[zero] = PriceCode.MARKET
         rows.notes[ZEROS] += int(zero.sum())
         return
     for place in numpy.flatnonzero(zero):
@@ -560,9 +568,9 @@ def refuse_limits(
         return
     bad = numpy.zeros(len(rows.prices) + 1, bool)
     bad[[*why]] = True
-    is_limit = ((rows.kind == NEW) | (rows.kind == REPLACE)) & (rows.price >= 0)
+    is_limit = ((rows.kind == Kind.NEW) | (rows.kind == Kind.REPLACE)) & (rows.price >= 0)
     for place in numpy.flatnonzero(is_limit & bad[rows.price]):
-        doubt = Doubt.ORDER if rows.kind[place] == NEW else Doubt.BOOKS
+        doubt = Doubt.ORDER if rows.kind[place] == Kind.NEW else Doubt.BOOKS
         number = int(rows.price[place])
         rows.refuse(place, f"price {rows.prices[number]} {why[number]}", doubt)
 

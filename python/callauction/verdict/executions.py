@@ -12,7 +12,7 @@ from callauction.verdict.day_rows import DayRows
 from callauction.verdict.doubts import Doubts
 from callauction.verdict.judged import Moment
 from callauction.verdict.phases import NOTHING, Book, Result
-from callauction.verdict.rows import MISSING, NO_PRICE, STOPPED
+from callauction.verdict.rows import Cell, PriceCode, StateCode
 
 
 class Executions:
@@ -20,7 +20,7 @@ class Executions:
 
     def __init__(self, day: DayRows, doubts: Doubts) -> None:
         self.day, self.rows, self.doubts = day, day.rows, doubts
-        self.stamps = numpy.full(len(self.rows.kind), MISSING, "i8")
+        self.stamps = numpy.full(len(self.rows.kind), Cell.MISSING, "i8")
         """By its row what a trade or a fill says of its uncross: its time, or its auction."""
         self.traded, self.filled = self._by_uncross(day.traded), self._by_uncross(day.filled)
 
@@ -30,9 +30,9 @@ class Executions:
         none.
         """
         rows, uncrosses, due = self.rows, self.day.uncrosses, self.day.due
-        done = numpy.flatnonzero(rows.state[uncrosses] != STOPPED)
+        done = numpy.flatnonzero(rows.state[uncrosses] != StateCode.INTERRUPTED)
         named = rows.state[these].astype("i8") - 1
-        by = numpy.full(len(these), MISSING, "i8")
+        by = numpy.full(len(these), Cell.MISSING, "i8")
         at = rows.time[uncrosses]
         if len(done):
             by = done[numpy.maximum(numpy.searchsorted(uncrosses[done], these) - 1, 0)]
@@ -40,7 +40,7 @@ class Executions:
             timed = rows.time[these] != clocks.NO_TIME
             own = numpy.where(timed, rows.time[these], 0)[:, None]
             by = numpy.where(timed, done[numpy.abs(own - at[done]).argmin(1)], by)
-            self.stamps[these] = numpy.where(timed, numpy.abs(own - at).argmin(1), MISSING)
+            self.stamps[these] = numpy.where(timed, numpy.abs(own - at).argmin(1), Cell.MISSING)
         is_named = named >= 0
         self.stamps[these[is_named]] = NAMED + named[is_named]
         is_once = numpy.isin(named, [it for it in due if due.count(it) == 1])
@@ -60,8 +60,8 @@ class Executions:
     def named(self, auction: int) -> list[Difference]:
         """The trades and fills that name an auction, as extra ones."""
         traded, filled = self.of(NAMED + auction)
-        made = self._trades(traded, NOTHING, MISSING)
-        return [*made.differences, *self._fills(filled, NOTHING, MISSING)]
+        made = self._trades(traded, NOTHING, PriceCode.UNSAID)
+        return [*made.differences, *self._fills(filled, NOTHING, PriceCode.UNSAID)]
 
     def compared(
         self, moment: Moment, book: Book, result: Result, is_wrong: bool
@@ -70,8 +70,8 @@ class Executions:
         `is_wrong` says that its price isn't lawful.
         """
         rows, place, traded, filled = self.rows, moment.place, moment.traded, moment.filled
-        says_none = is_wrong and rows.price[place] == NO_PRICE
-        allowed = int(rows.price[place]) if is_wrong and not says_none else MISSING
+        says_none = is_wrong and rows.price[place] == PriceCode.NO_PRICE
+        allowed = int(rows.price[place]) if is_wrong and not says_none else PriceCode.UNSAID
         made, found = Compared([], 0), list[Difference]()
         if self.day.has_trades and (len(traded) or not says_none):
             made = self._trades(traded, result, allowed)
@@ -96,7 +96,7 @@ class Executions:
             return found
         own = moment.traded[~numpy.isin(moment.traded, outside)]
         inner = self._trades(own, result, allowed).differences
-        outer = self._trades(outside, NOTHING, MISSING).differences
+        outer = self._trades(outside, NOTHING, PriceCode.UNSAID).differences
         fewer = len(inner) < sum(not each.doubt for each in found)
         return [*inner, *map(self.doubts.stray, outer)] if fewer else found
 

@@ -6,9 +6,7 @@ from collections.abc import Iterator
 from callauction.reasons import explain as explain_book
 from callauction.verdict.comparing import FILL_ITEM, PRIORITY, Difference, Fill, Trade, keys_of
 from callauction.verdict.context import Context, RestingOrder
-from callauction.verdict.rows import (
-    CANCEL, INTERRUPTED, MISSING, OWN, RESTRICTIONS, SIDES,
-)  # fmt: skip
+from callauction.verdict.rows import INTERRUPTED, OWN, RESTRICTIONS, SIDES, Cell, Kind
 
 KEPT = (
     "A replace keeps the place in time where the limit is the same and the quantity isn't greater, "
@@ -224,7 +222,7 @@ def _closing(context: Context, key: int) -> str:
     place = context.closed_by(key)
     if place is None:
         return "executed, cancelled or refused before"
-    word = "cancelled" if context.rows.kind[place] == CANCEL else "executed"
+    word = "cancelled" if context.rows.kind[place] == Kind.CANCEL else "executed"
     time = context.rows.names.legible_time(place)
     return f"{word} in row {context.rows.labels[place]}{f', {time}' if time else ''}"
 
@@ -280,7 +278,7 @@ def _recorded_member(context: Context, places: tuple[int, ...], key: int, side: 
         keys, column = (getattr(rows, own), f"{own}_member") if own else (rows.key, "member")
         number = int(getattr(rows, column)[place])
         is_known = own == side or number in context.owners
-        if keys[place] == key and number != MISSING and is_known:
+        if keys[place] == key and number != Cell.MISSING and is_known:
             return rows.names.recorded(place, column, number)
     return ""
 

@@ -17,7 +17,7 @@ from callauction.verdict.explain import (
 )  # fmt: skip
 from callauction.verdict.judged import Judged, Judgement
 from callauction.verdict.orders import orders_of
-from callauction.verdict.rows import NO_PRICE, BadRow, Rows
+from callauction.verdict.rows import BadRow, PriceCode, Rows
 from callauction.verdict.rules import Rules
 
 LAWFUL, UNLAWFUL, INCOMPLETE = "lawful", "unlawful", "incomplete"
@@ -311,7 +311,9 @@ def _shown(context: Context, difference: Difference, value: Value) -> str:
     if isinstance(value, str):
         return value
     if difference.item == "price":
-        return "no price" if value == NO_PRICE else context.price(context.rows.prices[value])
+        if value == PriceCode.NO_PRICE:
+            return "no price"
+        return context.price(context.rows.prices[value])
     return f"{value:,}"
 
 

@@ -9,7 +9,7 @@ import numpy
 from callauction.verdict.cells import Codes, Ints
 from callauction.verdict.columns import is_id
 from callauction.verdict.names import MOST_TEXTS
-from callauction.verdict.rows import FILL, NEW, REPLACE, TRADE, BadRow, Doubt, Rows
+from callauction.verdict.rows import BadRow, Doubt, Kind, Rows
 
 BEFORE = "{} has {!r}: is it that order? (--columns replace.order={},replace.new_order={})"
 AFTER = "{} of row {} has that id: did the replace give it? (--columns new_order={})"
@@ -22,7 +22,7 @@ def look_for_given(rows: Rows, lead: Codes) -> None:
     read names, where a row enters it; and says which such column of a replace has the id of a trade
     whose order no row enters. `lead` numbers the instrument of each row.
     """
-    lost = [it.place for it in rows.bad if it.kind == REPLACE and it.doubt is Doubt.ORDER]
+    lost = [it.place for it in rows.bad if it.kind == Kind.REPLACE and it.doubt is Doubt.ORDER]
     made, own = _unknown(rows, lead), rows.names.theirs.get("order")
     if own is None or not (lost or made) or len(lost) + len(made) > MOST_TEXTS:
         return
@@ -44,7 +44,7 @@ def look_for_given(rows: Rows, lead: Codes) -> None:
 
 def _entered(rows: Rows, lead: Codes, numbers: Iterable[int]) -> dict[Id, int]:
     """By their ids the keys of the orders that rows of these instruments enter."""
-    news = rows.of(NEW)
+    news = rows.of(Kind.NEW)
     news = news[numpy.isin(lead[news], [*numbers])]
     keys = rows.key[news].tolist()
     return {(number, rows.names.order(key)): key for number, key in zip(lead[news].tolist(), keys)}
@@ -60,7 +60,7 @@ def _in_doubt(row: BadRow, why: str) -> BadRow:
 def _unknown(rows: Rows, lead: Codes) -> set[Id]:
     """The ids in trades and fills of orders that no row enters."""
     entered = rows.entered(len(rows.names.ids) + 1)
-    parts = ((rows.bid, TRADE), (rows.ask, TRADE), (rows.key, FILL))
+    parts = ((rows.bid, Kind.TRADE), (rows.ask, Kind.TRADE), (rows.key, Kind.FILL))
     keys = {pair for it, kind in parts for these in [rows.of(kind)]
             for pair in zip(it[these].tolist(), lead[these].tolist())}  # fmt: skip
     return {(number, rows.names.order(key)) for key, number in keys if key >= 0 > entered[key]}
@@ -78,7 +78,7 @@ def _after(rows: Rows, lead: Codes, made: Container[Id], column: str) -> Mapping
     """By the place of the first replace of an instrument that has one of these ids in a column, how
     it has.
     """
-    replaces: Ints = rows.of(REPLACE)
+    replaces: Ints = rows.of(Kind.REPLACE)
     codes, texts = rows.names.texts(replaces, column)
     found = dict[int, int]()
     for at, code, number in zip(replaces.tolist(), codes.tolist(), lead[replaces].tolist()):

@@ -8,7 +8,7 @@ from callauction.verdict.cells import Ints
 from callauction.verdict.judged import Judged, Judgement
 from callauction.verdict.judging import Judge
 from callauction.verdict.phases import recorded_sums
-from callauction.verdict.rows import CANCEL, MARKET, MISSING, NEW, OWN, REPLACE, Rows
+from callauction.verdict.rows import OWN, Cell, Kind, PriceCode, Rows
 from callauction.verdict.rules import Rules
 
 MORE = "row {} has {:,} shares, and {:,} are executed: are hidden ones missing?{}"
@@ -28,7 +28,7 @@ def lacking(found: Judgement, rows: Rows) -> tuple[Rows, str] | None:
         made = recorded_sums(rows, judged.traded, judged.filled).by_key()
         for key, shares in made.items() if judged.result is not None else ():
             place = _row_of(rows, key, judged.place) if shares > book.get(key, 0) else -1
-            if place >= 0 and rows.only[entered[key]] in (MISSING, OWN[judged.auction]):
+            if place >= 0 and rows.only[entered[key]] in (Cell.MISSING, OWN[judged.auction]):
                 more[place] += shares - book.get(key, 0)
                 own, hint = int(rows.quantity[place]), COLUMN * ("peak" not in rows.names.theirs)
                 why = why or MORE.format(rows.labels[place], own, own + int(more[place]), hint)
@@ -39,8 +39,8 @@ def _row_of(rows: Rows, key: int, below: int) -> int:
     """The last row above a place that gives an order its shares; below 0 where it has none there.
     """
     those = numpy.flatnonzero(rows.key[:below] == key)
-    gone = those[(rows.kind[those] == CANCEL) & (rows.quantity[those] <= 0)]
-    given = those[(rows.kind[those] == NEW) | (rows.kind[those] == REPLACE)]
+    gone = those[(rows.kind[those] == Kind.CANCEL) & (rows.quantity[those] <= 0)]
+    given = those[(rows.kind[those] == Kind.NEW) | (rows.kind[those] == Kind.REPLACE)]
     return int(given[-1]) if len(given) and not len(gone) else -1
 
 
@@ -71,7 +71,7 @@ def _gap(rows: Rows, judged: Judged) -> tuple[int, int]:
     shares, book = int(rows.surplus[judged.place]) - due, judged.book
     level = book.price if side == 1 else -book.price
     limit = price if side == 1 else -price
-    may = (book.price == MARKET) | (level >= limit)
+    may = (book.price == PriceCode.MARKET) | (level >= limit)
     these = book.ranked((book.side == side) & book.counted(judged.auction) & may)
     if shares <= 0 or not len(these):
         return -1, 0

@@ -26,7 +26,7 @@ from callauction.verdict.events import dropped_numbers, gaps_in, rows_of
 from callauction.verdict.extract import columns_of, read_table
 from callauction.verdict.findings import INCOMPLETE, STATUSES, Finding, Verdict
 from callauction.verdict.reading import Reading
-from callauction.verdict.rows import BUST, FILL, TRADE, BadRow, Doubt, Rows
+from callauction.verdict.rows import BadRow, Doubt, Kind, Rows
 from callauction.verdict.rules import Rules
 from callauction.verdict.table import Table
 from callauction.verdict.worded import Columns
@@ -319,8 +319,8 @@ class Market:
         kinds = columns.words("event", KINDS)
         found = []
         parts = {
-            Doubt.ANY: kinds < 0, Doubt.TRADES: (kinds == TRADE) | (kinds == FILL),
-            Doubt.BUST: kinds == BUST, Doubt.BOOKS: (kinds >= 0) & (kinds < TRADE),
+            Doubt.ANY: kinds < 0, Doubt.TRADES: (kinds == Kind.TRADE) | (kinds == Kind.FILL),
+            Doubt.BUST: kinds == Kind.BUST, Doubt.BOOKS: (kinds >= 0) & (kinds < Kind.TRADE),
         }  # fmt: skip
         for doubt, which in parts.items():
             those = lost[which]

@@ -4,9 +4,7 @@ import functools
 import numpy
 
 from callauction.verdict.cells import Codes, Ints, paired_codes
-from callauction.verdict.rows import (
-    BAD, BUST, FILL, MISSING, OF_ORDERS, SIDES, STOPPED, TAKEN, TRADE, UNCROSS, Doubt, Rows,
-)  # fmt: skip
+from callauction.verdict.rows import OF_ORDERS, SIDES, Cell, Doubt, Kind, PriceCode, Rows, StateCode
 
 ONE_SIDED = "trades without the row of their other side, read as fills of their orders"
 BUSTED = "trades that busts take out"
@@ -22,16 +20,16 @@ def join_sides(rows: Rows, codes: Codes | None, instrument: Codes) -> None:
     quantity and one price; where any is left of an instrument, all of it are fills of their orders.
     """
     rows.is_half = numpy.zeros(len(rows.kind), bool)
-    is_trade = (rows.kind == TRADE) | (rows.kind == BUST)
+    is_trade = (rows.kind == Kind.TRADE) | (rows.kind == Kind.BUST)
     alone = numpy.flatnonzero(is_trade & (rows.bid < 0) & (rows.ask < 0) & (rows.key >= 0))
     for number in numpy.unique(instrument[alone]).tolist():
         those = alone[instrument[alone] == number]
-        made, busts = (those[rows.kind[those] == kind] for kind in (TRADE, BUST))
+        made, busts = (those[rows.kind[those] == kind] for kind in (Kind.TRADE, Kind.BUST))
         both = _both(rows, made, codes)
         if 2 * len(both[0]) < len(made):
             if codes is not None:
                 rows.is_half[_halves(rows, made, codes)] = True
-            rows.kind[made] = FILL
+            rows.kind[made] = Kind.FILL
             rows.notes[ONE_SIDED] += len(made)
             continue
         _join(rows, *both)
@@ -49,8 +47,8 @@ def _join(rows: Rows, bids: Ints, asks: Ints) -> None:
             array[first] = own[those]
             setattr(rows, name, array)
     rows.member = rows.member.copy()
-    rows.member[numpy.concatenate([bids, asks])] = MISSING
-    rows.kind[second] = BAD
+    rows.member[numpy.concatenate([bids, asks])] = Cell.MISSING
+    rows.kind[second] = Kind.BAD
 
 
 def _halves(rows: Rows, these: Ints, codes: Codes) -> Ints:
@@ -86,23 +84,23 @@ def _both(rows: Rows, these: Ints, codes: Codes | None) -> tuple[Ints, Ints]:
 
 def take_busted(rows: Rows) -> None:
     """Takes out each bust's trade or fill, the last above, else the first below; refuses others."""
-    busts = rows.of(BUST)
+    busts = rows.of(Kind.BUST)
     if not len(busts):
         return
-    these = rows.of(TRADE, FILL)
+    these = rows.of(Kind.TRADE, Kind.FILL)
     known: dict[tuple[int, ...], list[int]] = {}
     for place in these.tolist():
         known.setdefault(_mark(rows, place), []).append(place)
     for place in busts.tolist():
         price = int(rows.price[place])
         those = known.get(_mark(rows, place), [])
-        own = [it for it in those if price < 0 or rows.price[it] in (price, MISSING)]
+        own = [it for it in those if price < 0 or rows.price[it] in (price, PriceCode.UNSAID)]
         if not own:
             rows.refuse(place, f"{_NO_TRADE}: {_shown(rows, place)}", Doubt.BUST)
             continue
         taken = max((it for it in own if it < place), default=own[0])
         those.remove(taken)
-        rows.kind[taken], rows.kind[place] = TAKEN, BAD
+        rows.kind[taken], rows.kind[place] = Kind.TAKEN, Kind.BAD
         rows.notes[BUSTED] += 1
 
 
@@ -128,11 +126,11 @@ def with_results(rows: Rows) -> Rows:
     trades name and no such row does; its price is theirs, and nothing else of it is known. None is
     made where the one above has a name that another has too, which is wrong then.
     """
-    uncrosses = rows.of(UNCROSS)
-    held = {*rows.state[uncrosses].tolist()} - {STOPPED}
-    made = rows.of(TRADE, FILL)
-    made = made[(rows.state[made] > 0) & (rows.state[made] != STOPPED)]
-    if not rows.makes_results or MISSING in held:
+    uncrosses = rows.of(Kind.UNCROSS)
+    held = {*rows.state[uncrosses].tolist()} - {StateCode.INTERRUPTED}
+    made = rows.of(Kind.TRADE, Kind.FILL)
+    made = made[(rows.state[made] > 0) & (rows.state[made] != StateCode.INTERRUPTED)]
+    if not rows.makes_results or Cell.MISSING in held:
         return rows
     firsts: dict[int, int] = {}
     for place in made.tolist():
@@ -154,11 +152,14 @@ def _is_misnamed(rows: Rows, first: int) -> bool:
     """Whether the result of an auction, whose first trade this is, seems to have another's name:
     one is directly above it, without trades of its name, and another result has that name.
     """
-    uncrosses, above = rows.of(UNCROSS), rows.kind[:first]
+    uncrosses, above = rows.of(Kind.UNCROSS), rows.kind[:first]
     own = int(uncrosses[uncrosses < first].max(initial=-1))
-    if own < 0 or not 0 < rows.state[own] != STOPPED or numpy.isin(above[own:], OF_ORDERS).any():
+    if own < 0 or not 0 < rows.state[own] != StateCode.INTERRUPTED:
         return False
-    made = numpy.isin(above[own:], (TRADE, FILL)) & (rows.state[own:first] == rows.state[own])
+    if numpy.isin(above[own:], OF_ORDERS).any():
+        return False
+    made = numpy.isin(above[own:], (Kind.TRADE, Kind.FILL))
+    made &= rows.state[own:first] == rows.state[own]
     is_again = numpy.count_nonzero(rows.state[uncrosses] == rows.state[own]) > 1
     return bool(is_again and not made.any())
 
@@ -171,9 +172,9 @@ def _moved(at: Ints, place: int) -> int:
 def _make_result(rows: Rows, place: int) -> None:
     """Makes a row the result of the auction that it names."""
     state = rows.state[place]
-    trades = ((rows.kind == TRADE) | (rows.kind == FILL)) & (rows.state == state)
+    trades = ((rows.kind == Kind.TRADE) | (rows.kind == Kind.FILL)) & (rows.state == state)
     prices = numpy.unique(rows.price[trades])
-    rows.kind[place] = UNCROSS
-    rows.price[place] = prices[0] if len(prices) == 1 else MISSING
+    rows.kind[place] = Kind.UNCROSS
+    rows.price[place] = prices[0] if len(prices) == 1 else PriceCode.UNSAID
     for name in ("key", "new_id", "bid", "ask", "side", "quantity", "surplus", "count"):
-        getattr(rows, name)[place] = MISSING
+        getattr(rows, name)[place] = Cell.MISSING

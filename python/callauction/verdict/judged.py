@@ -6,7 +6,7 @@ from collections.abc import Mapping, Sequence
 from callauction.verdict.cells import NO_ROWS, Ints
 from callauction.verdict.comparing import Difference
 from callauction.verdict.phases import Book, Result, Sums, empty
-from callauction.verdict.rows import MISSING, BadRow
+from callauction.verdict.rows import BadRow, PriceCode
 
 
 @dataclasses.dataclass(frozen=True)
@@ -21,7 +21,7 @@ class State:
     executed: Ints | None
     is_extended: bool = False
     ended: int = 0
-    second: int = MISSING
+    second: int = PriceCode.UNSAID
     """The number of the second reference; after an auction with a price it is that price."""
 
 
@@ -36,7 +36,7 @@ class Judged:
     differences: tuple[Difference, ...]
     result: Result | None = None
     book: Book = dataclasses.field(default_factory=empty)
-    reference: int = MISSING
+    reference: int = PriceCode.UNSAID
     is_extended: bool = False
     """Whether the auction was interrupted before."""
     is_interrupted: bool = False
@@ -52,7 +52,7 @@ class Judged:
     taken: int = 0
     """How many rows of orders are before it."""
     beyond: str = ""
-    second: int = MISSING
+    second: int = PriceCode.UNSAID
     """The number of the second reference."""
     name: str = ""
     """Of which auctions it may be, where that isn't known."""

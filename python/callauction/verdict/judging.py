@@ -26,7 +26,9 @@ from callauction.verdict.orderings import Orderings
 from callauction.verdict.phases import (
     BeyondError, Result, Sums, Taken, advance, empty, recorded_sums, uncross,
 )  # fmt: skip
-from callauction.verdict.rows import MISSING, NO_PRICE, OWN, STATES, STOPPED, Rows
+from callauction.verdict.rows import (
+    INTERRUPTED, OWN, STATES, Cell, PriceCode, Rows, StateCode,
+)  # fmt: skip
 from callauction.verdict.rules import Rules
 from callauction.verdict.uncross_doubts import Items, UncrossDoubts
 from callauction.words import AUCTIONS
@@ -128,7 +130,7 @@ class Judge:
             word = STATES[max(0, self.rows.state[place])] or "uncross"
             late = Difference("auction", word, "day over", (place,))
             found = doubted([late], self.uncross_doubts.of_auction(path, place))
-            yield path.longer(Judged(place, MISSING, found, traded=traded, filled=filled))
+            yield path.longer(Judged(place, Cell.MISSING, found, traded=traded, filled=filled))
             return
         these = self.orders[path.taken : int(numpy.searchsorted(self.orders, place))]
         moment = Moment(number, place, path, self.due[ended], these, traded, filled)
@@ -143,9 +145,10 @@ class Judge:
     def _beyond(self, path: Path, place: int, traded: Ints, filled: Ints, why: str) -> Path:
         """The path after an uncross of too large a book: of its named or its next auction."""
         state = self.rows.state
-        ended = sum(bool(it.beyond) and state[it.place] != STOPPED for it in path.judged)
+        stopped = StateCode.INTERRUPTED
+        ended = sum(bool(it.beyond) and state[it.place] != stopped for it in path.judged)
         auction = self.due[min(path.state.ended + ended, len(self.due) - 1)]
-        if 0 < state[place] != STOPPED:
+        if 0 < state[place] != StateCode.INTERRUPTED:
             auction = int(state[place]) - 1
         named = self.executions.of(NAMED + auction)
         traded, filled = (numpy.concatenate(it) for it in zip((traded, filled), named))
@@ -196,7 +199,7 @@ class Judge:
         if recorded is False and is_out:
             word = STATES[max(0, rows.state[moment.place])] or "executed"
             why = self.uncross_doubts.unsaid_stop
-            wrong = Difference("auction", word, STATES[STOPPED], (moment.place,), doubt=why)
+            wrong = Difference("auction", word, INTERRUPTED, (moment.place,), doubt=why)
             yield from self._executed(moment, taken, result, wrong)
         if recorded and not is_out:
             yield self._interrupted(moment, taken, result, False)
@@ -217,13 +220,13 @@ class Judge:
         """Whether an uncross is recorded as interrupted; None where nothing says it."""
         state = self.rows.state[moment.place]
         if state > 0:
-            return bool(state == STOPPED)
+            return bool(state == StateCode.INTERRUPTED)
         has_any = len(moment.traded) or len(moment.filled) or self.rows.count[moment.place] > 0
         return False if has_any else None
 
     def _interrupted(self, moment: Moment, taken: Taken, result: Result, is_lawful: bool) -> Path:
         """The path after an interruption; its trades come at the next uncross."""
-        word = STOPPED if is_lawful else 1 + moment.auction
+        word = StateCode.INTERRUPTED if is_lawful else 1 + moment.auction
         items = compared_items(self.rows, moment.place, result, word)
         self.uncross_doubts.doubt_stop(items, self.uncross_doubts.unsaid_stop)
         state = dataclasses.replace(moment.path.state, book=taken.book, is_extended=True)
@@ -243,7 +246,7 @@ class Judge:
         items = compared_items(rows, place, result, 1 + moment.auction)
         if wrong is not None:
             items["auction"] = wrong
-        elif rows.state[place] == STOPPED:
+        elif rows.state[place] == StateCode.INTERRUPTED:
             self.uncross_doubts.doubt_stop(items)
         is_wrong = items.get("price") is not None
         found, pairs = self.executions.compared(moment, taken.book, result, is_wrong)
@@ -308,11 +311,11 @@ class Judge:
         """
         now, published = moment.path.state.reference, int(self.rows.price[moment.place])
         references = [now if result.price is None else result.price]
-        if published != MISSING:
-            references.insert(0, now if published == NO_PRICE else published)
+        if published != PriceCode.UNSAID:
+            references.insert(0, now if published == PriceCode.NO_PRICE else published)
         done = recorded_sums(self.rows, moment.traded, moment.filled)
         several = [result.fills]
-        if not done.agrees(result.fills) and (len(done.keys) or published == NO_PRICE):
+        if not done.agrees(result.fills) and (len(done.keys) or published == PriceCode.NO_PRICE):
             several.insert(0 if len(done.keys) else 1, done)
         for fills in several:
             for reference in dict.fromkeys(references):

@@ -11,7 +11,7 @@ from callauction.verdict.cells import Array
 from callauction.verdict.comparing import Difference, Fill, Trade, keys_of
 from callauction.verdict.context import Context
 from callauction.verdict.phases import BeyondError, Book, Result, uncross
-from callauction.verdict.rows import MISSING, NO_PRICE, OWN, REPLACE, SIDES
+from callauction.verdict.rows import OWN, SIDES, Cell, Kind, PriceCode
 
 
 def grouped(context: Context, differences: Sequence[Difference]) -> list[list[Difference]]:
@@ -111,7 +111,8 @@ def _absent(context: Context, each: Difference) -> list[int]:
 def _counts(context: Context, key: int) -> bool:
     """Whether an order is open, and not for another auction alone."""
     only = context.judged.book.only
-    return key in context.at and only[context.at[key]] in (MISSING, 0, OWN[context.judged.auction])
+    own = (Cell.MISSING, 0, OWN[context.judged.auction])
+    return key in context.at and only[context.at[key]] in own
 
 
 def _books(context: Context, keys: Sequence[int]) -> Iterator[Book]:
@@ -149,7 +150,7 @@ def _last_open(context: Context, keys: Sequence[int]) -> dict[int, tuple[int, in
     """
     rows, found = context.rows, dict[int, tuple[int, int, int, int]]()
     for key in keys:
-        at = context.entered.get(key, MISSING)
+        at = context.entered.get(key, Cell.MISSING)
         if at >= 0:
             found[key] = at, int(rows.price[at]), int(rows.quantity[at]), at
     for each in context.earlier:
@@ -158,7 +159,7 @@ def _last_open(context: Context, keys: Sequence[int]) -> dict[int, tuple[int, in
             key, left = int(book.key[at]), int(book.quantity[at])
             left -= fills.get(key, 0)
             found[key] = each.place, int(book.price[at]), left, int(book.since[at])
-    these = rows.of(REPLACE)
+    these = rows.of(Kind.REPLACE)
     these = these[these < context.judged.place]
     replaced = dict(zip(rows.key[these].tolist(), these.tolist()))
     return {key: it for key, it in found.items() if it[2] > 0 and replaced.get(key, -1) < it[0]}
@@ -166,14 +167,14 @@ def _last_open(context: Context, keys: Sequence[int]) -> dict[int, tuple[int, in
 
 def _is_of(context: Context, each: Difference, result: Result) -> bool:
     """Whether a recorded item, trade or fill is the one of this result."""
-    price = NO_PRICE if result.price is None else result.price
+    price = PriceCode.NO_PRICE if result.price is None else result.price
     due = {"price": price, "volume": result.volume, "surplus": result.surplus,
            "side": SIDES[result.side]}  # fmt: skip
     if each.item in due:
         return bool(each.recorded == due[each.item])
     made, lawful = each.recorded, each.lawful
     if isinstance(made, Trade | Fill):
-        if made.price not in (MISSING, price) or isinstance(lawful, str):
+        if made.price not in (PriceCode.UNSAID, price) or isinstance(lawful, str):
             return False
         if isinstance(lawful, Trade | Fill) and keys_of(made) == keys_of(lawful):
             if made.quantity == lawful.quantity:

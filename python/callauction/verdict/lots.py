@@ -12,9 +12,7 @@ from callauction.verdict.cells import Ints, Mask
 from callauction.verdict.comparing import Fill, Trade
 from callauction.verdict.judged import Judged, Judgement
 from callauction.verdict.phases import recorded_sums
-from callauction.verdict.rows import (
-    FILL, MARKET, OF_ORDERS, SIDES, TRADE, UNCROSS, Rows,
-)  # fmt: skip
+from callauction.verdict.rows import OF_ORDERS, SIDES, Kind, PriceCode, Rows
 
 # ---- all quantities of some kinds of rows
 
@@ -24,7 +22,7 @@ LOTS = (10, 100, 1000)
 LEAST = 2
 """In how many items lots have to be seen."""
 KINDS_IN_LOTS = {
-    "results and trades": (UNCROSS, TRADE, FILL), "results": (UNCROSS,), "trades": (TRADE, FILL),
+    "results and trades": (Kind.UNCROSS, Kind.TRADE, Kind.FILL), "results": (Kind.UNCROSS,), "trades": (Kind.TRADE, Kind.FILL),
 }  # fmt: skip
 
 
@@ -185,7 +183,7 @@ def _executable(judged: Judged, rows: Rows, side: int) -> Mask:
     """Which orders of a side can be executed at the price of a result."""
     book, price = judged.book, rows.price[judged.place]
     is_within = book.price >= price if SIDES[side] == "bid" else book.price <= price
-    found: Mask = (book.side == side) & (is_within | (book.price == MARKET))
+    found: Mask = (book.side == side) & (is_within | (book.price == PriceCode.MARKET))
     return found & book.counted(judged.auction)
 
 

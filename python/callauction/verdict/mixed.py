@@ -13,7 +13,7 @@ from callauction.verdict.cells import Ints
 from callauction.verdict.columns import ExtractError
 from callauction.verdict.judged import Judgement
 from callauction.verdict.rows import (
-    BAD, FILL, MISSING, NEW, OF_ORDERS, SAID, STOPPED, TRADE, UNCROSS, BadRow, Doubt, Rows,
+    OF_ORDERS, SAID, BadRow, Cell, Doubt, Kind, PriceCode, Rows, StateCode,
 )  # fmt: skip
 from callauction.verdict.rules import Rules
 from callauction.words import AUCTIONS
@@ -26,8 +26,9 @@ MOST_RESULTS, MOST_ODD = 8, 2
 
 def _results(rows: Rows) -> Ints:
     """The rows uncross that publish something of an auction that ended."""
-    says = (rows.price != MISSING) | (rows.quantity >= 0)
-    return numpy.flatnonzero((rows.kind == UNCROSS) & (rows.state != STOPPED) & says)
+    says = (rows.price != PriceCode.UNSAID) | (rows.quantity >= 0)
+    is_over = (rows.kind == Kind.UNCROSS) & (rows.state != StateCode.INTERRUPTED)
+    return numpy.flatnonzero(is_over & says)
 
 
 # ---- two days
@@ -35,7 +36,7 @@ def _results(rows: Rows) -> Ints:
 
 def is_one_session(rows: Rows) -> bool:
     """Whether rows of two dates are of one session: within LONGEST, its auctions in their order."""
-    at = rows.time[(rows.kind != BAD) & (rows.time != clocks.NO_TIME)]
+    at = rows.time[(rows.kind != Kind.BAD) & (rows.time != clocks.NO_TIME)]
     names = rows.state[_results(rows)]
     return bool(
         len(at) and at.max() - at.min() < LONGEST and (names > 0).all()
@@ -59,7 +60,7 @@ def refuse_days(rows: Rows) -> None:
     is_single = sum(len(those) > 1 for those in of_auctions) == 1
     for number, those in enumerate(of_auctions):
         for one, other in zip(those.tolist(), those[1:].tolist()):
-            time, own = rows.time[other], rows.kind[one:other] == NEW
+            time, own = rows.time[other], rows.kind[one:other] == Kind.NEW
             if is_single and time == rows.time[one]:  # a correction with the time of the auction
                 continue
             if time != clocks.NO_TIME and (rows.time[one:other][own] > time).any():
@@ -97,10 +98,11 @@ def refuse_sums(rows: Rows, due: Sequence[int]) -> None:
     """Raises ExtractError where there are more results than auctions, and the trades of one add up
     to the volumes of its results, which differ, as those of two markets do.
     """
-    made = rows.of(TRADE, FILL)
+    made = rows.of(Kind.TRADE, Kind.FILL)
     for those in doubled(rows, due).values() if has_more(rows, due) else ():
         own, volumes = made[rows.state[made] == rows.state[those[0]]], rows.quantity[those]
-        shares = 2 * rows.quantity[own].sum() - rows.quantity[own[rows.kind[own] == FILL]].sum()
+        fills = own[rows.kind[own] == Kind.FILL]
+        shares = 2 * rows.quantity[own].sum() - rows.quantity[fills].sum()
         is_other = volumes.min() > 0 and len(numpy.unique(volumes)) == len(volumes)
         if is_other and shares == 2 * volumes.sum():
             _refuse(rows, (int(those[0]), int(those[1])), "results of two markets", "--where")
@@ -112,7 +114,7 @@ def _told_apart(
     """Two results of each auction that have other texts of a column, all of whose texts in results
     are in entries; where no result has a name, each text has one for each auction.
     """
-    results, news = _results(rows), rows.of(NEW)
+    results, news = _results(rows), rows.of(Kind.NEW)
     codes = rows.names.codes(numpy.concatenate([results, news]), name)
     own = codes[: len(results)]
     if not len(own) or not numpy.isin(own, codes[len(results) :]).all() or own.min() < 0:
@@ -136,7 +138,7 @@ def refuse_parts(rows: Rows, due: Sequence[int]) -> None:
     orders of its auction is a fault of its own where its trades are below them.
     """
     orders = rows.of(*OF_ORDERS)
-    ends = rows.of(UNCROSS)
+    ends = rows.of(Kind.UNCROSS)
     names = rows.state[ends] - 1
     if len(names) > 1 and names.tolist() == [*due][::-1]:
         raise ExtractError("results are in reverse order (is the newest row first?): say --sort")
@@ -165,8 +167,8 @@ def _by_time(rows: Rows, orders: Ints, ends: Ints) -> Ints:
     at, end = rows.time[orders], numpy.sort(rows.time[ends])
     is_dated = [rows.names.date(int(it[0])) is not None for it in (orders, ends)]
     slack = clocks.SECOND if ":" in rows.names.time(int(ends[0])) else 0
-    last = numpy.flatnonzero((rows.kind >= UNCROSS) & (rows.kind <= FILL))[-1]
-    news = orders[rows.kind[orders] == NEW]
+    last = numpy.flatnonzero((rows.kind >= Kind.UNCROSS) & (rows.kind <= Kind.FILL))[-1]
+    news = orders[rows.kind[orders] == Kind.NEW]
     wrong = (orders > last) & (at < end[-1])
     if len(news) and news[-1] < ends[0]:
         wrong |= (orders < ends[0]) & (at > end[0] + slack)
@@ -185,7 +187,8 @@ def _by_time(rows: Rows, orders: Ints, ends: Ints) -> Ints:
 
 def has_more(rows: Rows, due: Sequence[int]) -> bool:
     """Whether there are more results than auctions, also such that say nothing."""
-    return int(((rows.kind == UNCROSS) & (rows.state != STOPPED)).sum()) > len(due)
+    is_over = (rows.kind == Kind.UNCROSS) & (rows.state != StateCode.INTERRUPTED)
+    return int(is_over.sum()) > len(due)
 
 
 def corrected(rows: Rows, due: Sequence[int]) -> Rows:
@@ -228,8 +231,9 @@ def with_late_results(rows: Rows, due: Sequence[int]) -> Rows | None:
 def others_said(rows: Rows, one: Ints, other: Ints | int) -> Ints:
     """In how many things results that say them differ."""
     said = numpy.array([getattr(rows, name) for name in SAID])
-    is_said = (said[:, one] != MISSING) & (said[:, other].reshape(len(SAID), -1) != MISSING)
-    found: Ints = (is_said & (said[:, one] != said[:, other].reshape(len(SAID), -1))).sum(axis=0)
+    own, others = said[:, one], said[:, other].reshape(len(SAID), -1)
+    is_said = (own != Cell.MISSING) & (others != Cell.MISSING)
+    found: Ints = (is_said & (own != others)).sum(axis=0)
     return found
 
 
@@ -240,7 +244,7 @@ def with_last(rows: Rows, those: Ints, auction: int) -> Rows:
     results = _results(rows)
     others = results[(results > those[0]) & ~numpy.isin(results, those)]
     end = int(others.min(initial=len(rows.kind)))
-    made = numpy.flatnonzero((rows.kind[:end] == TRADE) | (rows.kind[:end] == FILL))
+    made = numpy.flatnonzero((rows.kind[:end] == Kind.TRADE) | (rows.kind[:end] == Kind.FILL))
     made = made[made > those[0]][:1]
     at = int(those[those < made[0]][-1] if len(made) else those[0])
     bad, kind, last = [*rows.bad], rows.kind.copy(), int(those[-1])
@@ -248,8 +252,8 @@ def with_last(rows: Rows, those: Ints, auction: int) -> Rows:
     for place in those[:-1].tolist():
         why = f"row {rows.labels[last]} is {what}"
         bad.append(BadRow(place, rows.labels[place], why, Doubt.ITEM, place))
-    kind[those] = BAD
-    kind[at] = UNCROSS
+    kind[those] = Kind.BAD
+    kind[at] = Kind.UNCROSS
     labels, where = rows.labels.copy(), numpy.arange(len(kind))
     labels[at], where[at] = labels[last], last
     names = rows.names.moved(where)
@@ -262,8 +266,8 @@ def stopped_again(rows: Rows) -> Ints:
     """The interruptions with another one next below and no order or trade between, which may
     correct them.
     """
-    ends, others = rows.of(UNCROSS), rows.of(*OF_ORDERS, TRADE, FILL)
-    is_stop, before = rows.state[ends] == STOPPED, numpy.searchsorted(others, ends)
+    ends, others = rows.of(Kind.UNCROSS), rows.of(*OF_ORDERS, Kind.TRADE, Kind.FILL)
+    is_stop, before = rows.state[ends] == StateCode.INTERRUPTED, numpy.searchsorted(others, ends)
     is_again = is_stop[:-1] & is_stop[1:] & (before[:-1] == before[1:])
     found: Ints = ends[:-1][is_again]
     return found
@@ -273,13 +277,13 @@ def with_last_stops(rows: Rows) -> Rows:
     """The rows with the last of interruptions in succession in place of the first; the others are
     bad rows.
     """
-    ends, kind, bad = rows.of(UNCROSS), rows.kind.copy(), [*rows.bad]
+    ends, kind, bad = rows.of(Kind.UNCROSS), rows.kind.copy(), [*rows.bad]
     for place in stopped_again(rows)[::-1].tolist():
         below = int(ends[numpy.searchsorted(ends, place) + 1])
         rows = rows.with_said(place, below)
         why = f"row {rows.labels[place]} is another row of this interruption, read above"
         bad.append(BadRow(below, rows.labels[below], why, Doubt.ITEM, below))
-        kind[below] = BAD
+        kind[below] = Kind.BAD
     return dataclasses.replace(rows, kind=kind, bad=bad)
 
 
@@ -321,14 +325,15 @@ def namings(found: Judgement, rows: Rows, rules: Rules) -> list[Named]:
 
 def _ends(rows: Rows) -> Ints:
     """The rows uncross that aren't recorded as interruptions."""
-    return numpy.flatnonzero((rows.kind == UNCROSS) & (rows.state != STOPPED))
+    return numpy.flatnonzero((rows.kind == Kind.UNCROSS) & (rows.state != StateCode.INTERRUPTED))
 
 
 def _stops(found: Judgement, rows: Rows, results: Ints) -> list[bool]:
     """Which results may be interruptions: priced, and without trades of their time or a count, if
     others have these.
     """
-    made = ((rows.kind == TRADE) | (rows.kind == FILL)).any() or (rows.count[results] >= 0).any()
+    made = ((rows.kind == Kind.TRADE) | (rows.kind == Kind.FILL)).any()
+    made = made or (rows.count[results] >= 0).any()
     both = ((it.place, numpy.concatenate([it.traded, it.filled])) for it in found.uncrosses)
     busy = [place for place, own in both if (rows.time[own] == rows.time[place]).any()]
     are = (rows.price[results] >= 0) & (rows.count[results] <= 0) & ~numpy.isin(results, busy)
@@ -370,9 +375,10 @@ def _odd(way: Named, many: int) -> int:
 def with_names(rows: Rows, due: Sequence[int], way: Named) -> Rows:
     """The rows with the results named in this way, those that are corrected as bad rows."""
     results, state = _ends(rows), rows.state.copy()
-    state[results] = [STOPPED if role is Role.STOP else 1 + due[it] for it, role in way]
+    stopped = StateCode.INTERRUPTED
+    state[results] = [stopped if role is Role.STOP else 1 + due[it] for it, role in way]
     rows = dataclasses.replace(rows, state=state)
-    numbers = numpy.array([MISSING if role is Role.STOP else it for it, role in way])
+    numbers = numpy.array([Cell.MISSING if role is Role.STOP else it for it, role in way])
     for number in numpy.unique(numbers[numbers >= 0]).tolist():
         those = results[numbers == number]
         if len(those) > 1:

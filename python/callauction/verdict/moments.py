@@ -14,7 +14,7 @@ from callauction.verdict.executions import Executions
 from callauction.verdict.judged import Judged, Moment, Path
 from callauction.verdict.orderings import Variants
 from callauction.verdict.phases import indicated
-from callauction.verdict.rows import CANCEL, NO_PRICE
+from callauction.verdict.rows import Kind, PriceCode
 from callauction.verdict.uncross_doubts import UncrossDoubts
 
 MOST_MOMENTS = 25
@@ -41,7 +41,7 @@ class Moments:
         """The paths in which an uncross that seems to be at a wrong moment is at another one."""
         later = self._later(moment)
         is_moved = len(first.differences) > 1 or any(
-            each.item == "price" and each.lawful == NO_PRICE for each in first.differences
+            each.item == "price" and each.lawful == PriceCode.NO_PRICE for each in first.differences
         )
         return self._at_another_moment(moment, later, variants) if later or is_moved else []
 
@@ -79,7 +79,7 @@ class Moments:
         """
         rows, both = self.rows, self.executions.with_named(moment)
         made = numpy.sort(numpy.concatenate([both.traded, both.filled]))
-        gone = moment.these[(rows.kind[moment.these] == CANCEL) & (moment.these > place)]
+        gone = moment.these[(rows.kind[moment.these] == Kind.CANCEL) & (moment.these > place)]
         for cancel in gone[rows.quantity[gone] <= 0].tolist():
             key = int(rows.key[cancel])
             own = [it[made] == key for it in (rows.bid, rows.ask, rows.key)]

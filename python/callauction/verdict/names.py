@@ -14,9 +14,7 @@ from callauction.verdict.cells import Codes, Ints
 from callauction.verdict.columns import UNKNOWN, form_of_id, look_of
 from callauction.verdict.judged import Judged, Judgement
 from callauction.verdict.phases import recorded_sums, sums
-from callauction.verdict.rows import (
-    CANCEL, FILL, MISSING, NEW, REPLACE, SIDES, STOPPED, TAKEN, TRADE, BadRow, Doubt, Rows,
-)  # fmt: skip
+from callauction.verdict.rows import SIDES, BadRow, Cell, Doubt, Kind, PriceCode, Rows, StateCode
 
 QUOTES = "ids of a bid and an ask, read as two orders"
 FOREIGN = "cancels by others than the order's member"
@@ -42,8 +40,8 @@ def make_keys(rows: Rows, unread: Codes) -> None:
     root = _roots(rows, entered, count)
     for name in ("key", "bid", "ask"):
         array = getattr(rows, name)
-        setattr(rows, name, numpy.where(array >= 0, root[array], MISSING).astype("i4"))
-    named = numpy.flatnonzero((rows.kind == REPLACE) & (rows.new_id >= 0))
+        setattr(rows, name, numpy.where(array >= 0, root[array], Cell.MISSING).astype("i4"))
+    named = numpy.flatnonzero((rows.kind == Kind.REPLACE) & (rows.new_id >= 0))
     for place in named[root[rows.new_id[named]] != rows.key[named]]:
         name = rows.names.order(rows.new_id[place])
         rows.refuse(place, f"new_order {name!r} is another order's id", Doubt.BOOKS)
@@ -54,7 +52,7 @@ def below_their_entries(rows: Rows) -> Rows:
     """The rows, with changes of an order that are above its entry of their time below it, as rows
     of one time may be in any order.
     """
-    changes = rows.of(REPLACE, CANCEL)
+    changes = rows.of(Kind.REPLACE, Kind.CANCEL)
     entry = rows.entered(len(rows.names.ids) + 1)[rows.key[changes]]
     is_above = (entry > changes) & (rows.group[entry] == rows.group[changes])
     if not is_above.any():
@@ -68,13 +66,13 @@ def _without_second(rows: Rows, count: int, entered: Ints) -> tuple[int, Ints]:
     """Refuses rows that enter an id again, which may correct the first as long as that isn't
     cancelled; one that is entered on both sides is two orders.
     """
-    news = rows.of(NEW)
+    news = rows.of(Kind.NEW)
     second = news[entered[rows.key[news]] != news]
     quotes = second[rows.side[second] != rows.side[entered[rows.key[second]]]]
     if len(quotes):
         count = _part_quotes(rows, numpy.unique(rows.key[quotes]), count)
         entered = rows.entered(count + 1)
-        news = rows.of(NEW)
+        news = rows.of(Kind.NEW)
         second = news[entered[rows.key[news]] != news]
     for place in second:
         first = entered[rows.key[place]]
@@ -83,7 +81,7 @@ def _without_second(rows: Rows, count: int, entered: Ints) -> tuple[int, Ints]:
         if rows.member[first] != rows.member[place]:
             why += ", by another member (are ids a member's own? join both)"
         between = slice(int(first), int(place))
-        is_gone = (rows.kind[between] == CANCEL) & (rows.key[between] == rows.key[place])
+        is_gone = (rows.kind[between] == Kind.CANCEL) & (rows.key[between] == rows.key[place])
         is_other = is_gone.any() and rows.time[place] != rows.time[first]
         rows.refuse(place, why, Doubt.BOOKS, None if is_other else int(first))
     return count, entered
@@ -94,13 +92,13 @@ def _part_quotes(rows: Rows, ids: Ints, count: int) -> int:
     other = numpy.arange(count + 1)
     other[ids] = count + numpy.arange(len(ids))
     are = numpy.isin(rows.key, ids)
-    changes = (rows.kind == REPLACE) | (rows.kind == CANCEL)
+    changes = (rows.kind == Kind.REPLACE) | (rows.kind == Kind.CANCEL)
     why = "the id is a bid's and an ask's: the row needs a side"
     for place in numpy.flatnonzero(are & (rows.side <= 0) & changes):
         rows.refuse(place, why, Doubt.BOOKS)
     is_ask = are & (rows.side == SIDES.index("ask"))
     rows.key = numpy.where(is_ask, other[rows.key], rows.key).astype("i4")
-    rows.ask = numpy.where(rows.ask >= 0, other[rows.ask], MISSING).astype("i4")
+    rows.ask = numpy.where(rows.ask >= 0, other[rows.ask], Cell.MISSING).astype("i4")
     places = numpy.concatenate([rows.names.ids, rows.names.ids[ids]])
     rows.names = dataclasses.replace(rows.names, ids=places)
     rows.notes[QUOTES] += len(ids)
@@ -110,7 +108,7 @@ def _part_quotes(rows: Rows, ids: Ints, count: int) -> int:
 def _roots(rows: Rows, entered: Ints, count: int) -> Ints:
     """By its number the first id of each id's order."""
     root = numpy.arange(count + 1)
-    named = numpy.flatnonzero((rows.kind == REPLACE) & (rows.new_id >= 0))
+    named = numpy.flatnonzero((rows.kind == Kind.REPLACE) & (rows.new_id >= 0))
     new_id = rows.new_id[named]
     fresh = (entered[new_id] < 0) & ~pandas.Series(new_id).duplicated().to_numpy()
     root[new_id[fresh]] = rows.key[named[fresh]]
@@ -121,7 +119,7 @@ def _roots(rows: Rows, entered: Ints, count: int) -> Ints:
 
 def _refuse_others(rows: Rows, entered: Ints, unread: set[int]) -> None:
     """Refuses rows of unknown orders and replaces by other members, and counts such cancels."""
-    events = rows.of(REPLACE, CANCEL)
+    events = rows.of(Kind.REPLACE, Kind.CANCEL)
     owner = entered[rows.key[events]]
     is_known = (owner >= 0) & (owner <= events)
     for place in events[~is_known]:
@@ -133,8 +131,8 @@ def _refuse_others(rows: Rows, entered: Ints, unread: set[int]) -> None:
     events, owner = events[is_known], owner[is_known]
     one, other = rows.member[events], rows.member[owner]
     foreign = events[(one >= 0) & (other >= 0) & (one != other)]
-    rows.notes[FOREIGN] += int((rows.kind[foreign] == CANCEL).sum())
-    for place in foreign[rows.kind[foreign] == REPLACE]:
+    rows.notes[FOREIGN] += int((rows.kind[foreign] == Kind.CANCEL).sum())
+    for place in foreign[rows.kind[foreign] == Kind.REPLACE]:
         names = rows.names.member(rows.member[place]), rows.names.member(
             rows.member[entered[rows.key[place]]]
         )
@@ -159,13 +157,14 @@ def have_other_ids(rows: Rows, judgement: Judgement, again: Ints) -> bool:
     """Whether no trade or fill has an order's id, while prices and shares are the lawful ones, so
     that all may be right but the ids; `again` are rows that may be there twice.
     """
-    made = rows.of(TRADE, FILL)
+    made = rows.of(Kind.TRADE, Kind.FILL)
     named = numpy.concatenate([it[made] for it in (rows.bid, rows.ask, rows.key)])
     named = named[named >= 0]
-    if not len(named) or numpy.isin(named, rows.key[rows.of(NEW)]).any():
+    if not len(named) or numpy.isin(named, rows.key[rows.of(Kind.NEW)]).any():
         return False
+    stopped = StateCode.INTERRUPTED
     judged = [it for it in judgement.uncrosses
-              if it.result is not None and rows.state[it.place] != STOPPED]  # fmt: skip
+              if it.result is not None and rows.state[it.place] != stopped]  # fmt: skip
     return all(_fits(rows, it, again) for it in judged)
 
 
@@ -173,7 +172,7 @@ def _fits(rows: Rows, judged: Judged, again: Ints) -> bool:
     """Whether an auction's trades and fills have its price, and together its shares, with some of
     those that busts take out, and without some that may be there twice.
     """
-    result, taken = judged.result, rows.of(TAKEN)
+    result, taken = judged.result, rows.of(Kind.TAKEN)
     assert result is not None
     own = numpy.concatenate([judged.traded, judged.filled])
     for those, is_trade in ((judged.traded, True), (judged.filled, False)):
@@ -185,7 +184,7 @@ def _fits(rows: Rows, judged: Judged, again: Ints) -> bool:
             return False
     if result.volume and not len(own) and not len(taken):
         return False
-    return bool(numpy.isin(rows.price[own], (result.number, MISSING)).all())
+    return bool(numpy.isin(rows.price[own], (result.number, PriceCode.UNSAID)).all())
 
 
 def _may_be(due: int, sure: int, parts: list[int]) -> bool:
@@ -223,11 +222,11 @@ def _by_plain(texts: Iterable[tuple[int, str]]) -> dict[str, tuple[int, str]]:
 
 def _with_ids(rows: Rows) -> tuple[Rows, tuple[str, ...]]:
     """The rows with the keys of orders for ids that no row enters, and two such ids."""
-    made, lost = numpy.isin(rows.kind, (TRADE, FILL)), lost_rows(rows)
+    made, lost = numpy.isin(rows.kind, (Kind.TRADE, Kind.FILL)), lost_rows(rows)
     keys = {name: getattr(rows, name) for name in ("key", "bid", "ask")}
     of_lost = rows.key[[row.place for row in lost]]
     named = numpy.unique(numpy.concatenate([*(it[made] for it in keys.values()), of_lost]))
-    entered = numpy.unique(rows.key[rows.kind == NEW])
+    entered = numpy.unique(rows.key[rows.kind == Kind.NEW])
     unknown = named[(named >= 0) & ~numpy.isin(named, entered)]
     if not len(unknown) or len(unknown) + len(entered) > MOST_TEXTS:
         return rows, ()
@@ -248,13 +247,13 @@ def _with_ids(rows: Rows) -> tuple[Rows, tuple[str, ...]]:
 
 def _add_new_ids(rows: Rows, lost: list[BadRow], known: dict[str, tuple[int, str]]) -> None:
     """Adds the ids that replaces give to orders, in the order of rows, but for known ones."""
-    named = {row.place: row for row in lost if row.kind == REPLACE}
-    those = numpy.union1d(rows.of(REPLACE), numpy.array([*named], "i8"))
+    named = {row.place: row for row in lost if row.kind == Kind.REPLACE}
+    those = numpy.union1d(rows.of(Kind.REPLACE), numpy.array([*named], "i8"))
     keys = {key: text for key, text in known.values()}
     for place in those[rows.new_id[those] >= 0].tolist():
         key, text = int(rows.key[place]), rows.names.order(rows.new_id[place])
         if place in named:
-            key = known.get(_plain(rows.names.order(key)), (MISSING, ""))[0]
+            key = known.get(_plain(rows.names.order(key)), (Cell.MISSING, ""))[0]
         if key in keys:
             known.setdefault(_plain(text), (key, text))
 
@@ -266,7 +265,7 @@ def lost_rows(rows: Rows) -> list[BadRow]:
 
 def found_again(rows: Rows, lost: list[BadRow]) -> Rows:
     """The rows with those of these that a row above enters by their keys, for its member."""
-    entered = dict(zip(rows.key[rows.kind == NEW].tolist(), rows.of(NEW).tolist()))
+    entered = dict(zip(rows.key[rows.kind == Kind.NEW].tolist(), rows.of(Kind.NEW).tolist()))
     kind, found = rows.kind.copy(), set[int]()
     for row in lost:
         above = entered.get(int(rows.key[row.place]), row.place)
@@ -280,12 +279,13 @@ def found_again(rows: Rows, lost: list[BadRow]) -> Rows:
 
 def _with_members(rows: Rows) -> tuple[Rows, tuple[str, ...]]:
     """The rows with the members of orders for those that no order has, and two such names."""
-    own = numpy.unique(rows.member[rows.of(NEW)])
+    own = numpy.unique(rows.member[rows.of(Kind.NEW)])
     known = _by_plain((it, rows.names.member(it)) for it in own[own >= 0].tolist())
     changed, both = {}, tuple[str, ...]()
-    for column, kind in (("bid_member", TRADE), ("ask_member", TRADE), ("member", FILL)):
+    parts = ("bid_member", Kind.TRADE), ("ask_member", Kind.TRADE), ("member", Kind.FILL)
+    for column, kind in parts:
         numbers, these = getattr(rows, column).copy(), rows.of(kind)
-        odd = these[(numbers[these] != MISSING) & ~numpy.isin(numbers[these], own)]
+        odd = these[(numbers[these] != Cell.MISSING) & ~numpy.isin(numbers[these], own)]
         for place in odd[:MOST_TEXTS].tolist():
             text = rows.names.recorded(place, column, int(numbers[place]))
             numbers[place], member = known.get(_plain(text), (numbers[place], ""))
@@ -303,8 +303,8 @@ def renamed(rows: Rows, judgement: Judgement) -> tuple[Rows, str] | None:
     trades by its own id after its replace. One such id in one row alone looks like those of
     entries.
     """
-    entered, retired, lost = rows.of(NEW), _retired(rows), lost_rows(rows)
-    parts = [it[rows.of(TRADE, FILL)] for it in (rows.bid, rows.ask, rows.key)]
+    entered, retired, lost = rows.of(Kind.NEW), _retired(rows), lost_rows(rows)
+    parts = [it[rows.of(Kind.TRADE, Kind.FILL)] for it in (rows.bid, rows.ask, rows.key)]
     named = numpy.concatenate([*parts, rows.key[[row.place for row in lost]]])
     named = named[(named >= 0) & ~numpy.isin(named, rows.key[entered])]
     unknown = {*named.tolist()}
@@ -331,8 +331,9 @@ def misentered(rows: Rows, judgement: Judgement) -> tuple[Rows, str] | None:
     N3, for ids like entries' of trades, which no row enters, and why; None where such trades don't
     have the lawful shares of such orders.
     """
-    entered = numpy.unique(rows.key[rows.of(NEW)])
-    named = numpy.concatenate([it[rows.of(TRADE, FILL)] for it in (rows.bid, rows.ask, rows.key)])
+    entered = numpy.unique(rows.key[rows.of(Kind.NEW)])
+    these = rows.of(Kind.TRADE, Kind.FILL)
+    named = numpy.concatenate([it[these] for it in (rows.bid, rows.ask, rows.key)])
     unknown = numpy.unique(named[(named >= 0) & ~numpy.isin(named, entered)])
     if not 0 < len(unknown) <= MOST_TEXTS - len(entered):
         return None
@@ -358,13 +359,13 @@ def _with_keys(rows: Rows, meant: Mapping[int, int]) -> Rows:
 
 def _retired(rows: Rows) -> dict[int, int]:
     """Each order's last row, a replace; none where an order has trades or fills after its own."""
-    last = numpy.full(len(rows.names.ids) + 1, MISSING, "i8")
+    last = numpy.full(len(rows.names.ids) + 1, Cell.MISSING, "i8")
     for keys in (rows.key, rows.bid, rows.ask):
         places = numpy.flatnonzero(keys >= 0)
         numpy.maximum.at(last, keys[places], places)
-    replaces = rows.of(REPLACE)
+    replaces = rows.of(Kind.REPLACE)
     own = dict(zip(rows.key[replaces].tolist(), replaces.tolist()))
-    late = [key for key, place in own.items() if rows.kind[last[key]] in (TRADE, FILL)]
+    late = [key for key, place in own.items() if rows.kind[last[key]] in (Kind.TRADE, Kind.FILL)]
     return {} if late else {key: place for key, place in own.items() if last[key] == place}
 
 

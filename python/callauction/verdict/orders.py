@@ -13,7 +13,7 @@ import pandas
 
 from callauction.verdict.judged import Judged, Judgement, Path
 from callauction.verdict.phases import recorded_sums
-from callauction.verdict.rows import CANCEL, MARKET, NEW, OF_ORDERS, OWN, SIDES, Rows
+from callauction.verdict.rows import OF_ORDERS, OWN, SIDES, Kind, PriceCode, Rows
 from callauction.verdict.rules import Rules
 
 ORDERS = {
@@ -68,7 +68,7 @@ class _Course:
         for key, shares in lawful.items():
             order = self.orders[key]
             order.traded += shares
-            if order.price != MARKET and result.price is not None:
+            if order.price != PriceCode.MARKET and result.price is not None:
                 gap = self.rows.prices[order.price] - self.rows.prices[result.price]
                 order.better += gap * shares * (1 if self._side(order) == "bid" else -1)
         self._end(judged.auction, lawful if is_last else judged.fills.by_key())
@@ -80,10 +80,10 @@ class _Course:
             key, quantity = int(rows.key[place]), int(rows.quantity[place])
             if place in self.bad:
                 continue
-            if rows.kind[place] == NEW:
+            if rows.kind[place] == Kind.NEW:
                 order = _Order(key, place, quantity, quantity, int(rows.price[place]), key)
                 self.orders[key] = self.open[key] = order
-            elif key in self.open and rows.kind[place] == CANCEL:
+            elif key in self.open and rows.kind[place] == Kind.CANCEL:
                 self._cancel(self.open[key], quantity)
             elif key in self.open:
                 self._replace(self.open[key], place, quantity)
@@ -123,7 +123,7 @@ class _Course:
 
     def row(self, order: _Order, recorded: int | None) -> tuple[object, ...]:
         """The row of an order, with the shares that are recorded of it."""
-        rows, is_market = self.rows, order.price == MARKET
+        rows, is_market = self.rows, order.price == PriceCode.MARKET
         return (
             rows.names.order(order.name), rows.names.member(rows.member[order.place]),
             self._side(order), order.entered, None if is_market else rows.prices[order.price],
@@ -176,7 +176,7 @@ def notes_of(rows: Rows, path: Path) -> Counter[str]:
     """How many rows of a course cancel an order that isn't open, by what became of it."""
     gone, ends = (numpy.zeros(len(rows.names.ids) + 1, kind) for kind in ("i1", "i8"))
     cancels = numpy.setdiff1d(rows.of(*OF_ORDERS)[: path.taken], path.closed)
-    cancels = cancels[rows.kind[cancels] == CANCEL]
+    cancels = cancels[rows.kind[cancels] == Kind.CANCEL]
     gone[rows.key[cancels]] = 3
     for each in filter(lambda it: it.is_ended, path.judged):
         book, room = each.book, numpy.zeros(len(gone), "i8")
@@ -185,7 +185,7 @@ def notes_of(rows: Rows, path: Path) -> Counter[str]:
         gone[book.key[is_whole]], ends[book.key[is_whole]] = 1, each.place
         gone[book.key[~is_whole & (book.only > 0) & (book.only == OWN[each.auction])]] = 2
     gone[rows.key[cancels[rows.quantity[cancels] <= 0]]] = 3
-    entries = [row.place for row in path.refused if rows.kind[row.place] == NEW]
+    entries = [row.place for row in path.refused if rows.kind[row.place] == Kind.NEW]
     gone[rows.key[entries]] = 4
     keys = rows.key[path.closed]
     keys = keys[(gone[keys] != 1) | rows.are_behind(path.closed, ends[keys])]

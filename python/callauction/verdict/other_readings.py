@@ -21,9 +21,7 @@ from callauction.verdict.names import (
 )  # fmt: skip
 from callauction.verdict.other_reading import OtherReading, of_rows
 from callauction.verdict.owners import Owners
-from callauction.verdict.rows import (
-    BAD, CANCEL, FILL, INTERRUPTED, NEW, TRADE, UNCROSS, Doubt, Rows,
-)  # fmt: skip
+from callauction.verdict.rows import INTERRUPTED, Doubt, Kind, Rows
 from callauction.verdict.rules import Rules
 from callauction.verdict.table import End
 from callauction.verdict.totals import Totals
@@ -121,7 +119,7 @@ class OtherReadings:
             ways = [of_rows(functools.partial(_respelled, self.spelled[0]), self.spelled[1])]
         again = numpy.union1d(copies(rows, self.found), self.earlier)
         if self.respelled is None and have_other_ids(rows, self.found, again):
-            ways.append(_without_rows(rows, rows.of(TRADE, FILL), OTHER_IDS))
+            ways.append(_without_rows(rows, rows.of(Kind.TRADE, Kind.FILL), OTHER_IDS))
         return ways
 
     @property
@@ -208,7 +206,7 @@ class OtherReadings:
 def _too_many(found: Judgement, judge: Judge, those: Ints) -> Ints:
     """The copies of cancels, and of trades those that are too many of their orders without them."""
     rows, rules = judge.rows, judge.rules
-    cancels = those[rows.kind[those] == CANCEL]
+    cancels = those[rows.kind[those] == Kind.CANCEL]
     if not 0 < len(cancels) < len(those):
         return too_many(rows, found, those)
     rows, rules = _without_rows(rows, cancels, "").apply((rows, rules))
@@ -219,7 +217,7 @@ def _too_many(found: Judgement, judge: Judge, those: Ints) -> Ints:
 def _without_rows(rows: Rows, these: Ints, why: str) -> OtherReading:
     """The change that leaves rows out."""
     is_out = numpy.isin(numpy.arange(len(rows.kind)), these)
-    return of_rows(lambda it: with_arrays({"kind": numpy.where(is_out, BAD, it.kind)}, it), why)
+    return of_rows(lambda it: with_arrays({"kind": numpy.where(is_out, Kind.BAD, it.kind)}, it), why)
 
 
 def _may_correct(found: Judgement, rows: Rows, rules: Rules) -> bool:
@@ -245,7 +243,7 @@ def _respelled(other: Rows, rows: Rows) -> Rows:
     """The rows with the ids and the members of others, and those that these read."""
     names = ("key", "bid", "ask", "bid_member", "ask_member", "member")
     changed = {name: getattr(other, name) for name in names}
-    lost = [row for row in rows.bad if row.kind != BAD and other.kind[row.place] >= NEW]
+    lost = [row for row in rows.bad if row.kind != Kind.BAD and other.kind[row.place] >= Kind.NEW]
     kind = rows.kind.copy()
     kind[[row.place for row in lost]] = [row.kind for row in lost]
     bad = [row for row in rows.bad if row not in lost]
@@ -268,10 +266,10 @@ def _cut_off(end: End, rows: Rows) -> Rows:
     """The rows without what the last row of a file says, but for that there is a result."""
     rows = dataclasses.replace(rows, kind=rows.kind.copy(), bad=[*rows.bad])
     rows.end = End(end.label, "", False)
-    for place in numpy.flatnonzero((rows.labels == end.label) & (rows.kind >= NEW)).tolist():
-        if rows.kind[place] in (TRADE, FILL):
-            rows.kind[place] = BAD
-        elif rows.kind[place] == UNCROSS:
+    for place in numpy.flatnonzero((rows.labels == end.label) & (rows.kind >= Kind.NEW)).tolist():
+        if rows.kind[place] in (Kind.TRADE, Kind.FILL):
+            rows.kind[place] = Kind.BAD
+        elif rows.kind[place] == Kind.UNCROSS:
             rows = rows.with_said(place, None)
         else:
             rows.refuse(place, "the line is cut", Doubt.BOOKS)

@@ -8,9 +8,7 @@ import numpy
 from callauction.verdict.cells import Ints
 from callauction.verdict.columns import look_of
 from callauction.verdict.names import is_placeholder
-from callauction.verdict.rows import (
-    BAD, CANCEL, FILL, MISSING, NEW, REPLACE, TRADE, BadRow, Rows,
-)  # fmt: skip
+from callauction.verdict.rows import BadRow, Cell, Kind, Rows
 
 ENTRIES_A_FAULT = 20
 """Of so many entries one may be wrong at most, or one of less."""
@@ -33,10 +31,10 @@ class Owners:
         self.rows = rows
         self.entered = rows.entered(len(rows.names.ids) + 1)
         owned = self.entered[self.entered >= 0]
-        self.owner = numpy.full(len(self.entered), MISSING, "i8")
+        self.owner = numpy.full(len(self.entered), Cell.MISSING, "i8")
         self.owner[rows.key[owned]] = rows.member[owned]
         self.lost = {row.place: row for row in rows.bad
-                     if row.kind == REPLACE and row.place >= 0}  # fmt: skip
+                     if row.kind == Kind.REPLACE and row.place >= 0}  # fmt: skip
         """The replaces that aren't read, as those by others than their order's member."""
 
     def told(self) -> tuple[Rows, str] | None:
@@ -52,10 +50,10 @@ class Owners:
     def _parts(self) -> Iterator[tuple[str, Ints, Ints]]:
         """The rows that say a member in a column, with the orders that they say it of."""
         rows = self.rows
-        traded, lost = rows.of(TRADE), numpy.array([*self.lost], "i8")
+        traded, lost = rows.of(Kind.TRADE), numpy.array([*self.lost], "i8")
         yield "bid_member", traded, rows.bid[traded].astype("i8")
         yield "ask_member", traded, rows.ask[traded].astype("i8")
-        own = numpy.concatenate([rows.of(FILL, REPLACE, CANCEL), lost])
+        own = numpy.concatenate([rows.of(Kind.FILL, Kind.REPLACE, Kind.CANCEL), lost])
         yield "member", own, rows.key[own].astype("i8")
 
     def _wrong(self) -> dict[int, list[_Said]]:
@@ -68,8 +66,9 @@ class Owners:
             agreed[keys[same]] = True
         for column, places, keys in parts:
             members = getattr(rows, column)[places]
-            differs = (keys >= 0) & (members != MISSING) & (self.owner[keys] >= 0) & ~agreed[keys]
-            differs &= (members != self.owner[keys]) & (rows.kind[places] != CANCEL)
+            is_named = (keys >= 0) & (members != Cell.MISSING)
+            differs = is_named & (self.owner[keys] >= 0) & ~agreed[keys]
+            differs &= (members != self.owner[keys]) & (rows.kind[places] != Kind.CANCEL)
             for place, key in zip(places[differs].tolist(), keys[differs].tolist()):
                 name = rows.names.recorded(place, column, int(getattr(rows, column)[place]))
                 odd.setdefault(key, []).append(_Said(key, place, column, name))
@@ -83,7 +82,7 @@ class Owners:
         if any(it.member != name for it in said) or is_placeholder(name):
             return False
         entry = int(self.entered[said[0].key])
-        others = rows.of(NEW)
+        others = rows.of(Kind.NEW)
         others = numpy.unique(rows.member[others[others != entry]])
         names = {rows.names.member(it) for it in others.tolist()}
         is_like = look_of(name) in map(look_of, names)
@@ -97,7 +96,7 @@ class Owners:
         found = set[int]()
         for said in (it for own in those.values() for it in own):
             changed[said.column][said.place] = self.owner[said.key]
-            if rows.kind[said.place] == BAD:
+            if rows.kind[said.place] == Kind.BAD:
                 changed["kind"][said.place] = self.lost[said.place].kind
                 found.add(said.place)
         bad: list[BadRow] = [row for row in rows.bad if row.place not in found]

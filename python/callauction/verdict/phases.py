@@ -14,9 +14,7 @@ from callauction.arrays import COMMAND, Structs
 from callauction.limits import MOST_CALLS, MOST_OPEN, MOST_QUANTITY, MOST_TICKS
 from callauction.verdict import engine
 from callauction.verdict.cells import Array, Codes, Ints, Mask
-from callauction.verdict.rows import (
-    CANCEL, MARKET, MISSING, NEW, OWN, REPLACE, SIDES, BadRow, Doubt, Int8s, Rows,
-)  # fmt: skip
+from callauction.verdict.rows import OWN, SIDES, BadRow, Doubt, Int8s, Kind, PriceCode, Rows
 from callauction.words import AUCTIONS, CommandTag, Refusal, ReplyTag
 
 GONE = -1
@@ -56,7 +54,7 @@ class Book:
         these = numpy.flatnonzero(which)
         price = self.price[these].astype("i8")
         limit = numpy.where(self.side[these] == SIDES.index("bid"), -price, price)
-        rank = numpy.where(price == MARKET, numpy.iinfo("i8").min, limit)
+        rank = numpy.where(price == PriceCode.MARKET, numpy.iinfo("i8").min, limit)
         return these[numpy.argsort(rank, kind="stable")]
 
 
@@ -93,7 +91,7 @@ class Result:
     @property
     def number(self) -> int:
         """The number of the price, MISSING for none."""
-        return MISSING if self.price is None else self.price
+        return PriceCode.UNSAID if self.price is None else self.price
 
     @functools.cached_property
     def fills(self) -> "Sums":
@@ -167,7 +165,7 @@ def _advance(
         sent = _Sent.of(book, rows, these, executed, room)
         replies = _answers(auction, sent.commands, sent.named, 1, len(sent.keys))[len(book) :]
         out = replies["tag"] == ReplyTag.REFUSED
-        entries = out & (rows.kind[sent.rows] == NEW)
+        entries = out & (rows.kind[sent.rows] == Kind.NEW)
         if not entries.any():
             break
         if (replies["refusal"][entries] == Refusal.BOOK_FULL).any():
@@ -177,16 +175,16 @@ def _advance(
         these = numpy.setdiff1d(these, sent.rows[entries])
     is_closed = out & (replies["refusal"] == Refusal.UNKNOWN_ORDER)
     closed = numpy.concatenate([sent.closed, sent.rows[is_closed]])
-    changes = closed[rows.kind[closed] == REPLACE]
+    changes = closed[rows.kind[closed] == Kind.REPLACE]
     refused += _refused(rows, sent.rows[out & ~is_closed], replies["refusal"][out & ~is_closed])
     for place in changes.tolist():
         order = rows.names.order(rows.key[place])
         why = f"order {order!r} {_NOT_OPEN}"
         refused.append(BadRow(place, rows.labels[place], why, Doubt.BOOKS, place))
-    is_replace = (rows.kind[sent.rows] == REPLACE) & (replies["tag"] == ReplyTag.CHANGED)
+    is_replace = (rows.kind[sent.rows] == Kind.REPLACE) & (replies["tag"] == ReplyTag.CHANGED)
     kept = replies["kept"][is_replace].astype(bool)
     after = sent.book_after(book, replies)
-    cancels = closed[rows.kind[closed] == CANCEL]
+    cancels = closed[rows.kind[closed] == Kind.CANCEL]
     return Taken(after, tuple(refused), cancels, sent.rows[is_replace], kept)
 
 
@@ -195,7 +193,7 @@ def _refused(rows: Rows, places: Ints, refusals: Array) -> list[BadRow]:
     found = []
     for place, number in zip(places.tolist(), refusals.tolist()):
         name = Refusal(number).name.title().replace("_", "")
-        doubt = Doubt.ORDER if rows.kind[place] == NEW else Doubt.BOOKS
+        doubt = Doubt.ORDER if rows.kind[place] == Kind.NEW else Doubt.BOOKS
         why = f"the rules say refused {number} {name}"
         if number == Refusal.PAST_AUCTION:
             only = rows.names.cell(place, "restriction")
@@ -206,7 +204,7 @@ def _refused(rows: Rows, places: Ints, refusals: Array) -> list[BadRow]:
 
 def _without_passing(rows: Rows, these: Ints) -> Ints:
     """The rows without orders that they cancel themselves. Raises BeyondError for none."""
-    gone = these[(rows.kind[these] == CANCEL) & (rows.quantity[these] <= 0)]
+    gone = these[(rows.kind[these] == Kind.CANCEL) & (rows.quantity[these] <= 0)]
     left = these[~numpy.isin(rows.key[these], rows.key[gone])]
     if len(left) == len(these):
         raise BeyondError(f"more than {MOST_OPEN:,} orders are open")
@@ -229,12 +227,12 @@ class _Sent:
     @classmethod
     def of(
         cls, book: Book, rows: Rows, these: Ints, executed: Ints | None, room: Ints,
-        reference: int = MARKET,
+        reference: int = PriceCode.MARKET,
     ) -> "_Sent":  # fmt: skip
         """The commands of a book and these rows."""
         if len(book) > MOST_OPEN:
             raise BeyondError(f"more than {MOST_OPEN:,} orders are open")
-        entered = rows.key[these[rows.kind[these] == NEW]]
+        entered = rows.key[these[rows.kind[these] == Kind.NEW]]
         room[:] = 0
         room[book.key] = 1 + numpy.arange(len(book))
         room[entered] = 1 + len(book) + numpy.arange(len(entered))
@@ -245,7 +243,7 @@ class _Sent:
         commands = numpy.zeros(len(book) + len(sent), COMMAND)
         commands[: len(book)] = _entries(book, ticks[: len(book)])
         own = commands[len(book) :]
-        is_new = rows.kind[sent] == NEW
+        is_new = rows.kind[sent] == Kind.NEW
         own["member"] = engine.MEMBER
         own["tag"] = numpy.where(gone, CommandTag.DELETE, CommandTag.CHANGE)
         own["tag"][is_new] = CommandTag.ENTER
@@ -253,7 +251,7 @@ class _Sent:
         own["quantity"] = numpy.where(gone, 0, quantity)
         own["side"] = numpy.where(is_new, rows.side[sent], 0)
         own["restriction"] = numpy.where(is_new, numpy.maximum(rows.only[sent], 0), 0)
-        own["has_limit"] = (price != MARKET) & ~gone
+        own["has_limit"] = (price != PriceCode.MARKET) & ~gone
         own["limit"] = numpy.where(own["has_limit"] == 1, ticks[len(book) : -1], 0)
         keys = numpy.concatenate([[0], book.key, entered]).astype("i4")
         return cls(commands, sent, these[~is_known], keys, named)
@@ -278,7 +276,7 @@ class _Sent:
         at = self.commands[last[left]]
         since = numpy.concatenate([book.since, self.rows])
         limit = numpy.maximum(at["limit"].astype("i8") - 1, 0)
-        price = numpy.where(at["has_limit"] == 1, self.named[limit], MARKET)
+        price = numpy.where(at["has_limit"] == 1, self.named[limit], PriceCode.MARKET)
         entered = self.commands[entry[left]]
         return Book(
             self.keys[left], entered["side"].astype("i1"), price.astype("i4"),
@@ -292,17 +290,17 @@ def _wanted(
     """The quantity and the limit that each row gives its order, and which rows take it out."""
     kind, key = rows.kind[sent], rows.key[sent]
     quantity, price = rows.quantity[sent].copy(), rows.price[sent].copy()
-    if (quantity[kind != CANCEL] > MOST_QUANTITY).any():
-        row = rows.labels[sent[(kind != CANCEL) & (quantity > MOST_QUANTITY)][0]]
+    if (quantity[kind != Kind.CANCEL] > MOST_QUANTITY).any():
+        row = rows.labels[sent[(kind != Kind.CANCEL) & (quantity > MOST_QUANTITY)][0]]
         raise BeyondError(f"row {row} has more than {MOST_QUANTITY:,} shares")
     if executed is not None:
-        is_replace, done = kind == REPLACE, executed[key]
+        is_replace, done = kind == Kind.REPLACE, executed[key]
         quantity = numpy.where(is_replace, quantity - done, quantity)
         quantity[is_replace & (done > 0) & (quantity <= 0)] = GONE
-    parts = (kind == CANCEL) & (quantity > 0)
+    parts = (kind == Kind.CANCEL) & (quantity > 0)
     if parts.any():
         _cancel_parts(book, rows, sent, quantity, price, parts)
-    return quantity, price, (kind == CANCEL) & ~parts | (quantity == GONE)
+    return quantity, price, (kind == Kind.CANCEL) & ~parts | (quantity == GONE)
 
 
 def _cancel_parts(
@@ -313,7 +311,7 @@ def _cancel_parts(
     these = numpy.flatnonzero(numpy.isin(key, key[parts]))
     carried = numpy.flatnonzero(numpy.isin(book.key, key[parts]))
     order = numpy.argsort(numpy.concatenate([book.key[carried], key[these]]), kind="stable")
-    is_set = numpy.concatenate([numpy.ones(len(carried), bool), kind[these] != CANCEL])[order]
+    is_set = numpy.concatenate([numpy.ones(len(carried), bool), kind[these] != Kind.CANCEL])[order]
     shares = numpy.concatenate([book.quantity[carried], quantity[these]])[order]
     limit = numpy.concatenate([book.price[carried], price[these]])[order]
     first = numpy.maximum.accumulate(numpy.where(is_set, numpy.arange(len(order)), 0))
@@ -332,8 +330,8 @@ def _entries(book: Book, ticks: Codes) -> Structs:
     commands = numpy.zeros(len(book), COMMAND)
     commands["tag"], commands["member"] = CommandTag.ENTER, engine.MEMBER
     commands["side"], commands["quantity"] = book.side, book.quantity
-    commands["restriction"], commands["has_limit"] = book.only, book.price != MARKET
-    commands["limit"] = numpy.where(book.price == MARKET, 0, ticks)
+    commands["restriction"], commands["has_limit"] = book.only, book.price != PriceCode.MARKET
+    commands["limit"] = numpy.where(book.price == PriceCode.MARKET, 0, ticks)
     return commands
 
 
@@ -427,7 +425,7 @@ def indicated(
         replies = _asked(sent, len(book), auction, reference)
         own = replies[len(book) :]
         tick = numpy.maximum(own["tick"][1::2].astype("i8") - 1, 0)
-        price = numpy.where(own["has_tick"][1::2] == 1, sent.named[tick], MARKET)
+        price = numpy.where(own["has_tick"][1::2] == 1, sent.named[tick], PriceCode.MARKET)
         volume, surplus = (own[name][1::2].astype("i8") for name in ("volume", "surplus"))
         found.append((sent.rows, price, volume, surplus))
         book = sent.book_after(book, own[::2])

@@ -14,7 +14,7 @@ from callauction.verdict.early import Early
 from callauction.verdict.judged import Judgement
 from callauction.verdict.judging import Judge
 from callauction.verdict.other_reading import OtherReading, of_rows
-from callauction.verdict.rows import BAD, OF_ORDERS, UNCROSS, Rows
+from callauction.verdict.rows import OF_ORDERS, Kind, Rows
 
 
 def other_orders(judge: Judge, found: Judgement) -> list[list[OtherReading]]:
@@ -52,7 +52,7 @@ def falls_of_numbers(rows: Rows) -> tuple[str, bool]:
     """That rows of a day without times are in another order than their sequence, and where first;
     empty where none is. And whether few are.
     """
-    known = numpy.flatnonzero((rows.kind != BAD) & (rows.number >= 0))
+    known = numpy.flatnonzero((rows.kind != Kind.BAD) & (rows.number >= 0))
     falls = numpy.flatnonzero(numpy.diff(rows.number[known]) < 0)
     if not len(falls) or (rows.time != clocks.NO_TIME).any() or rows.is_odd.any():
         return "", False
@@ -83,7 +83,7 @@ def all_times(rows: Rows, step: int = 1) -> Ints:
 
 def _across(rows: Rows) -> str:
     """That by its time a row of an order is on another side of an uncross; empty where none is."""
-    orders, ends, place = rows.of(*OF_ORDERS), rows.of(UNCROSS), numpy.argsort(all_times(rows))
+    orders, ends, place = rows.of(*OF_ORDERS), rows.of(Kind.UNCROSS), numpy.argsort(all_times(rows))
     phases = (numpy.searchsorted(it[ends], it[orders]) for it in (numpy.arange(len(place)), place))
     own, due = (numpy.asarray(each) for each in phases)
     odd = numpy.flatnonzero(own != due)
@@ -111,7 +111,7 @@ def _order_of_times(rows: Rows, has_late: bool = False) -> tuple[Ints, Ints, Int
     day's, or with `has_late` all; their call phases; and where each comes among them by its time.
     """
     orders = rows.of(*OF_ORDERS)
-    ends = rows.of(UNCROSS)
+    ends = rows.of(Kind.UNCROSS)
     phase = numpy.searchsorted(ends, orders)
     at = rows.time[orders]
     end = numpy.concatenate([rows.time[ends], [clocks.NO_TIME]])[phase]

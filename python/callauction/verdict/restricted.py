@@ -17,7 +17,7 @@ from callauction.verdict.doubts import has_lawful_orders
 from callauction.verdict.judged import Judged, Judgement
 from callauction.verdict.judging import Judge
 from callauction.verdict.phases import recorded_sums
-from callauction.verdict.rows import INTERRUPTED, MARKET, MISSING, NO_PRICE, SIDES
+from callauction.verdict.rows import INTERRUPTED, SIDES, Cell, PriceCode
 from callauction.words import AUCTIONS
 
 WHY = "no column restriction says which orders are for one auction alone (--unrestricted: none is)"
@@ -64,7 +64,7 @@ class _Unsaid:
             if not is_known or not each.is_ended:
                 continue
             price, later = int(self.rows.price[each.place]), self.uncrosses[number + 1 :]
-            due = each.reference if price == NO_PRICE else price
+            due = each.reference if price == PriceCode.NO_PRICE else price
             is_known = not later or later[0].reference == due
             is_same = each.fills.by_key() == self.done[number]
             is_known &= is_same or self._is_fixed(each)
@@ -164,7 +164,8 @@ class _Sums:
         """The shares of each of these orders of a side that may trade at a price."""
         limit, book = self.book.price, self.book
         is_near = limit >= price if side == BID else limit <= price
-        found: Ints = book.quantity[which & (book.side == side) & (is_near | (limit == MARKET))]
+        is_near |= limit == PriceCode.MARKET
+        found: Ints = book.quantity[which & (book.side == side) & is_near]
         return found
 
     def _at(self, price: int, which: Mask) -> list[int]:
@@ -196,8 +197,8 @@ class _Sums:
     def are_possible(self, items: Collection[str]) -> bool:
         """Whether these items that were published may be lawful together."""
         rows, place = self.rows, self.judged.place
-        price = int(rows.price[place]) if "price" in items else MISSING
-        if price == NO_PRICE:
+        price = int(rows.price[place]) if "price" in items else PriceCode.UNSAID
+        if price == PriceCode.NO_PRICE:
             return self._least_volume() == 0
         if price < 0:
             return True
@@ -205,12 +206,12 @@ class _Sums:
             return False
         most = self._at(price, numpy.ones(len(self.book), bool))
         least = self._at(price, ~self.may_be_out)
-        volume = int(rows.quantity[place]) if "volume" in items else MISSING
+        volume = int(rows.quantity[place]) if "volume" in items else Cell.MISSING
         if volume < 0:
             return True
         if not min(least) <= volume <= min(most):
             return False
-        surplus = int(rows.surplus[place]) if "surplus" in items else MISSING
+        surplus = int(rows.surplus[place]) if "surplus" in items else Cell.MISSING
         sides = [int(rows.side[place])] if "side" in items and rows.side[place] >= 0 else [BID, ASK]
         both = [[volume + surplus * (side == it) for it in (BID, ASK)] for side in sides]
         is_odd = "side" in items and rows.side[place] >= 0 and (surplus > 0) != (max(sides) > 0)

@@ -5,7 +5,7 @@ import enum
 from collections import Counter
 from collections.abc import Callable, Mapping
 from decimal import Decimal
-from typing import Any
+from typing import Any, Final
 
 import numpy
 from numpy.typing import NDArray
@@ -17,27 +17,84 @@ from callauction.verdict.table import End
 from callauction.words import AUCTIONS
 
 Int8s = NDArray[numpy.int8]
-NEW, REPLACE, CANCEL, UNCROSS, TRADE, FILL, BUST = range(7)
-OF_ORDERS = (NEW, REPLACE, CANCEL)
-"""The kinds of rows of orders."""
-MISSING, BAD = -1, -2
-"""A cell that is empty, and one that can't be read."""
-TAKEN = -3
-"""The kind of a trade or a fill that a bust takes out."""
-MARKET, NO_PRICE = -1, -2
-"""The price of a market order or one that wasn't recorded; that of an uncross without one."""
 SIDES = ("none", "bid", "ask")
-INTERRUPTED = "interrupted"
+"""What the column `side` says, by its number."""
+INTERRUPTED, CONTINUOUS = "interrupted", "continuous"
 STATES = ("", *AUCTIONS, INTERRUPTED)
-"""What the column `auction` says, by its number."""
-STOPPED = STATES.index(INTERRUPTED)
+"""What the column `auction` says of a result, by its number: 0 says nothing."""
 SAID = ("price", "quantity", "surplus", "side", "count")
 """What a result says beside its auction: names of the arrays of rows."""
-CONTINUOUS, CONTINUOUS_STATE = "continuous", len(STATES)
-"""The word of `auction` for a trade outside of the auctions, and its number."""
 RESTRICTIONS = ("opening", "closing")
-OWN = (1, MISSING, 2)
-"""By the number of an auction the restriction to it alone, where there is one."""
+"""What the column `restriction` says, by its number less 1."""
+
+
+# ---- the codes of the arrays of Rows: plain numbers, as numpy is three times as fast with these as
+# ---- with members of an enum
+
+
+class Kind:
+    """What a row is, in `kind`."""
+
+    NEW: Final = 0
+    """Enters an order."""
+    REPLACE: Final = 1
+    """Changes an order."""
+    CANCEL: Final = 2
+    """Takes an order out."""
+    UNCROSS: Final = 3
+    """The result of an auction, or an interruption."""
+    TRADE: Final = 4
+    """The shares that a bid bought of an ask."""
+    FILL: Final = 5
+    """The shares that one order bought or sold."""
+    BUST: Final = 6
+    """Takes a trade or a fill out."""
+    BAD: Final = -2
+    """It can't be read, or is another's part: nothing is taken from it."""
+    TAKEN: Final = -3
+    """A trade or a fill that a bust takes out."""
+
+
+class Cell:
+    """What a cell is that has no value, in all arrays but `kind` and `price`."""
+
+    MISSING: Final = -1
+    """It is empty, or its column isn't there."""
+    BAD: Final = -2
+    """It can't be read."""
+
+
+class PriceCode:
+    """What stands for a price that is none of the table's, in `price`. The kind of the row tells
+    MARKET from UNSAID.
+    """
+
+    MARKET: Final = -1
+    """Of an order: at market."""
+    UNSAID: Final = -1
+    """Of a result, a trade or a fill: its price isn't recorded."""
+    NO_PRICE: Final = -2
+    """Of a result: the auction had none."""
+    UNREAD: Final = -4
+    """It can't be read: while a table is read, alone."""
+    EMPTY: Final = -5
+    """A word for an empty cell, which rows of orders alone may have: while a table is read, alone.
+    """
+
+
+class StateCode:
+    """What a row says of its auction beside one's number and 1, in `state`."""
+
+    INTERRUPTED: Final = 4
+    """A result: the auction was interrupted."""
+    CONTINUOUS: Final = 5
+    """A trade: it was outside of the auctions."""
+
+
+OF_ORDERS = (Kind.NEW, Kind.REPLACE, Kind.CANCEL)
+"""The kinds of rows of orders."""
+OWN = (1, Cell.MISSING, 2)
+"""By the number of an auction the restriction to it alone, in `only`, where there is one."""
 
 
 class Doubt(enum.Enum):
@@ -62,7 +119,7 @@ class BadRow:
     why: str
     doubt: Doubt
     since: int = -1
-    kind: int = BAD
+    kind: int = Kind.BAD
 
     @property
     def is_order(self) -> bool:
@@ -87,7 +144,7 @@ class BadRow:
     @property
     def is_lost(self) -> bool:
         """Whether it changes or cancels an order that no row enters."""
-        return self.doubt is Doubt.ORDER and self.kind in (REPLACE, CANCEL)
+        return self.doubt is Doubt.ORDER and self.kind in (Kind.REPLACE, Kind.CANCEL)
 
     @property
     def unknown(self) -> str:
@@ -288,7 +345,7 @@ class Rows:
         begin = int(place) if since is None else since
         kind = int(self.kind[place])
         self.bad.append(BadRow(int(place), self.labels[place], why, doubt, begin, kind))
-        self.kind[place] = BAD
+        self.kind[place] = Kind.BAD
 
     def are_behind(self, those: Ints, places: Ints | int) -> Mask:
         """Which of these rows are below others and not timed before them."""
@@ -298,8 +355,8 @@ class Rows:
         return found
 
     def entered(self, many: int) -> Ints:
-        """By its key the first row that enters an order, MISSING where none does."""
-        found, news = numpy.full(many, MISSING, "i8"), self.of(NEW)[::-1]
+        """By its key the first row that enters an order, Cell.MISSING where none does."""
+        found, news = numpy.full(many, Cell.MISSING, "i8"), self.of(Kind.NEW)[::-1]
         found[self.key[news]] = news
         return found
 
@@ -307,7 +364,7 @@ class Rows:
         """The rows, of which one says what another result says, or none."""
         said = {name: getattr(self, name).copy() for name in SAID}
         for values in said.values():
-            values[place] = MISSING if other is None else values[other]
+            values[place] = Cell.MISSING if other is None else values[other]
         return dataclasses.replace(self, **said)
 
     def _parts(self) -> dict[str, Any]:
@@ -340,7 +397,7 @@ class Rows:
         keys = [parts[name][parts[name] >= 0] for name in ids]
         base = min((int(each.min()) for each in keys if len(each)), default=0)
         for name in ids:
-            parts[name] = numpy.where(parts[name] >= 0, parts[name] - base, MISSING)
+            parts[name] = numpy.where(parts[name] >= 0, parts[name] - base, Cell.MISSING)
         bad = [
             dataclasses.replace(it, place=it.place - begin, since=max(-1, it.since - begin))
             for it in self.bad

@@ -10,7 +10,7 @@ from callauction.verdict.judged import Judged, Judgement
 from callauction.verdict.judging import Judge
 from callauction.verdict.other_reading import OtherReading, ReadDay, of_rows
 from callauction.verdict.phases import recorded_sums
-from callauction.verdict.rows import FILL, MISSING, TRADE, UNCROSS, Rows
+from callauction.verdict.rows import Cell, Kind, Rows
 from callauction.verdict.uncross_doubts import Mark, marked
 
 LATE = "trades without a time or an auction may be of any"
@@ -60,10 +60,10 @@ def _says_otherwise(rows: Rows, read: Rows) -> bool:
     """Whether what was published has other values in a reading than in the file, or numbers of
     prices that are others.
     """
-    these = rows.of(UNCROSS, TRADE, FILL)
+    these = rows.of(Kind.UNCROSS, Kind.TRADE, Kind.FILL)
     both = [(getattr(rows, name)[these], getattr(read, name)[these])
             for name in ("price", "quantity", "surplus")]  # fmt: skip
-    are_others = any(((one != it) & (it != MISSING)).any() for one, it in both)
+    are_others = any(((one != it) & (it != Cell.MISSING)).any() for one, it in both)
     return are_others or rows.prices != read.prices
 
 
@@ -135,7 +135,7 @@ def _placed(rows: Rows, found: Judgement) -> Rows | None:
     without any, or with one auction.
     """
     ended = [it for it in found.uncrosses if it.is_ended and it.result is not None]
-    is_late = (rows.kind == TRADE) & (rows.time == clocks.NO_TIME) & (rows.state <= 0)
+    is_late = (rows.kind == Kind.TRADE) & (rows.time == clocks.NO_TIME) & (rows.state <= 0)
     if len(ended) < 2 or not is_late.any():
         return None
     state, entered = rows.state.copy(), rows.entered(len(rows.names.ids) + 1)

@@ -6,7 +6,7 @@ import numpy
 
 from callauction.verdict import clocks
 from callauction.verdict.cells import Ints, Mask
-from callauction.verdict.rows import FILL, NEW, REPLACE, STOPPED, TRADE, Rows
+from callauction.verdict.rows import Kind, Rows, StateCode
 from callauction.words import AUCTIONS
 
 
@@ -18,7 +18,7 @@ class Strays:
     def __init__(self, rows: Rows, orders: Ints, uncrosses: Ints) -> None:
         kind = rows.kind
         self.rows, self.orders, self.uncrosses = rows, orders, uncrosses
-        made = ((kind == TRADE) | (kind == FILL)) & (rows.state <= 0)
+        made = ((kind == Kind.TRADE) | (kind == Kind.FILL)) & (rows.state <= 0)
         self.made: Ints = numpy.flatnonzero(made)
         parts = (self.made, orders, uncrosses)
         self.is_timed = all((rows.time[these] != clocks.NO_TIME).all() for these in parts)
@@ -64,7 +64,7 @@ class Strays:
         that are away from all of them (rows of orders are between, or more than a second), of which
         auctions each may be.
         """
-        ends = self.uncrosses[self.rows.state[self.uncrosses] != STOPPED]
+        ends = self.uncrosses[self.rows.state[self.uncrosses] != StateCode.INTERRUPTED]
         if len(ends) >= len(due) or len({*due}) < len(due):
             return {}
         count, before, after, began, goes_on = self._around(ends)
@@ -88,7 +88,7 @@ class Strays:
         by how many results are before them or are they; results have these names, -1 for none.
         """
         known = {number: due.index(name) for number, name in enumerate(names, 1) if name in due}
-        last_entry = self._by(self.rows.of(NEW, REPLACE)).max(initial=clocks.NO_TIME)
+        last_entry = self._by(self.rows.of(Kind.NEW, Kind.REPLACE)).max(initial=clocks.NO_TIME)
         for place, (number, block) in enumerate(held):
             if block < 0 <= names[number - 1]:
                 yield (AUCTIONS[names[number - 1]],)

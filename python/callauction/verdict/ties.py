@@ -8,7 +8,7 @@ import numpy
 from callauction.verdict.cells import Ints, Mask
 from callauction.verdict.clocks import NO_TIME
 from callauction.verdict.phases import Book, Result, sums
-from callauction.verdict.rows import CANCEL, REPLACE, Rows
+from callauction.verdict.rows import Kind, Rows
 
 MOST_CUTS, MOST_ORDERINGS = 64, 24
 """How many moments of one time, and how many orders of the rows of one order, are tried."""
@@ -83,8 +83,8 @@ class Ties:
         order = these[numpy.argsort(rows.key[these], kind="stable")]
         one, two = order[:-1], order[1:]
         same = (rows.key[one] == rows.key[two]) & (rows.group[one] == rows.group[two])
-        parts = (rows.kind == CANCEL) & (rows.quantity > 0)
-        are = [(rows.kind[it] == REPLACE) | parts[it] for it in (one, two)]
+        parts = (rows.kind == Kind.CANCEL) & (rows.quantity > 0)
+        are = [(rows.kind[it] == Kind.REPLACE) | parts[it] for it in (one, two)]
         free = same & are[0] & are[1] & ~(parts[one] & parts[two])
         differs = (rows.kind[one] != rows.kind[two]) | (rows.price[one] != rows.price[two])
         differs |= rows.kept[one] != rows.kept[two]

@@ -6,7 +6,7 @@ from callauction.verdict.coverage import PRICE_ITEMS
 from callauction.verdict.doubts import Doubts
 from callauction.verdict.judged import Judged, Judgement
 from callauction.verdict.phases import recorded_sums
-from callauction.verdict.rows import REPLACE, Rows
+from callauction.verdict.rows import Kind, Rows
 
 
 class Totals:
@@ -23,7 +23,7 @@ class Totals:
         shares than these.
         """
         rows, uncrosses, is_late = self.rows, self.found.uncrosses, False
-        done, replaces = numpy.zeros(len(self.doubts.entered), "i8"), rows.of(REPLACE)
+        done, replaces = numpy.zeros(len(self.doubts.entered), "i8"), rows.of(Kind.REPLACE)
         ends = [*(each.place for each in uncrosses[1:]), len(rows.kind)]
         for each, end in zip(uncrosses, ends):
             done[each.fills.keys] += each.fills.shares
@@ -46,7 +46,7 @@ class Totals:
 
     def _goes_on(self, place: int) -> bool:
         """Whether an order is open below a row, as a later one replaces or executes it."""
-        key, replaces = int(self.rows.key[place]), self.rows.of(REPLACE)
+        key, replaces = int(self.rows.key[place]), self.rows.of(Kind.REPLACE)
         own = replaces[(replaces > place) & (self.rows.key[replaces] == key)]
         if any(self._is_later(place, it) for it in own.tolist()):
             return True

@@ -13,7 +13,7 @@ from callauction.verdict.day_rows import DayRows
 from callauction.verdict.doubts import Doubts, Reason
 from callauction.verdict.judged import Judged, Moment, Path
 from callauction.verdict.phases import Book, Result, Taken
-from callauction.verdict.rows import STOPPED, BadRow, Rows
+from callauction.verdict.rows import BadRow, Rows, StateCode
 from callauction.words import AUCTIONS
 
 NO_STOPS = "no row can say that an uncross was interrupted before, as it may have been"
@@ -146,7 +146,7 @@ class UncrossDoubts:
         """The trades and fills of an uncross that is recorded as interrupted, which are in doubt
         without a range.
         """
-        if self.rows.state[place] == STOPPED and not self.day.rules.has_range:
+        if self.rows.state[place] == StateCode.INTERRUPTED and not self.day.rules.has_range:
             return [*doubted(found, NO_RANGE)]
         return found
 

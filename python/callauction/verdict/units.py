@@ -10,7 +10,7 @@ from fractions import Fraction
 
 import numpy
 
-from callauction.verdict.rows import NEW, Rows
+from callauction.verdict.rows import Kind, Rows
 from callauction.verdict.rules import Rules
 
 NOISE = 16
@@ -30,7 +30,7 @@ def _in_other_unit(rows: Rows, reference: Decimal) -> dict[int, Decimal]:
     """By its number each price that is far from the reference, and near to it in another unit."""
     if reference <= 0:
         return {}
-    used = numpy.unique(rows.price[(rows.kind >= NEW) & (rows.price >= 0)]).tolist()
+    used = numpy.unique(rows.price[(rows.kind >= Kind.NEW) & (rows.price >= 0)]).tolist()
     both = ((number, _near(rows.prices[number], reference)) for number in used)
     return {number: price for number, price in both if price is not None}
 

@@ -11,7 +11,7 @@ from callauction.verdict import times
 from callauction.verdict.cells import Cells, Codes, Ints, Mask, Source, paired_codes
 from callauction.verdict.columns import EMPTY, ExtractError, is_unknown
 from callauction.verdict.reading import Reading
-from callauction.verdict.rows import BAD, MARKET, MISSING, NO_PRICE, Int8s
+from callauction.verdict.rows import Cell, Int8s, PriceCode
 
 _NO_PRICE = ("none", "no price")
 _WORDED = ("event", "price", "bid_member", "ask_member")
@@ -28,9 +28,6 @@ _COUNTED = re.compile(r"(\D*)(\d{1,18})", re.ASCII)
 _OF_TIMES = ":"
 """What sequences that are times count by."""
 _THOUSANDS = re.compile(r"\d{1,3}\.\d{3}")
-_UNREAD_PRICE = NO_PRICE + BAD
-EMPTY_PRICE = _UNREAD_PRICE - 1
-"""The price of a word for an empty cell, which rows of orders alone may have."""
 
 
 class Columns:
@@ -71,14 +68,14 @@ class Columns:
         several that mean the same.
         """
         if name not in self.names:
-            return numpy.full(len(self.source), MISSING, "i4"), []
+            return numpy.full(len(self.source), Cell.MISSING, "i4"), []
         codes, texts = self.cells(name).texts()
         words = self._said(name)
         if not words:
             return codes, texts
         found = [words.get(text, text) for text in texts]
         known = {text: number for number, text in enumerate(dict.fromkeys(found))}
-        numbers = numpy.array([*(known[text] for text in found), MISSING], codes.dtype)
+        numbers = numpy.array([*(known[text] for text in found), Cell.MISSING], codes.dtype)
         return numbers[codes], [*known]
 
     def _said(self, name: str) -> Mapping[str, str]:
@@ -90,8 +87,8 @@ class Columns:
     def words(self, name: str, known: Mapping[str, int]) -> Int8s:
         """What is known of each word of a column, MISSING for none, BAD for another word."""
         codes, texts = self.texts(name)
-        found = [known.get(text.casefold(), BAD) if text else MISSING for text in texts]
-        return numpy.array([*found, MISSING], "i1")[codes]
+        found = [known.get(text.casefold(), Cell.BAD) if text else Cell.MISSING for text in texts]
+        return numpy.array([*found, Cell.MISSING], "i1")[codes]
 
     def wholes(self, name: str) -> Ints:
         """The whole number of each row, MISSING for none, BAD for another text, as 1.000 is beside
@@ -101,33 +98,35 @@ class Columns:
         plain = [self.reading.plain(text) for text in texts]
         is_whole = any(text.isdigit() and text != "0" for text in plain)
         found = [
-            BAD if is_whole and _THOUSANDS.fullmatch(text) else self._whole(text) for text in plain
+            Cell.BAD if is_whole and _THOUSANDS.fullmatch(text) else self._whole(text)
+            for text in plain
         ]
-        return numpy.array([*found, MISSING], "i8")[codes]
+        return numpy.array([*found, Cell.MISSING], "i8")[codes]
 
     def _whole(self, text: str) -> int:
         try:
-            return whole_of(text) if text else MISSING
+            return whole_of(text) if text else Cell.MISSING
         except BadCellError:
-            return BAD
+            return Cell.BAD
 
     def decimal(self, text: str) -> Decimal | None:
         """The number that a text is, None where it is none."""
         return number_of(self.reading.plain(text))
 
     def prices(self, given: Iterable[Decimal]) -> tuple[Codes, list[Decimal], Mask]:
-        """The number of each row's price among all prices, or MARKET, NO_PRICE, EMPTY_PRICE or
-        _UNREAD_PRICE; the prices, which rise; and which cells have a word for a market order.
+        """The number of each row's price among all prices, or a PriceCode; the prices, which rise;
+        and which cells have a word for a market order.
         """
         codes, texts = self.texts("price")
         values = [self.decimal(text) for text in texts]
         prices = sorted({*given, *(it for it in values if it is not None)})
         places: dict[Decimal | None, int] = {price: at for at, price in enumerate(prices)}
-        words = {**dict.fromkeys(_NO_PRICE, NO_PRICE), **dict.fromkeys(EMPTY, EMPTY_PRICE)}
-        other = (words.get(it.casefold(), _UNREAD_PRICE) for it in texts)
+        words = dict.fromkeys(_NO_PRICE, PriceCode.NO_PRICE)
+        words |= dict.fromkeys(EMPTY, PriceCode.EMPTY)
+        other = (words.get(it.casefold(), PriceCode.UNREAD) for it in texts)
         found = [places.get(value, word) for value, word in zip(values, other)]
         market = [self._is_market(text, value) for text, value in zip(texts, values)]
-        array = numpy.array([*found, MARKET], "i4")[codes]
+        array = numpy.array([*found, PriceCode.MARKET], "i4")[codes]
         return array, prices, numpy.array([*market, False])[codes]
 
     def _is_market(self, text: str, value: Decimal | None) -> bool:
@@ -145,7 +144,7 @@ class Columns:
             return None
         if self._whole_sequences is not None:
             numbers, places = numpy.unique(self._whole_sequences, return_inverse=True)
-            if numbers.max(initial=MISSING) < 0:
+            if numbers.max(initial=Cell.MISSING) < 0:
                 return None
             return places.astype("i8") + min(0, int(numbers[0]))
         codes, keys = self._sequences
@@ -157,7 +156,7 @@ class Columns:
                 raise ExtractError("sequence has texts that have no order: leave it out")
             return codes.astype("i8")
         ranks = {key: place for place, key in enumerate(sorted({*known}))}
-        return numpy.array([*(ranks[key] for key in known), MISSING], "i8")[codes]
+        return numpy.array([*(ranks[key] for key in known), Cell.MISSING], "i8")[codes]
 
     @functools.cached_property
     def _whole_sequences(self) -> Ints | None:
@@ -177,7 +176,7 @@ class Columns:
         """Each row's whole number in a sequence, MISSING for none; for all where some count in
         another way, as times do.
         """
-        none = numpy.full(len(self.source), MISSING, "i8")
+        none = numpy.full(len(self.source), Cell.MISSING, "i8")
         if "sequence" not in self.names:
             return none
         if self._whole_sequences is not None:
@@ -186,8 +185,8 @@ class Columns:
         ways = {it and it[0] for it in keys}
         if len(ways) != 1 or ways & {None, _OF_TIMES}:
             return none
-        found = [int(it[1]) if it and it[1] == int(it[1]) else MISSING for it in keys]
-        return numpy.array([*found, MISSING], "i8")[codes]
+        found = [int(it[1]) if it and it[1] == int(it[1]) else Cell.MISSING for it in keys]
+        return numpy.array([*found, Cell.MISSING], "i8")[codes]
 
     def _counted(self, text: str) -> tuple[str, Decimal] | None:
         """What is before a number, and the number; None where the text is no such. A decimal is
