@@ -16,7 +16,7 @@ PRIORITY = "priority"
 """The item of an extract that says whether a replace kept its place."""
 NAMED = 100
 """The stamp of a trade that names its auction is this and the auction's number; else it is the
-number of the uncross nearest in time, or MISSING.
+number of the uncross nearest in time, or Cell.MISSING.
 """
 
 
@@ -170,7 +170,7 @@ def compared_trades(
 
 def _at_other_prices(rows: Rows, these: Ints, result: Result, allowed: int) -> Mask:
     """Which of these rows have another price than the lawful one."""
-    return ~numpy.isin(rows.price[these], [result.number, allowed, PriceCode.UNSAID])
+    return ~numpy.isin(rows.price[these], [result.price_code, allowed, PriceCode.UNSAID])
 
 
 def _of_others(rows: Rows, these: Ints, owners: Ints) -> Mask:
@@ -224,7 +224,7 @@ class _Trades:
         found = paired([*self._both(both, places, self.lawful), *self._alone(places)])
         shares = filled.by_key(), due.by_key()
         places_of = self._places_by_order(*shares)
-        of_shares = compared_shares(rows, *shares, result.number, places_of, self.many)
+        of_shares = compared_shares(rows, *shares, result.price_code, places_of, self.many)
         by_order = paired(stamped(of_shares, self.stamps))
         return Compared(by_order if len(by_order) < len(found) else found, same, by_order)
 
@@ -240,7 +240,7 @@ class _Trades:
         shares; one for all of an auction's trades where they were recorded at one other price and
         are lawful else.
         """
-        prices, lawful = self.rows.prices, self.result.number
+        prices, lawful = self.rows.prices, self.result.price_code
         at = {int(self.rows.price[place]) for pair in pairs for place in places[pair]}
         is_price = all(self.recorded[it] == self.lawful.get(it) for it in pairs)
         if len(pairs) > 1 and len(pairs) == len(self.lawful) and len(at) == 1 and is_price:
@@ -261,7 +261,7 @@ class _Trades:
     def _alone(self, places: dict[int, list[int]]) -> list[Difference]:
         """The differences of pairs that are missing, and of those that are extra."""
         missing = [
-            self._difference(it, (), None, (shares, self.result.number))
+            self._difference(it, (), None, (shares, self.result.price_code))
             for it, shares in self.lawful.items()
             if it not in self.recorded
         ]
@@ -302,7 +302,7 @@ def compared_fills(
     if filled.agrees(result.fills) and not len(odd):
         return []
     places = places_by(rows.key[these], these, [*filled.keys, *rows.key[odd]])
-    price = result.number
+    price = result.price_code
     found = compared_shares(rows, filled.by_key(), result.fills.by_key(), price, places)
     named = {each.keys[0] for each in found}
     at = {int(rows.key[place]): place for place in odd[::-1].tolist()}
@@ -346,7 +346,7 @@ def compared_shares(
 
 
 def _recorded_price(rows: Rows, places: tuple[int, ...], lawful: int) -> int:
-    """The price of these rows, of several one that isn't lawful; MISSING for none."""
+    """The price of these rows, of several one that isn't lawful; PriceCode.UNSAID for none."""
     priced = {int(rows.price[place]) for place in places} - {PriceCode.UNSAID}
     return min(priced - {lawful}, default=lawful if priced else PriceCode.UNSAID)
 

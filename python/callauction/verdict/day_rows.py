@@ -7,7 +7,7 @@ from callauction.verdict.rules import Rules
 
 class DayRows:
     """The rows of a day: its uncrosses, rows of orders, trades and fills; and by the key of each
-    order the row that enters it and its member, MISSING of both where no row does.
+    order the row that enters it and its member, Cell.MISSING of both where no row does.
     """
 
     def __init__(self, rows: Rows, rules: Rules) -> None:

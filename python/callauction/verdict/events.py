@@ -371,7 +371,7 @@ def _ids(columns: Columns, lead: Codes) -> tuple[dict[str, Codes], Ints]:
 
 
 def _members(columns: Columns, name: str, known: list[str]) -> Codes:
-    """The number of each row's member, BAD for one who has no order."""
+    """The number of each row's member, Cell.BAD for one who has no order."""
     numbers = {member: place for place, member in enumerate(known)}
     codes, texts = columns.texts(name)
     found = [numbers.get(text, Cell.BAD) for text in texts]

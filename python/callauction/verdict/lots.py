@@ -22,7 +22,8 @@ LOTS = (10, 100, 1000)
 LEAST = 2
 """In how many items lots have to be seen."""
 KINDS_IN_LOTS = {
-    "results and trades": (Kind.UNCROSS, Kind.TRADE, Kind.FILL), "results": (Kind.UNCROSS,), "trades": (Kind.TRADE, Kind.FILL),
+    "results and trades": (Kind.UNCROSS, Kind.TRADE, Kind.FILL), "results": (Kind.UNCROSS,),
+    "trades": (Kind.TRADE, Kind.FILL),
 }  # fmt: skip
 
 

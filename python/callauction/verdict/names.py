@@ -184,7 +184,7 @@ def _fits(rows: Rows, judged: Judged, again: Ints) -> bool:
             return False
     if result.volume and not len(own) and not len(taken):
         return False
-    return bool(numpy.isin(rows.price[own], (result.number, PriceCode.UNSAID)).all())
+    return bool(numpy.isin(rows.price[own], (result.price_code, PriceCode.UNSAID)).all())
 
 
 def _may_be(due: int, sure: int, parts: list[int]) -> bool:

@@ -45,7 +45,7 @@ class _Order:
     became: str = "open"
 
 
-class _Course:
+class _Lives:
     """The orders of a day, phase by phase."""
 
     def __init__(self, judgement: Judgement, rows: Rows, rules: Rules) -> None:
@@ -134,22 +134,22 @@ class _Course:
 
 def orders_of(judgement: Judgement, rows: Rows, rules: Rules) -> pandas.DataFrame:
     """The orders of an extract that the rules accept, with what became of each (ORDERS)."""
-    course = _Course(judgement, rows, rules)
+    lives = _Lives(judgement, rows, rules)
     shares: collections.Counter[int] = collections.Counter()
     for judged in judgement.uncrosses:
         shares.update(recorded_sums(rows, judged.traded, judged.filled).by_key())
     those = [judged for judged in judgement.uncrosses if judged.result is not None]
     for place, judged in enumerate(those, 1):
-        course.uncross(judged, place == len(those))
-    if course.ended == len(rules.auctions):
-        for order in [*course.open.values()]:
-            course._close(order, "left")
+        lives.uncross(judged, place == len(those))
+    if lives.ended == len(rules.auctions):
+        for order in [*lives.open.values()]:
+            lives._close(order, "left")
     else:
-        course.take(course.places[course.taken :])
+        lives.take(lives.places[lives.taken :])
     has_records = judgement.has_trades or judgement.has_fills
     found = [
-        course.row(order, shares[key] if has_records else None)
-        for key, order in course.orders.items()
+        lives.row(order, shares[key] if has_records else None)
+        for key, order in lives.orders.items()
     ]
     return pandas.DataFrame(found, columns=[*ORDERS], dtype="object").astype(ORDERS)
 
@@ -173,7 +173,7 @@ _GONE = (
 
 
 def notes_of(rows: Rows, path: Path) -> Counter[str]:
-    """How many rows of a course cancel an order that isn't open, by what became of it."""
+    """How many rows of a path cancel an order that isn't open, by what became of it."""
     gone, ends = (numpy.zeros(len(rows.names.ids) + 1, kind) for kind in ("i1", "i8"))
     cancels = numpy.setdiff1d(rows.of(*OF_ORDERS)[: path.taken], path.closed)
     cancels = cancels[rows.kind[cancels] == Kind.CANCEL]

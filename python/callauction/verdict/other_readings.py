@@ -217,7 +217,9 @@ def _too_many(found: Judgement, judge: Judge, those: Ints) -> Ints:
 def _without_rows(rows: Rows, these: Ints, why: str) -> OtherReading:
     """The change that leaves rows out."""
     is_out = numpy.isin(numpy.arange(len(rows.kind)), these)
-    return of_rows(lambda it: with_arrays({"kind": numpy.where(is_out, Kind.BAD, it.kind)}, it), why)
+    return of_rows(
+        lambda it: with_arrays({"kind": numpy.where(is_out, Kind.BAD, it.kind)}, it), why
+    )
 
 
 def _may_correct(found: Judgement, rows: Rows, rules: Rules) -> bool:

@@ -89,8 +89,8 @@ class Result:
     quantity: Ints
 
     @property
-    def number(self) -> int:
-        """The number of the price, MISSING for none."""
+    def price_code(self) -> int:
+        """The number of the price, PriceCode.UNSAID for none."""
         return PriceCode.UNSAID if self.price is None else self.price
 
     @functools.cached_property
@@ -417,7 +417,8 @@ def indicated(
     book: Book, rows: Rows, these: Ints, auction: int, reference: int, room: Ints
 ) -> tuple[Ints, Ints, Ints, Ints]:
     """The rows that name an open order, and after each the price that there would have been (or
-    MARKET), its volume and its surplus; for replaces that say what is open. Raises BeyondError.
+    PriceCode.MARKET), its volume and its surplus; for replaces that say what is open. Raises
+    BeyondError.
     """
     most, found = (MOST_CALLS - MOST_OPEN) // 2 - len(AUCTIONS), []
     for begin in range(0, max(1, len(these)), most):

@@ -64,8 +64,8 @@ class Columns:
         return Cells(cells.buffer, cells.start, length)
 
     def texts(self, name: str) -> tuple[Codes, list[str]]:
-        """A number for each text of a column in our words, MISSING for none, and the texts: one of
-        several that mean the same.
+        """A number for each text of a column in our words, Cell.MISSING for none, and the texts:
+        one of several that mean the same.
         """
         if name not in self.names:
             return numpy.full(len(self.source), Cell.MISSING, "i4"), []
@@ -85,14 +85,14 @@ class Columns:
         return {**self.reading.values.get("member", {}), **own} if is_member else own
 
     def words(self, name: str, known: Mapping[str, int]) -> Int8s:
-        """What is known of each word of a column, MISSING for none, BAD for another word."""
+        """What is known of each word of a column, Cell.MISSING for none, Cell.BAD for another."""
         codes, texts = self.texts(name)
         found = [known.get(text.casefold(), Cell.BAD) if text else Cell.MISSING for text in texts]
         return numpy.array([*found, Cell.MISSING], "i1")[codes]
 
     def wholes(self, name: str) -> Ints:
-        """The whole number of each row, MISSING for none, BAD for another text, as 1.000 is beside
-        whole numbers, of which it isn't known that it is 1,000.
+        """The whole number of each row, Cell.MISSING for none, Cell.BAD for another text, as 1.000
+        is beside whole numbers, of which it isn't known that it is 1,000.
         """
         codes, texts = self.texts(name)
         plain = [self.reading.plain(text) for text in texts]
@@ -160,8 +160,8 @@ class Columns:
 
     @functools.cached_property
     def _whole_sequences(self) -> Ints | None:
-        """The whole number of each row's sequence, MISSING for none; None where some are others:
-        these alone need a text of each.
+        """The whole number of each row's sequence, Cell.MISSING for none; None where some are
+        others: these alone need a text of each.
         """
         has_words = bool(self.reading.values.get("sequence"))
         return None if has_words else self.cells("sequence").numbers()
@@ -173,7 +173,7 @@ class Columns:
         return codes, [self._counted(text) for text in texts]
 
     def row_numbers(self) -> Ints:
-        """Each row's whole number in a sequence, MISSING for none; for all where some count in
+        """Each row's whole number in a sequence, Cell.MISSING for none; for all where some count in
         another way, as times do.
         """
         none = numpy.full(len(self.source), Cell.MISSING, "i8")
