@@ -2,8 +2,10 @@
 from pathlib import Path
 
 import callauction as words
+import pandas
 from callauction.program import Day
 from callauction.recording import RecordedAuction
+from callauction.tables import BOOK, table_of
 from hypothesis import strategies
 from printed import TOP
 
@@ -81,3 +83,22 @@ def auctions() -> strategies.SearchStrategy[RecordedAuction]:
         strategies.just(200),
         strategies.none() | strategies.integers(0, 3),
     )
+
+
+def stored(name: str) -> pandas.DataFrame:
+    return table_of(form_of(Path(name), "book"), BOOK)
+
+
+def wide_day() -> Day:
+    """An order at each of 65,536 ticks."""
+    orders = (
+        f"1,enter,{'bid' if tick % 2 else 'ask'},{tick % 97 + 1},{tick}\n"
+        for tick in range(1, 65_537)
+    )
+    words = ("--high", "65536", "--reference", "30000", "--open", "65536", "--calls", "65537")
+    return Day("".join(orders).encode("ascii"), words)
+
+
+def seconds(time: str) -> int:
+    hour, minute, second = map(int, time.split(":"))
+    return 3600 * hour + 60 * minute + second

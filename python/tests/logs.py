@@ -4,6 +4,7 @@ venues keep for supervision.
 import random
 from typing import Any
 
+from desk import base_day
 from extracts import Extract
 
 SOH = "\x01"
@@ -161,3 +162,7 @@ def kept_for_supervision(extract: Extract) -> str:
                     put(word, row[side], time=stamp, traded=row["quantity"], at=row["price"],
                         match=f"T{place}", phase=PHASES[row["auction"]])
     return "\n".join([*lines, ""])
+
+
+def lawful_log(has_results: bool = True) -> FixLog:
+    return FixLog(base_day(), 1, has_results)

@@ -4,6 +4,7 @@ from pathlib import Path
 from typing import Any
 
 import callauction as words
+import pandas
 from callauction import Auction
 
 TOP = Path(__file__).resolve().parent.parent.parent
@@ -107,3 +108,14 @@ def lines_of(auction: Auction, commands: list[tuple[int, words.Command]]) -> lis
     """What the program prints for these commands, each applied by itself."""
     replies = (auction.apply(member, command) for member, command in commands)
     return [f"{place}: {text_of(reply)}" for place, reply in enumerate(replies, 1)]
+
+
+def csv_of(frame: pandas.DataFrame) -> str:
+    """A frame as the program prints it: the market orders' limit is a word again, and the column
+    of the rule is headed `price`.
+    """
+    written = frame.astype("object").where(frame.notna(), "")
+    if "best" in written:
+        written["limit"] = written["limit"].replace("", "market")
+        written = written.rename(columns={"rule": "price"})
+    return str(written.to_csv(index=False))

@@ -8,7 +8,7 @@ from pathlib import Path
 import pandas
 import pytest
 from callauction.__main__ import main
-from test_one_auction import Auction, Market
+from one_auction import Auction, Market
 
 TERMS = ["--tick-size", "0.01"]
 

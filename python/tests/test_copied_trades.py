@@ -10,9 +10,9 @@ from damage import (
     UNREADABLE, copied_at_once, copied_trade, paired_otherwise, places, timed_day,
 )  # fmt: skip
 from extracts import Extract, Rows
-from test_doubts import planted
-from test_meeting_damages import judged as judged_lines
-from test_verdict import judged
+from judging import judged
+from lines import judged_lines
+from planted import planted
 
 SEEDS = range(16)
 WITH_IDS = Reading(ignore=("TradeID",))

@@ -9,10 +9,10 @@ from pathlib import Path
 from callauction.verdict import Verdict, audit_events, shapes
 from damage import ORDERS, places, timed_day
 from extracts import Extract, Rows
+from judging import frame_of, judged
+from lines import untimed_rows
 from logs import FixLog
-from test_doubts import DAYS, planted
-from test_holes import rows_of
-from test_verdict import frame_of, judged
+from planted import DAYS, planted
 
 NAMES = ("order", "bid", "ask")
 OF_OWNERS = {
@@ -128,7 +128,7 @@ def test_a_lawful_log_that_begins_within_the_day_is_never_unlawful(tmp_path: Pat
 
 
 def test_the_rows_of_an_unknown_order_are_said_once() -> None:
-    rows = rows_of("""new B bid 10 10.00
+    rows = untimed_rows("""new B bid 10 10.00
 replace A bid 20 10.00
 new S ask 30 10.00
 replace R1 bid 15 10.00

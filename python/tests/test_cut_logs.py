@@ -11,7 +11,7 @@ from callauction.verdict import Verdict, audit_events, shapes
 from damage import timed_day
 from extracts import Extract
 from logs import FixLog
-from test_doubts import DAYS, SEEDS
+from planted import DAYS, SEEDS
 
 HEADS = {
     35: "MsgType", 34: "MsgSeqNum", 37: "OrderID", 150: "ExecType", 54: "Side", 48: "SecurityID",

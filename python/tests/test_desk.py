@@ -3,9 +3,7 @@ recorded in another way. The statuses are what a desk may be given: 0 lawful, 4 
 incomplete, 1 and 2 a file or a command line that is refused with one line.
 """
 import csv
-import functools
 import hashlib
-import io
 import json
 import random
 import re
@@ -25,50 +23,12 @@ from damage import (
     timed_day,
     trades_of_both_sides,
 )
-from extracts import Extract, Rows, price_of
-from test_verdict import judged
-
-Change = Callable[[Rows], Rows | None]
-"""Changes the rows of the base day, or answers others in their place."""
-UNCROSS, TRADE = "uncross", "trade"
-
-
-@functools.cache
-def base_day(is_interrupted: bool = False) -> Extract:
-    """A day with trades and a price in each auction, with an interruption or without."""
-    for seed in range(1000):
-        found = timed_day(seed, 20)
-        stops = any(outcome.is_interrupted for outcome in found.lawful)
-        ended = [outcome for outcome in found.lawful if not outcome.is_interrupted]
-        if stops == is_interrupted and min(outcome.trades for outcome in ended) > 1:
-            if stops or found.range is None:
-                return found
-    raise LookupError
-
-
-def text_of(rows: Rows, separator: str = ",") -> str:
-    """The rows as a CSV file."""
-    names = dict.fromkeys(name for row in rows for name in row)
-    columns = [*dict.fromkeys(["event", "order", "side", "price", "quantity", *names])]
-    out = io.StringIO(newline="")
-    writer = csv.DictWriter(out, columns, delimiter=separator, lineterminator="\n")
-    writer.writeheader()
-    writer.writerows(rows)
-    return out.getvalue()
-
-
-def cells(event: str, column: str, change: Callable[[str], str], most: int = 10**6) -> Change:
-    """Changes a column of an event's rows, where there is a cell."""
-
-    def changed(rows: Rows) -> None:
-        for place in [at for at in places(rows, *event.split("|")) if rows[at].get(column)][:most]:
-            rows[place][column] = change(rows[place][column])
-
-    return changed
-
-
-def all_cells(column: str, change: Callable[[str], str]) -> Change:
-    return cells("new|replace|cancel|uncross|trade|fill", column, change)
+from desk import (
+    LINE, OPENING, TRADE, UNCROSS, Change, all_cells, as_fills, audited, base_day, by_order, cells,
+    text_of,
+)
+from extracts import Rows, price_of
+from judging import judged
 
 
 def first(event: str, **values: str) -> Change:
@@ -118,10 +78,6 @@ def joined_ids(rows: Rows) -> None:
     rename(rows, lambda row, count: f"{row['member']}-{count}")
 
 
-def by_order(rows: Rows) -> Rows:
-    return sorted(rows, key=lambda row: (row.get("order", "~"), row["time"]))
-
-
 def zones(rows: Rows) -> None:
     for row in rows:
         hour = int(row["time"][:2]) - (row["event"] not in ORDERS)
@@ -133,18 +89,6 @@ def signed_surplus(rows: Rows) -> None:
     for place in places(rows, UNCROSS):
         if rows[place].pop("side", "") == "ask":
             rows[place]["surplus"] = f"-{rows[place]['surplus']}"
-
-
-def as_fills(rows: Rows) -> Rows:
-    found: Rows = []
-    for row in rows:
-        if row["event"] != TRADE:
-            found.append(row)
-            continue
-        for side in ("bid", "ask"):
-            those = {name: row[name] for name in ("time", "quantity", "price", "auction")}
-            found.append({"event": "fill", "order": row[side], **those})
-    return found
 
 
 def swapped_sides(rows: Rows) -> None:
@@ -213,7 +157,6 @@ def negative(rows: Rows) -> None:
     all_cells("price", lambda text: str(Decimal(text) - 20))(rows)
 
 
-LINE = ["--tick-size", "0.01"]
 CASES: dict[str, tuple[Change, int, list[str]]] = {
     "base": (lambda rows: None, 0, []),
     "ids of a member's own": (ids_of_a_member, 5, []),
@@ -314,16 +257,6 @@ def in_parts(rows: Rows) -> Rows:
         else:
             found.append(row)
     return found
-
-
-def audited(content: str | bytes, words: list[str], folder: Path) -> int:
-    """The status of the audit of a file."""
-    path = folder / "day.csv"
-    path.write_bytes(content if isinstance(content, bytes) else content.encode())
-    reference = [] if "--reference" in words else ["--reference", base_day().reference]
-    if "minus 20" in words:
-        words = [f"--reference={Decimal(base_day().reference) - 20}"]
-    return main(["audit", str(path), *LINE, *reference, *words])
 
 
 @pytest.mark.parametrize("name", CASES)
@@ -557,13 +490,6 @@ def test_a_range_may_be_a_percentage(
     words = ["--reference", day.reference, "--range", "90%"]
     assert audited(text_of(day.rows), words, tmp_path) == 4
     assert "within the range of 90 % of it" in capsys.readouterr().out
-
-
-OPENING = """event,order,side,price,quantity,surplus,auction
-new,A,bid,20.45,10,,
-new,B,ask,20.45,10,,
-uncross,,none,20.45,10,0,opening
-"""
 
 
 @pytest.mark.parametrize("words, status, line", [

@@ -13,18 +13,14 @@ import pytest
 from callauction.__main__ import main
 from callauction.verdict import Reading, Verdict, audit_events, audit_instruments, shapes
 from damage import ORDERS, places, timed_day
+from desk import TRADE, UNCROSS, audited, base_day, base_rows, text_of
 from extracts import Extract, Rows
+from judging import frame_of, judged
+from lines import untimed_rows
 from logs import FixLog
 from logs import line as message_of
-from test_desk import TRADE, UNCROSS, audited, base_day, text_of
-from test_holes import rows_of
-from test_verdict import frame_of, judged
 
 Printed = pytest.CaptureFixture[str]
-
-
-def base_rows() -> Rows:
-    return [dict(row) for row in base_day().rows]
 
 
 def split(rows: Rows) -> tuple[Rows, Rows]:
@@ -178,7 +174,7 @@ trade A2 B1 100 10.00"""
 
 def standing_day() -> Rows:
     """A1 is entered on the day before, and A2 trades before it."""
-    rows = rows_of(STANDING)
+    rows = untimed_rows(STANDING)
     clocks = ("26T14:40", "27T08:52", "27T08:53", "27T09:00", "27T09:00")
     for number, (row, clock) in enumerate(zip(rows, clocks)):
         row |= {"time": f"2026-11-{clock}:00", "sequence": str(number + 1)}

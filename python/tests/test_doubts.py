@@ -3,7 +3,6 @@ unlawful, and a fault before the damage is always found (docs/AUDIT.md, "What le
 """
 import collections
 import itertools
-import os
 import random
 
 import pytest
@@ -12,17 +11,15 @@ from callauction.verdict.phases import BeyondError
 from damage import DAMAGES, ORDERS, places, stray_cancel, ties, timed_day, trades_of_both_sides
 from extracts import Extract, random_day
 from faults import FAULTS
-from test_verdict import judged
+from judging import judged
+from planted import DAYS, SEEDS, planted
 
-SEEDS = range(40)
 NEVER_LAWFUL = ("unread order", "missing entry", "missing head", "stray cancel", "unread trade",
                 "unread result", "missing uncross")  # fmt: skip
 NEVER_IN_DOUBT = ("sent again", "sent again with sequences", "busted", "peaks of all")
 OF_THE_DAY = ("missing head", "missing entry", "stray cancel", "order spelled otherwise", "ties",
               "missing rows", "unread time")  # fmt: skip
 """Damages that may leave a doubt from the day's begin on."""
-DAYS = int(os.environ.get("DAMAGED_DAYS", "120"))
-"""How many days are damaged in several ways; by hand more, as DAMAGED_DAYS=5000 says."""
 
 
 @pytest.mark.parametrize("name", DAMAGES)
@@ -38,16 +35,6 @@ def test_a_lawful_day_that_is_damaged_is_never_unlawful(name: str) -> None:
         assert verdict.word == "incomplete" or name not in NEVER_LAWFUL, f"{seed}\n{verdict}"
         assert verdict.word == "lawful" or name not in NEVER_IN_DOUBT, f"{seed}\n{verdict}"
     assert touched > 5
-
-
-def planted(extract: Extract, before: int) -> int | None:
-    """Publishes another volume at an uncross before a place; answers its place."""
-    for place in places(extract.rows, "uncross"):
-        row = extract.rows[place]
-        if place < before and row.get("trades") and row["quantity"] != "0":
-            row["quantity"] = str(int(row["quantity"]) + 1)
-            return place
-    return None
 
 
 @pytest.mark.parametrize("name", DAMAGES)

@@ -7,19 +7,15 @@ from pathlib import Path
 
 import pytest
 from damage import places
+from desk import TRADE, UNCROSS, audited, base_rows, text_of
 from extracts import Rows
-from test_desk import TRADE, UNCROSS, audited, base_day, text_of
-from test_wrong_answers import order, small_day, traded, verdict_of
+from small_days import order, small_day, traded, verdict_of
 
 Printed = pytest.CaptureFixture[str]
 CLOCK = "%H:%M:%S"
 WHY = (
     "rows and times disagree: row {} is below row {}{}, and timed {} s before it: do clocks differ?"
 )
-
-
-def base_rows(rows: Rows | None = None) -> Rows:
-    return [dict(row) for row in rows or base_day().rows]
 
 
 def later(time: str, seconds: int) -> str:

@@ -12,7 +12,7 @@ from callauction.program import Day
 from callauction.verdict import audit_events, engine
 from callauction.words import CommandTag, ReplyTag, Side
 from damage import timed_day
-from test_verdict import frame_of
+from judging import frame_of
 
 COMPARED = ("tag", "id", "ask", "quantity", "volume", "surplus", "tick", "side", "auction", "kept",
             "refusal", "has_tick", "trades")  # fmt: skip

@@ -7,13 +7,13 @@ import pytest
 from callauction.verdict import Reading, Verdict, audit_events
 from callauction.verdict.extract import read_table
 from callauction.verdict.instruments import Audited, days_of, market_of
-from test_meeting_damages import rows_of
-from test_verdict import frame_of
+from judging import frame_of
+from lines import timed_rows
 
 
 def opening(text: str, cells: dict[int, dict[str, str]], **columns: str) -> Verdict:
     """The verdict on an opening of these lines, with other cells in some rows."""
-    rows = rows_of(text)
+    rows = timed_rows(text)
     for place, other in cells.items():
         rows[place] |= other
     names = {name.replace("__", "."): it for name, it in columns.items()}
@@ -112,7 +112,7 @@ Lines = tuple[str, dict[int, dict[str, str]]]
 def each_of(days: dict[str, Lines]) -> dict[str, Audited]:
     """The verdicts on openings of instruments in one file, which are read at once."""
     whole = [{"ISIN": name, **row, **cells.get(place, {})} for name, (text, cells) in days.items()
-             for place, row in enumerate(rows_of(text))]  # fmt: skip
+             for place, row in enumerate(timed_rows(text))]  # fmt: skip
     reading = Reading(ignore=("*",), unrestricted=True)
     terms: dict[str, Any] = dict(reference="10", tick_size="0.01", auctions=["opening"])
     table = read_table(frame_of(whole), reading, "ISIN")
@@ -142,7 +142,7 @@ def test_an_order_of_another_instrument_is_not_the_replaced_one(names: str) -> N
 
 def test_each_instrument_names_its_own_replace() -> None:
     found = each_of({"X": (DAY, AFTER), "Y": (DAY, AFTER), "Z": (OTHER, {})})
-    for name, row in (("X", 4), ("Y", 4 + len(rows_of(DAY)))):
+    for name, row in (("X", 4), ("Y", 4 + len(timed_rows(DAY)))):
         said = f"Ersatz of row {row} has that id: did the replace give it?"
         assert found[name].word == "incomplete", str(found[name])
         assert all(said in line for line in found[name].lines), str(found[name])

@@ -11,11 +11,10 @@ import pytest
 from callauction.__main__ import main
 from callauction.verdict import Reading, audit_events
 from damage import DAMAGES, places, timed_day
+from desk import UNCROSS, audited, base_day, text_of
+from judging import frame_of, judged
+from lines import timed_rows, untimed_rows
 from shapes import Written, total_quantities
-from test_desk import UNCROSS, audited, base_day, text_of
-from test_holes import rows_of
-from test_meeting_damages import rows_of as timed_rows
-from test_verdict import frame_of, judged
 
 Printed = pytest.CaptureFixture[str]
 HEADER = "event,order,side,price,quantity,surplus,auction,trades,bid,ask\n"
@@ -38,7 +37,7 @@ HELD = ["opening", "closing"]
 def test_total_quantities_that_are_not_said_condemn_no_day() -> None:
     """Of A's 300, whether or not it was replaced, 100 were executed before."""
     terms = dict(reference="10", tick_size="0.01", auctions=HELD)
-    frame = frame_of(rows_of(TOTALS))
+    frame = frame_of(untimed_rows(TOTALS))
     verdict = audit_events(frame, **terms)  # type: ignore[arg-type]
     assert verdict.word == "incomplete", str(verdict)
     assert "--quantity says which" in verdict.doubtful[0].doubt
@@ -46,7 +45,7 @@ def test_total_quantities_that_are_not_said_condemn_no_day() -> None:
         reading = Reading(quantity=quantity, unrestricted=True)  # type: ignore[arg-type]
         verdict = audit_events(frame, reading=reading, **terms)  # type: ignore[arg-type]
         assert verdict.word == word and not verdict.doubtful, str(verdict)
-    wrong = frame_of(rows_of(TOTALS.replace("10.00 200 100", "10.00 250 100")))
+    wrong = frame_of(untimed_rows(TOTALS.replace("10.00 200 100", "10.00 250 100")))
     assert audit_events(wrong, **terms).word == "unlawful"  # type: ignore[arg-type]
 
 
@@ -110,7 +109,7 @@ def test_a_total_that_would_close_an_order_of_which_there_is_more_is_none(
 ) -> None:
     """It is replaced again, or executed, below that row."""
     held = ["opening", "intraday", "closing"] if "uncross" in more else HELD
-    frame = frame_of(rows_of(CLOSED.format(more=more, result=result, made=made)))
+    frame = frame_of(untimed_rows(CLOSED.format(more=more, result=result, made=made)))
     terms = dict(reference="10", tick_size="0.01", reading=Reading(unrestricted=True))
     verdict = audit_events(frame, auctions=held, **terms)  # type: ignore[arg-type]
     assert verdict.word == word, str(verdict)
@@ -126,7 +125,7 @@ def test_a_total_may_close_its_order_where_what_was_executed_is_open(
 ) -> None:
     """No replace below denies it: the trade above, the book or the volume may be another."""
     day = CLOSED.format(more="replace A bid 80 10.00\n", result="10.00 20 60", made="B T 20")
-    verdict = audit_events(frame_of(rows_of(day.replace(*other))), reference="10",
+    verdict = audit_events(frame_of(untimed_rows(day.replace(*other))), reference="10",
                            tick_size="0.01", auctions=HELD)  # fmt: skip
     assert not [it for it in verdict.findings if it.auction == "closing"], str(verdict)
 

@@ -10,9 +10,10 @@ from callauction.__main__ import main
 from callauction.verdict import Reading, audit_auction, audit_events, audit_instruments, worded
 from callauction.verdict.cells import frame_source
 from damage import busted, places, timed_day
+from desk import TRADE, UNCROSS, audited, base_day, text_of
 from extracts import Extract, Rows
-from test_desk import TRADE, UNCROSS, audited, base_day, text_of
-from test_verdict import frame_of, judged
+from judging import frame_of, judged
+from lines import untimed_rows
 
 Printed = pytest.CaptureFixture[str]
 
@@ -26,20 +27,6 @@ def numbered(rows: Rows) -> Rows:
 def without(rows: Rows, *those: int) -> Rows:
     """The rows with their numbers but for some."""
     return [row for at, row in enumerate(numbered(rows)) if at not in those]
-
-
-def rows_of(text: str) -> Rows:
-    """Rows of lines such as `new A bid 10 10.00`, `uncross 10.00 10 0` and `trade A B 10 10.00`."""
-    found: Rows = []
-    for line in text.split("\n"):
-        event, *words = line.split()
-        names = {
-            "new": ("order", "side", "quantity", "price"),
-            "replace": ("order", "side", "quantity", "price"), "cancel": ("order",),
-            UNCROSS: ("price", "quantity", "surplus"), TRADE: ("bid", "ask", "quantity", "price"),
-        }[event]  # fmt: skip
-        found.append({"event": event, **dict(zip(names, words))})
-    return found
 
 
 @pytest.mark.parametrize("many", [1, 2, 5])
@@ -182,7 +169,7 @@ trade B S 100 10.00"""
 
 def opening(text: str, *missing: int) -> str:
     """The word of a day without some of its rows, from 1."""
-    rows = without(rows_of(text), *(number - 1 for number in missing))
+    rows = without(untimed_rows(text), *(number - 1 for number in missing))
     verdict = audit_events(
         frame_of(rows), reference="10", tick_size="0.01", auctions=["opening"]
     )
@@ -219,7 +206,7 @@ new D bid 50 10.00
 new T ask 50 10.00
 uncross 10.00 50 100
 trade C T 50 10.00"""
-    rows = rows_of(text)
+    rows = untimed_rows(text)
     for place, row in enumerate(rows):
         row |= {} if row["event"] == "new" else {"auction": "opening" if place < 7 else "closing"}
     for missing, word in ((5, "unlawful"), (6, "incomplete")):  # row 6 may have been an order

@@ -8,8 +8,8 @@ import pytest
 from callauction.verdict import Verdict, audit_instruments
 from damage import places, timed_day
 from extracts import Extract
-from test_doubts import DAYS, SEEDS
-from test_verdict import frame_of, judged
+from judging import frame_of, judged
+from planted import DAYS, SEEDS
 
 
 def visible(seed: int) -> Extract | None:

@@ -9,30 +9,15 @@ import numpy
 import pandas
 import pytest
 from callauction.cells import FrameError
-from callauction.prices import BadCellError, Grid, decimal_of, grid_of, whole_of
 from callauction.journal import EVENTS, Journal, from_frame
+from callauction.prices import BadCellError, decimal_of, grid_of, whole_of
 from callauction.program import Day
 from callauction.recording import RecordedAuction
 from callauction.tables import books_of, journal_of
 from days import auctions, commands
 from hypothesis import given, settings, strategies
 from printed import TOP
-
-ADLER_AND_BIRK = pandas.DataFrame(
-    [
-        dict(time="8:50:01", event="new", order="A17", member="Adler", side="buy", price="20.02",
-             quantity=200),
-        dict(time="8:50:09", event="new", order="B4", member="Birk", side="sell", quantity=300),
-        dict(time="8:51:30", event="replace", order="A17", member="Adler", price="20.02",
-             quantity=150, kept=True),
-        dict(time="8:52:00", event="new", order="B5", member="Birk", side="buy", price="20.01",
-             quantity=50),
-        dict(time="8:53:10", event="cancel", order="B5", member="Birk"),
-        dict(time="9:00:00", event="uncross", price="20.02", quantity=150, surplus=150, side="ask"),
-        dict(time="9:00:00", event="trade", bid="A17", ask="B4", quantity=150, price="20.02"),
-    ]
-)
-"""The record of another system in docs/AUDIT.md."""
+from small_days import ADLER_AND_BIRK
 
 
 def adler_and_birk(**changes: dict[int, Any]) -> pandas.DataFrame:

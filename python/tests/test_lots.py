@@ -8,10 +8,10 @@ import pytest
 from callauction.__main__ import main
 from callauction.verdict import Reading
 from damage import places, timed_day
+from desk import TRADE, UNCROSS
 from extracts import Extract, Rows
-from test_desk import TRADE, UNCROSS
-from test_doubts import DAYS, planted
-from test_verdict import judged
+from judging import judged
+from planted import DAYS, planted
 
 Printed = pytest.CaptureFixture[str]
 SEEDS = range(40)

@@ -5,40 +5,16 @@ import re
 from typing import Any
 
 import pytest
-from callauction.verdict import Verdict, audit_events
-from extracts import Rows
-from test_verdict import frame_of
-
-COLUMNS = {
-    "new": ("order", "side", "quantity", "price"),
-    "replace": ("order", "side", "quantity", "price", "kept"),
-    "cancel": ("order", "quantity"),
-    "uncross": ("price", "quantity", "surplus", "side", "trades", "auction"),
-    "trade": ("bid", "ask", "quantity", "price", "auction"),
-    "bust": ("bid", "ask", "quantity", "price", "auction"),
-}
-"""What the words of a line are, behind its event and its time."""
-
-
-def rows_of(text: str) -> Rows:
-    """The rows that lines say: an event, a time, and its cells, `-` for none."""
-    found = []
-    for event, time, *cells in filter(None, map(str.split, text.splitlines())):
-        named = {name: it for name, it in zip(COLUMNS[event], cells) if it != "-"}
-        found.append({"event": event, "time": time, **named})
-    return found
-
-
-def judged(text: str, **options: Any) -> Verdict:
-    """The verdict on the day that lines say."""
-    return audit_events(frame_of(rows_of(text)), reference="10", tick_size="0.01", **options)
+from callauction.verdict import audit_events
+from judging import frame_of
+from lines import judged_lines, timed_rows
 
 
 def test_a_trade_at_the_time_of_an_uncross_may_be_of_continuous_trading() -> None:
     """X and Y came and traded at once behind the intraday auction. So the closing hasn't them, of
     which a second result without a name corrects the first.
     """
-    verdict = judged("""
+    verdict = judged_lines("""
         uncross 09:01 - 0
         new 09:02 A bid 20 10.06
         uncross 09:03 - 0
@@ -70,8 +46,8 @@ def test_a_result_without_a_name_that_is_corrected_back() -> None:
         uncross 09:05 10.00 10 0 none 1
         trade 09:05 C S 10 10.00
     """
-    assert judged(day).word == "incomplete", str(judged(day))
-    assert judged(day.replace("09:01 10.00 10 20", "09:01 10.00 11 20")).word == "unlawful"
+    assert judged_lines(day).word == "incomplete", str(judged_lines(day))
+    assert judged_lines(day.replace("09:01 10.00 10 20", "09:01 10.00 11 20")).word == "unlawful"
 
 
 def test_a_last_result_that_is_corrected_back_at_once() -> None:
@@ -86,11 +62,11 @@ def test_a_last_result_that_is_corrected_back_at_once() -> None:
         uncross 09:05 10.00 10 20 ask 1
         trade 09:05 A S 10 10.00
     """
-    assert judged(day).word == "incomplete", str(judged(day))
+    assert judged_lines(day).word == "incomplete", str(judged_lines(day))
 
 
 def test_each_trade_twice_may_have_continuous_ones_among_them() -> None:
-    verdict = judged("""
+    verdict = judged_lines("""
         uncross 09:01 - 0 - - - opening
         uncross 09:02 - 0 - - - intraday
         new 09:04:00 A bid 20 10.00
@@ -123,15 +99,15 @@ def test_orders_of_one_time_beside_a_trade_of_the_next_call_phase() -> None:
         uncross 09:03 - 0 - - - intraday
         uncross 09:05 - 0 - - - closing
     """
-    assert judged(day).word == "incomplete", str(judged(day))
-    assert "rows 0 and 1 have one time" in str(judged(day))
-    assert judged(day.replace("09:00:10 C bid 50", "09:00:10 C bid 51")).word == "unlawful"
+    assert judged_lines(day).word == "incomplete", str(judged_lines(day))
+    assert "rows 0 and 1 have one time" in str(judged_lines(day))
+    assert judged_lines(day.replace("09:00:10 C bid 50", "09:00:10 C bid 51")).word == "unlawful"
 
 
 @pytest.mark.parametrize("time", ["09:01:40", "09:02:00", "09:02:40", "09:02:59"])
 def test_a_trade_at_its_order_is_of_continuous_trading(time: str) -> None:
     """X and Y traded when Y came, the last row of its call phase; the uncross has none of them."""
-    verdict = judged(f"""
+    verdict = judged_lines(f"""
         new 09:00 A bid 10 9.00
         uncross 09:01 - 0 - - - opening
         new 09:01:10 X bid 50 10.30
@@ -145,7 +121,7 @@ def test_a_trade_at_its_order_is_of_continuous_trading(time: str) -> None:
 
 def test_rows_of_the_time_of_an_uncross_of_which_one_is_beyond_the_program() -> None:
     """C was before the closing, of whose time it is, and so may be an order of too many shares."""
-    verdict = judged("""
+    verdict = judged_lines("""
         new 09:00 A ask 50 10.00
         uncross 09:01 - 0 - - - opening
         uncross 09:02 - 0 - - - intraday
@@ -174,16 +150,16 @@ def test_a_wrong_count_is_not_that_of_a_trade_outside(word: str) -> None:
         uncross 09:03 - 0 - - - intraday
         uncross 09:05 - 0 - - - closing
     """
-    verdict = judged(day)
+    verdict = judged_lines(day)
     assert [(it.item, it.row) for it in verdict.findings] == [("count", 2)], str(verdict)
-    assert judged(day.replace("none 2", "none 1")).word == "incomplete"
+    assert judged_lines(day.replace("none 2", "none 1")).word == "incomplete"
 
 
 def test_a_count_of_other_pairs_beside_a_trade_outside() -> None:
     """Bids trade with asks from the other end, which is three trades instead of two; X and Y, which
     traded later, are two orders of one trade.
     """
-    verdict = judged("""
+    verdict = judged_lines("""
         new 09:00:00 A bid 10 10.00
         new 09:00:01 B bid 20 10.00
         new 09:00:02 S ask 10 10.00
@@ -208,16 +184,16 @@ def test_an_order_that_is_missing_without_a_trace_is_not_noticed() -> None:
         new 09:00 A ask 50 10.00
         uncross 09:01 10.00 50 0 none 1 opening
     """
-    assert judged(day, auctions=["opening"]).word == "unlawful"
+    assert judged_lines(day, auctions=["opening"]).word == "unlawful"
     traced = f"{day}trade 09:01 B A 50 10.00 opening"
-    assert judged(traced, auctions=["opening"]).word == "incomplete"
+    assert judged_lines(traced, auctions=["opening"]).word == "incomplete"
 
 
 def test_an_order_whose_entry_is_not_read_taints_no_day_above_it() -> None:
     """S's row isn't read, and is followed by a cancel of some of its shares, a trade and a cancel;
     the opening, which has a wrong side, is above all of them.
     """
-    rows = rows_of("""
+    rows = timed_rows("""
         new 09:00 A bid 10 10.00
         new 09:00 B ask 10 10.00
         uncross 09:01 10.00 10 0 ask 1 opening
@@ -240,7 +216,7 @@ def test_an_order_whose_entry_is_not_read_taints_no_day_above_it() -> None:
 
 def test_a_place_that_was_kept_before_an_uncross_beside_a_stray_cancel() -> None:
     """A's replace is of the opening's time, and keeps its place only if it came before."""
-    verdict = judged("""
+    verdict = judged_lines("""
         new 09:00 A ask 65 10.00
         new 09:00:10 B bid 20 10.00
         uncross 09:01 10.00 20 40 ask 1 opening
@@ -270,15 +246,15 @@ def test_an_uncross_that_is_lawful_both_ways_decides_what_the_next_one_is() -> N
         trade 09:03 A T 15 10.05 intraday
         uncross 09:05 - 0 - - - closing
     """
-    assert judged(day).word == "incomplete", str(judged(day))
-    assert judged(day.replace("10.05 15 10 bid", "10.05 15 11 bid")).word == "unlawful"
+    assert judged_lines(day).word == "incomplete", str(judged_lines(day))
+    assert judged_lines(day.replace("10.05 15 10 bid", "10.05 15 11 bid")).word == "unlawful"
 
 
 def test_times_that_fall_above_a_corrected_result() -> None:
     """D came before C, by their times; the result between them and the closing is the intraday
     auction's, corrected, and has its time.
     """
-    verdict = judged("""
+    verdict = judged_lines("""
         uncross 09:01 - 0
         new 09:02:00 A ask 60 10.00
         new 09:02:10 B bid 60 10.00
@@ -296,7 +272,7 @@ def test_times_that_fall_above_a_corrected_result() -> None:
 
 def test_a_row_that_is_copied_below_all_is_no_file_put_together() -> None:
     """The cancel of A's is once more at the end; the opening has a wrong side."""
-    verdict = judged("""
+    verdict = judged_lines("""
         new 09:00 A bid 20 10.00
         new 09:00 S ask 10 10.00
         uncross 09:01 10.00 10 10 ask 1 opening
@@ -323,11 +299,11 @@ def test_a_trade_copied_right_below_it_condemns_no_day() -> None:
         trade 09:00 A S 100 10.00 opening
         trade 09:00 B S 100 10.00 opening
     """
-    verdict = judged(day, auctions=["opening"])
+    verdict = judged_lines(day, auctions=["opening"])
     assert verdict.word == "incomplete" and "is there twice: is it one?" in str(verdict)
     assert str(verdict.explain(verdict.doubtful[0])).endswith("is it one?")
     for other in ("10.00 200 50 none", "10.01 200 0 none", "10.00 250 0 none"):
-        verdict = judged(day.replace("10.00 200 0 none", other), auctions=["opening"])
+        verdict = judged_lines(day.replace("10.00 200 0 none", other), auctions=["opening"])
         assert [it.row for it in verdict.findings] == [3], str(verdict)
         assert [it.item for it in verdict.doubtful] == ["trade"], str(verdict)
 
@@ -338,7 +314,7 @@ def test_a_copied_trade_beside_rows_for_each_side_and_equal_trades() -> None:
     """
     made = ["A S 10", "A S 10", "A T 10", "A T 10", "B T 20", "B T 20"]
     rows = "".join(f"    trade 09:00 {it} 10.00 opening\n" * 2 for it in made)
-    verdict = judged(f"""
+    verdict = judged_lines(f"""
         new 08:50:01 A bid 40 10.00
         new 08:50:02 B bid 20 10.00
         new 08:50:03 S ask 20 10.00
@@ -353,7 +329,7 @@ def test_a_copied_trade_beside_rows_for_each_side_and_equal_trades() -> None:
 
 def test_a_result_twice_beside_a_wrong_count_of_another_auction() -> None:
     """The count is wrong in any reading, all else is right where the second result corrects."""
-    verdict = judged("""
+    verdict = judged_lines("""
         new 08:50:01 A bid 80 10.00
         new 08:50:02 S ask 80 10.00
         uncross 09:00 10.00 40 0 none 1 opening
@@ -370,7 +346,7 @@ def test_a_result_twice_beside_a_wrong_count_of_another_auction() -> None:
 
 def test_orders_of_one_time_beside_a_wrong_surplus() -> None:
     """A and B have one time, and A was first, which clears the trade and not the surplus."""
-    verdict = judged("""
+    verdict = judged_lines("""
         new 08:50:01 B bid 100 10.00
         new 08:50:01 A bid 100 10.00
         new 08:50:03 S ask 100 10.00
@@ -384,7 +360,7 @@ def test_two_unread_entries_in_two_call_phases_leave_no_certain_trade() -> None:
     """S had 75 executed in the opening, by a bid that isn't read; its 175 and the 75 of T, which
     isn't read either, are as many as the 250 of S.
     """
-    verdict = judged("""
+    verdict = judged_lines("""
         new 08:50 S ask 250 10.00
         new 08:51 A bid ? 10.03
         uncross 09:00 10.00 75 175 ask 1 opening
@@ -408,9 +384,9 @@ def test_a_wrong_price_is_one_finding_beside_trades_at_another() -> None:
         trade 09:00 A S 100 10.00 opening
         trade 09:00 B S ? 10.00 opening
     """
-    found = judged(day, auctions=["opening"]).findings
+    found = judged_lines(day, auctions=["opening"]).findings
     assert [it.item for it in found] == ["price"], str(found)
-    unread = judged(day.replace("S ask 200", "S ask ?"), auctions=["opening"])
+    unread = judged_lines(day.replace("S ask 200", "S ask ?"), auctions=["opening"])
     assert [it.recorded for it in unread.findings] == ["trades at 10"], str(unread)
     assert unread.findings[0].lawful == "at the published 10.01"
 
@@ -431,17 +407,17 @@ def test_an_order_that_a_replace_or_a_cancel_spells_otherwise(order: str, event:
         uncross 09:00 10.01 100 0 none 1 opening
         trade 09:00 B {traded} 100 10.01 opening
     """
-    verdict = judged(day, auctions=["opening"])
+    verdict = judged_lines(day, auctions=["opening"])
     assert verdict.word == "incomplete", str(verdict)
     if event == "replace":
-        other = judged(day.replace(order, "Q7"), auctions=["opening"])
+        other = judged_lines(day.replace(order, "Q7"), auctions=["opening"])
         assert other.word == "unlawful", str(other)
 
 
 @pytest.mark.parametrize("other, time", [("intraday", "13:00"), ("closing", "17:30")])
 def test_a_trade_that_names_another_auction_is_of_its_own(other: str, time: str) -> None:
     """Its row, and the time of that, are the opening's."""
-    verdict = judged(f"""
+    verdict = judged_lines(f"""
         new 09:00 A bid 10 10.00
         new 09:00:10 S ask 10 10.00
         uncross 09:01 10.00 10 0 none 1 opening
@@ -491,13 +467,13 @@ TIMED = {"13:00": "intraday", "17:30": "closing", "09:01": "opening"}
 ])  # fmt: skip
 def test_each_row_is_of_the_auction_of_its_time(lost: tuple[str, ...], has_names: bool) -> None:
     """Whichever results have no row: there are as many blocks of trades as auctions."""
-    verdict = judged(held_without(*lost, has_names=has_names))
+    verdict = judged_lines(held_without(*lost, has_names=has_names))
     assert verdict.word == "incomplete" and verdict.doubtful, str(verdict)
     assert [it.auction for it in verdict.doubtful] == [TIMED[it.time] for it in verdict.doubtful]
 
 
 def test_a_trade_of_an_auction_without_a_row_says_so() -> None:
-    verdict = judged(held_without("closing"))
+    verdict = judged_lines(held_without("closing"))
     assert str(verdict.doubtful[0]) == (
         "doubtful: row 10, 17:30, closing: trade: recorded bid C ask U: 30 at 10.10, "
         "lawful no such trade: the closing has no row: --auctions says which are held"
@@ -505,7 +481,7 @@ def test_a_trade_of_an_auction_without_a_row_says_so() -> None:
     assert verdict.explain(verdict.doubtful[0])[0] == "No row says what the closing published."
     assert not len(verdict.queue(verdict.doubtful[0]))
     named = held_without("closing").replace("C U 30 10.10", "C U 30 10.10 closing")
-    [finding] = judged(named).doubtful
+    [finding] = judged_lines(named).doubtful
     assert (finding.auction, finding.doubt) == ("closing", "the closing has no row uncross")
 
 
@@ -513,17 +489,17 @@ def test_a_trade_of_one_of_two_auctions_without_a_row_is_in_doubt_between_them()
     """An order that is entered below it says that the closing isn't over."""
     day = held_without("intraday", "closing")
     lone = day[: day.index("new 17:20")]
-    [finding] = judged(lone).doubtful
+    [finding] = judged_lines(lone).doubtful
     assert finding.auction == "intraday or closing" and "the intraday and the closing have no" in (
         finding.doubt
     )
-    [finding] = judged(f"{lone}new 17:20 C bid 30 9.00").doubtful
+    [finding] = judged_lines(f"{lone}new 17:20 C bid 30 9.00").doubtful
     assert finding.auction == "intraday"
 
 
 def test_orders_for_the_closing_alone_trade_in_it_without_its_row() -> None:
     """They are entered above the intraday auction, and nothing is between it and their trade."""
-    day = rows_of(held_without("closing"))
+    day = timed_rows(held_without("closing"))
     both = [row for row in day if row["time"] in ("17:20", "17:21")]
     rest = [row for row in day if row not in both]
     for row, time in zip(both, ("12:52", "12:53")):
@@ -551,7 +527,7 @@ def test_a_corrected_result_below_all_rows_condemns_no_day(
     """It has the time of its auction, or that of the correction; a day with a fault in another
     auction is unlawful.
     """
-    rows = rows_of(held_without(has_names=has_names))
+    rows = timed_rows(held_without(has_names=has_names))
     ends = [row for row in rows if row["event"] == "uncross"]
     right = dict(ends[number])
     ends[number]["price"] = f"{float(right['price']) + 0.02:.2f}"

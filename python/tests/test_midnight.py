@@ -7,16 +7,12 @@ from typing import Any
 import pytest
 from callauction.verdict import ExtractError, Reading, audit_events
 from damage import DAMAGES, timed_day
+from days import seconds
 from extracts import Extract
-from test_doubts import DAYS, SEEDS, planted
-from test_verdict import frame_of, judged
+from judging import frame_of, judged
+from planted import DAYS, SEEDS, planted
 
 DAY = 24 * 3600
-
-
-def seconds(text: str) -> int:
-    hours, minutes, rest = map(int, text.split(":"))
-    return hours * 3600 + minutes * 60 + rest
 
 
 def by_night(extract: Extract, seed: int) -> bool:

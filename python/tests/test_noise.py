@@ -5,8 +5,8 @@ from pathlib import Path
 import pytest
 from callauction.verdict import audit_events
 from damage import places
-from test_desk import UNCROSS, all_cells, audited, base_day, cells, text_of
-from test_verdict import frame_of
+from desk import UNCROSS, all_cells, audited, base_day, cells, text_of
+from judging import frame_of
 
 Printed = pytest.CaptureFixture[str]
 

@@ -5,8 +5,8 @@ from pathlib import Path
 
 import pytest
 from callauction.__main__ import main
+from desk import audited, base_day, text_of
 from extracts import Rows
-from test_desk import audited, base_day, text_of
 
 HEADER = "event,order,side,price,quantity,surplus,auction,trades,bid,ask,time\n"
 

@@ -10,23 +10,19 @@ from typing import Any
 
 import pytest
 from callauction.__main__ import main
-from callauction.verdict import page, shapes
+from callauction.verdict import page
 from damage import ORDERS, places
+from days import seconds
+from desk import TRADE, UNCROSS, audited, base_day, base_rows, text_of
 from extracts import Rows
-from logs import FixLog, line
-from test_desk import TRADE, UNCROSS, audited, base_day, text_of
-from test_shape_files import lawful_log, read_as
-from test_times import seconds
-from test_wrong_answers import order, small_day, traded, verdict_of
+from judging import read_as
+from logs import lawful_log
+from small_days import order, small_day, traded, verdict_of
 
 Printed = pytest.CaptureFixture[str]
 DAY = "2026-11-27"
 EPOCH = 1795737600
 """The first second of that day."""
-
-
-def base_rows() -> Rows:
-    return [dict(row) for row in base_day().rows]
 
 
 def shifted(time: str, by: int) -> str:

@@ -7,7 +7,7 @@ from typing import Any
 import pandas
 import pytest
 from callauction.verdict import Reading, Verdict, audit_events
-from test_meeting_damages import judged, rows_of
+from lines import judged_lines, timed_rows
 
 UNRESTRICTED = Reading(unrestricted=True)
 
@@ -28,12 +28,11 @@ def test_a_cancel_of_shares_above_a_replace_of_its_time_may_be_below_it(price: s
         uncross 09:00:00 10.00 400 100 ask 1 opening
         trade 09:00:00 C B 400 10.00 opening
     """
-    verdict = judged(day, auctions=["opening"])
+    verdict = judged_lines(day, auctions=["opening"])
     assert verdict.word == "incomplete", str(verdict)
     assert "rows 3 and 4 have one time" in str(verdict)
-    assert judged(day.replace("10.00 400 100", "10.00 400 200"), auctions=["opening"]).word == (
-        "unlawful"
-    )
+    other = judged_lines(day.replace("10.00 400 100", "10.00 400 200"), auctions=["opening"])
+    assert other.word == "unlawful"
 
 
 # ---- traces of orders that no row enters
@@ -49,7 +48,7 @@ TRACED = """
 
 
 def test_a_trade_of_which_one_side_is_not_said_may_be_of_an_order_without_a_row() -> None:
-    verdict = judged(TRACED.format("-"), auctions=["opening"])
+    verdict = judged_lines(TRACED.format("-"), auctions=["opening"])
     assert verdict.word == "incomplete", str(verdict)
     assert "the bid of the trade of row 4 isn't said: does a row enter it?" in str(verdict)
 
@@ -58,7 +57,7 @@ def test_a_trade_without_one_side_leaves_a_fault_of_trades_certain_where_results
     """The price, the volume and the surplus are lawful, so that no executed order is missing: A is
     before C, which is executed in its place.
     """
-    verdict = judged("""
+    verdict = judged_lines("""
         new 08:30 A bid 100 10.00
         new 08:31 C bid 100 10.00
         new 08:32 B ask 100 10.00
@@ -74,7 +73,7 @@ def test_a_trade_without_one_side_leaves_a_fault_of_trades_certain_where_results
 @pytest.mark.parametrize("bust", ["bust 09:40 Z B 100 10.00", "bust 09:40 Z B - 10.00"])
 def test_a_busted_trade_is_a_trace_of_its_order(bust: str) -> None:
     day = TRACED.format("Z") + f"new 09:30 E bid 400 10.00\n{bust}\n"
-    verdict = judged(day, auctions=["opening"])
+    verdict = judged_lines(day, auctions=["opening"])
     assert verdict.word == "incomplete", str(verdict)
     assert "row 4 is a trade of an order that no row enters" in str(verdict)
 
@@ -94,11 +93,11 @@ BUSTED = """
 
 @pytest.mark.parametrize("shares", ["100", "-"])
 def test_a_bust_whose_trade_has_no_row_excuses_that_trade_alone(shares: str) -> None:
-    verdict = judged(BUSTED.format("C", shares), auctions=["opening"])
+    verdict = judged_lines(BUSTED.format("C", shares), auctions=["opening"])
     assert verdict.word == "incomplete", str(verdict)
     assert "row 7 is a bust of it, and the trade may have no row" in str(verdict)
     for other in (("A", "100"), ("C", "90")):
-        verdict = judged(BUSTED.format(*other), auctions=["opening"])
+        verdict = judged_lines(BUSTED.format(*other), auctions=["opening"])
         assert verdict.word == "unlawful", str(verdict)
         assert "lawful bid C ask B: 100" in str(verdict)
 
@@ -124,7 +123,7 @@ def test_ids_of_trades_that_no_order_has_beside_a_bust_or_an_interruption(
 ) -> None:
     day = NAMED_OTHERWISE.format(above) + "new 09:30 E bid 400 10.00\n" + below
     span = "2%" if above else "6%"
-    verdict = judged(day.replace("10.00", "10.50"), auctions=["opening"], range=span)
+    verdict = judged_lines(day.replace("10.00", "10.50"), auctions=["opening"], range=span)
     assert verdict.word == "incomplete", str(verdict)
 
 
@@ -199,15 +198,15 @@ def test_words_for_a_member_that_is_not_known(word: str) -> None:
 
 def test_ids_of_trades_that_no_order_has_beside_a_trade_that_is_there_twice() -> None:
     day = NAMED_OTHERWISE.format("") + "trade 09:00 1D 1B 100 10.00 opening\n"
-    verdict = judged(day, auctions=["opening"])
+    verdict = judged_lines(day, auctions=["opening"])
     assert verdict.word == "incomplete", str(verdict)
     wrong = day.replace("100 10.00 opening", "90 10.00 opening")
-    assert judged(wrong, auctions=["opening"]).word == "unlawful"
+    assert judged_lines(wrong, auctions=["opening"]).word == "unlawful"
 
 
 def test_a_result_that_is_sent_again_with_another_sequence() -> None:
     """It is one auction's, below an order of the next call phase."""
-    rows = rows_of("""
+    rows = timed_rows("""
         new 08:30 A bid 100 10.00
         new 08:31 B ask 100 10.00
         uncross 09:00 10.00 100 0 none 1 opening

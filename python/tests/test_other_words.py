@@ -5,17 +5,13 @@ from pathlib import Path
 import pytest
 from callauction.verdict import Verdict, audit_events
 from damage import ORDERS, places, timed_day
+from desk import TRADE, UNCROSS, as_fills, audited, base_rows, text_of
 from extracts import Rows
-from test_desk import TRADE, UNCROSS, as_fills, audited, base_day, text_of
-from test_holes import rows_of
-from test_verdict import frame_of, judged
+from judging import frame_of, judged
+from lines import untimed_rows
 
 Printed = pytest.CaptureFixture[str]
 WORDS = ("NULL", "N/A", "NaN", "-", "--", "null", "#N/A")
-
-
-def base_rows() -> Rows:
-    return [dict(row) for row in base_day().rows]
 
 
 # ---- empty cells
@@ -127,7 +123,7 @@ def test_real_names_among_placeholders_condemn_no_day(
 
 def test_another_pairing_beside_placeholders_condemns_no_day() -> None:
     """Each order has its shares: A 60 and B 40, S 50 and T 50."""
-    rows = rows_of("""new A bid 60 10.00
+    rows = untimed_rows("""new A bid 60 10.00
 new B bid 40 10.00
 new S ask 50 10.00
 new T ask 50 10.00
@@ -185,7 +181,7 @@ def test_new_ids_in_another_spelling_condemn_no_day(
 
 def test_ids_in_another_spelling_beside_an_unread_surplus_condemn_no_day() -> None:
     """The interruption whose surplus can't be read is one in any spelling of the ids."""
-    rows = rows_of("""new A bid 100 10.10
+    rows = untimed_rows("""new A bid 100 10.10
 new S ask 100 10.10
 uncross 10.10 100 n/a
 new B bid 10 9.00
@@ -219,7 +215,7 @@ def test_ids_of_trades_that_are_all_of_no_order_condemn_no_day(
     change: Callable[[str], str]
 ) -> None:
     """Where all else fits they are written otherwise, or are of another column."""
-    rows = rows_of(WITH_PREFIX)
+    rows = untimed_rows(WITH_PREFIX)
     for row in rows[5:]:
         row |= {name: change(row[name]) for name in ("bid", "ask")}
     verdict = opening_of(rows)
@@ -228,17 +224,17 @@ def test_ids_of_trades_that_are_all_of_no_order_condemn_no_day(
 
 
 def test_one_known_id_or_shares_that_do_not_fit_leave_unknown_ids_certain() -> None:
-    rows = rows_of(WITH_PREFIX)
+    rows = untimed_rows(WITH_PREFIX)
     rows[5]["bid"] = "1001"
     assert opening_of(rows).word == "unlawful"
     for column, text in (("quantity", "59"), ("price", "10.01")):
-        rows = rows_of(WITH_PREFIX)
+        rows = untimed_rows(WITH_PREFIX)
         rows[7][column] = text
         assert opening_of(rows).word == "unlawful"
 
 
 def test_an_apostrophe_before_the_ids_of_trades_is_another_spelling() -> None:
-    rows = rows_of(WITH_PREFIX.replace("T-", "'000"))
+    rows = untimed_rows(WITH_PREFIX.replace("T-", "'000"))
     verdict = opening_of(rows)
     assert verdict.word == "incomplete", str(verdict)
     assert "are written in two ways" in str(verdict.doubtful[0])
@@ -278,7 +274,7 @@ def test_ids_that_replaces_gave_without_a_column_condemn_no_day(form: str) -> No
 
 
 def test_an_id_that_a_replace_may_have_given_is_named() -> None:
-    rows = rows_of("""new A1 bid 10 10.00
+    rows = untimed_rows("""new A1 bid 10 10.00
 new S1 ask 20 10.00
 replace A1 bid 15 10.00
 uncross 10.00 15 5
@@ -301,7 +297,7 @@ trade A7 S1 15 10.00""")
 
 
 def test_a_replace_gives_no_id_where_an_order_trades_by_its_own() -> None:
-    rows = rows_of("""new A1 bid 10 10.00
+    rows = untimed_rows("""new A1 bid 10 10.00
 new B1 bid 10 10.00
 new S1 ask 25 10.00
 replace A1 bid 15 10.00

@@ -10,7 +10,7 @@ from pathlib import Path
 import pytest
 from callauction.__main__ import main
 from callauction.verdict import shapes
-from test_desk import OPENING
+from desk import OPENING
 
 TERMS = ["--reference", "20.05", "--tick-size", "0.005"]
 DAY = [*TERMS, "--auctions", "opening"]

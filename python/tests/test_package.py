@@ -13,8 +13,7 @@ from callauction import Auction, RecordedAuction, Side, finder, library, program
 from callauction import verdict
 from callauction.journal import from_frame
 from callauction.verdict import findings
-from test_journal import ADLER_AND_BIRK
-from test_wrong_answers import small_day, verdict_of
+from small_days import ADLER_AND_BIRK, small_day, verdict_of
 
 
 def printed(code: str) -> str:

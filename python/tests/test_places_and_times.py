@@ -7,8 +7,8 @@ import pytest
 from callauction.verdict import Reading, Verdict
 from damage import ORDERS, places, timed_day, unread_below
 from extracts import Extract, Rows
-from test_doubts import DAYS, planted
-from test_verdict import judged
+from judging import judged
+from planted import DAYS, planted
 
 BID = dict(event="new", order="B1", side="bid", price="20.00", quantity="300", time="08:50:01")
 ASK = dict(event="new", order="S1", side="ask", price="19.95", quantity="200", time="08:50:02")

@@ -14,7 +14,7 @@ from callauction.plot import parts
 from callauction.program import Day
 from callauction.recording import RecordedAuction
 from callauction.tables import BOOK, book_at, books_of, journal_of, table_of
-from days import EXAMPLES, day_of, form_of
+from days import EXAMPLES, day_of, form_of, stored, wide_day
 from matplotlib.axes import Axes
 
 
@@ -62,10 +62,6 @@ def points(axes: Axes, label: str) -> list[tuple[int, int]]:
 
 def ticks(axes: Axes) -> list[str]:
     return [text.get_text() for text in axes.get_yticklabels()]
-
-
-def stored(name: str) -> pandas.DataFrame:
-    return table_of(form_of(Path(name), "book"), BOOK)
 
 
 def example(name: str) -> Day:
@@ -259,16 +255,6 @@ def test_pictures_side_by_side_keep_their_legends(tmp_path: Path) -> None:
     figure.savefig(tmp_path / "four.png")
     for axes in panels.flat:
         assert lies_within(axes.get_legend().get_window_extent(), axes.get_window_extent())
-
-
-def wide_day() -> Day:
-    """An order at each of 65,536 ticks."""
-    orders = (
-        f"1,enter,{'bid' if tick % 2 else 'ask'},{tick % 97 + 1},{tick}\n"
-        for tick in range(1, 65_537)
-    )
-    words = ("--high", "65536", "--reference", "30000", "--open", "65536", "--calls", "65537")
-    return Day("".join(orders).encode("ascii"), words)
 
 
 def test_two_ticks_are_readable(tmp_path: Path) -> None:

@@ -7,8 +7,8 @@ import pytest
 from callauction.course import references_of
 from callauction.program import Day
 from callauction.reasons import explain
-from callauction.tables import BOOK, book_at, books_of, journal_of, table_of
-from days import EXAMPLES, day_of, form_of
+from callauction.tables import book_at, books_of, journal_of
+from days import EXAMPLES, day_of, stored
 from explained import DECIDED
 
 LAST = 2
@@ -26,10 +26,6 @@ def executed(price: "pandas.Series") -> list[str]:
         f"supply, of asks at market and from {tick} down, is {price['supply']}.",
         f"The lesser of the two, {price['volume']}, can be executed, and {rest}.",
     ]
-
-
-def stored(name: str) -> pandas.DataFrame:
-    return table_of(form_of(Path(name), "book"), BOOK)
 
 
 def test_each_example_is_worked_out() -> None:

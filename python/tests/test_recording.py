@@ -17,8 +17,7 @@ from callauction.written import command_of, fields_of, text_of
 from days import EXAMPLES, auctions, by_the_rules, commands, day_of, form_of
 from hypothesis import given, settings, strategies
 from forks import in_a_child
-from printed import commands_of
-from test_tables import csv_of
+from printed import commands_of, csv_of
 
 
 def replayed(file: Path) -> RecordedAuction:

@@ -10,10 +10,9 @@ from callauction import finder, pages, report
 from callauction.__main__ import main, watched
 from callauction.program import Day
 from callauction.tables import read_journal
-from days import EXAMPLES, day_of, options_of
+from days import EXAMPLES, day_of, options_of, wide_day
 from printed import TOP
-from test_journal import ADLER_AND_BIRK
-from test_plots import wide_day
+from small_days import ADLER_AND_BIRK
 
 CHANGED = TOP / "examples/audits/changed.csv"
 CONVERSION = ["--tick-size", "0.01", "--reference", "19.90"]

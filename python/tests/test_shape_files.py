@@ -6,23 +6,15 @@ from pathlib import Path
 
 import pytest
 from callauction.__main__ import main
-from callauction.verdict import Reading, Verdict, audit_events, audit_instruments, shapes
+from callauction.verdict import Reading, audit_events, audit_instruments, shapes
 from damage import places, timed_day
+from desk import base_day, text_of
 from extracts import TOP, Extract, random_day
-from logs import FixLog, instant, kept_for_supervision, line
-from test_desk import base_day, text_of
-from test_verdict import frame_of, judged
+from judging import frame_of, judged, read_as
+from logs import FixLog, instant, kept_for_supervision, lawful_log, line
 
 EXTRACTS = TOP / "examples/extracts"
 SEEDS = range(25)
-
-
-def read_as(shape: str, text: str, extract: Extract, path: Path) -> Verdict:
-    path.write_text(text, encoding="utf-8")
-    return audit_events(
-        path, reference=extract.reference, range=extract.range, tick_size="0.01",
-        reading=shapes.reading_of(shape),
-    )  # fmt: skip
 
 
 # ---- the stored examples
@@ -96,10 +88,6 @@ def test_a_result_with_the_name_of_another_auction_is_one_finding(tmp_path: Path
             assert found == [("auction", names[place - 1], names[place])], f"{seed}\n{verdict}"
             count += len(verdict.findings)
     assert count > 5
-
-
-def lawful_log(has_results: bool = True) -> FixLog:
-    return FixLog(base_day(), 1, has_results)
 
 
 def test_a_csv_file_of_execution_reports_may_have_tags_or_names(tmp_path: Path) -> None:

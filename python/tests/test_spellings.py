@@ -8,9 +8,9 @@ from callauction.verdict import Verdict, audit_events
 from damage import places, timed_day
 from extracts import Rows
 from faults import FAULTS
-from test_doubts import DAYS
-from test_holes import rows_of
-from test_verdict import frame_of, judged
+from judging import frame_of, judged
+from lines import untimed_rows
+from planted import DAYS
 
 FORMS = (("{:04}", "{}"), ("A-{}", "A{}"), ("A{:03}", "a{}"), ("7{:04}-X", "7{:04}X"))
 """How an id is written by its number, in one way and in the other."""
@@ -77,7 +77,7 @@ BEYOND = ("trade {other}31 {other}41", "trade {own}18 {own}41")
 
 def verdict_on(text: str) -> Verdict:
     """The verdict on lines of an opening and a closing."""
-    rows = rows_of(text)
+    rows = untimed_rows(text)
     rows[3] |= {"auction": "opening", "side": "bid"}
     rows[8] |= {"auction": "closing", "side": "none"}
     for place in places(rows, "trade"):

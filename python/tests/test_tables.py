@@ -7,17 +7,7 @@ import pytest
 from callauction.program import BadDayError, BadFileError, Day
 from callauction.tables import BOOK, JOURNAL, TRADES, book_at, books_of, journal_of, trades_of
 from days import AUDITS, EXAMPLES, day_of, form_of, options_of
-
-
-def csv_of(frame: pandas.DataFrame) -> str:
-    """A frame as the program prints it: the market orders' limit is a word again, and the column
-    of the rule is headed `price`.
-    """
-    written = frame.astype("object").where(frame.notna(), "")
-    if "best" in written:
-        written["limit"] = written["limit"].replace("", "market")
-        written = written.rename(columns={"rule": "price"})
-    return str(written.to_csv(index=False))
+from printed import csv_of
 
 
 @pytest.mark.parametrize("file", EXAMPLES, ids=[file.stem for file in EXAMPLES])

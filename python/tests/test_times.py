@@ -5,15 +5,12 @@ from pathlib import Path
 
 import pytest
 from damage import ORDERS, places
+from days import seconds
+from desk import TRADE, UNCROSS, audited, base_rows, by_order, text_of
 from extracts import Rows
-from test_desk import TRADE, UNCROSS, audited, base_day, by_order, text_of
 
 Printed = pytest.CaptureFixture[str]
 Form = Callable[[str], str]
-
-
-def base_rows() -> Rows:
-    return [dict(row) for row in base_day().rows]
 
 
 def timed(form: Form, *events: str) -> Rows:
@@ -22,11 +19,6 @@ def timed(form: Form, *events: str) -> Rows:
     for place in places(rows, *(events or (*ORDERS, UNCROSS, TRADE))):
         rows[place]["time"] = form(rows[place]["time"])
     return rows
-
-
-def seconds(time: str) -> int:
-    hour, minute, second = map(int, time.split(":"))
-    return 3600 * hour + 60 * minute + second
 
 
 def halved(time: str) -> str:

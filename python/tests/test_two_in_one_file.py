@@ -6,10 +6,10 @@ import itertools
 import pytest
 from callauction.verdict import ExtractError, Reading, Verdict, audit_events
 from damage import places, timed_day
+from desk import TRADE, UNCROSS, base_day
 from extracts import Extract, Rows
-from test_desk import TRADE, UNCROSS, base_day
-from test_meeting_damages import judged as judged_lines
-from test_verdict import frame_of
+from judging import frame_of
+from lines import judged_lines
 
 
 def judged(rows: Rows, day: Extract, sort: bool = False) -> Verdict:

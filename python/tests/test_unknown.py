@@ -8,19 +8,15 @@ from pathlib import Path
 import pytest
 from callauction.__main__ import main
 from damage import places, timed_day
+from desk import LINE, TRADE, UNCROSS, audited, base_day, base_rows, text_of
 from extracts import Extract, Rows
-from test_desk import LINE, TRADE, UNCROSS, audited, base_day, text_of
-from test_doubts import DAYS, planted
-from test_verdict import judged
-from test_wrong_answers import small_day, verdict_of
+from judging import judged
+from planted import DAYS, planted
+from small_days import small_day, verdict_of
 
 Printed = pytest.CaptureFixture[str]
 WORDS = ("#REF!", "#N/A", "#VALUE!", "#NAME?", "#DIV/0!", "#NUM!", "#NULL!", "n.a.", "n/a", "None",
          "nil", "null", "TBD", "?", "???", "-", "\u2014", "\u2013\u2013")  # fmt: skip
-
-
-def base_rows() -> Rows:
-    return [dict(row) for row in base_day().rows]
 
 
 # ---- cells that say nothing

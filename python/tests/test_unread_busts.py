@@ -8,8 +8,8 @@ import pytest
 from callauction.verdict import Verdict
 from damage import DAMAGES, UNREADABLE, places, timed_day
 from extracts import Extract, Rows
-from test_doubts import DAYS, SEEDS
-from test_verdict import judged
+from judging import judged
+from planted import DAYS, SEEDS
 
 CELLS = ("price", "quantity", "bid", "bid_member")
 """What a trade may have wrong."""

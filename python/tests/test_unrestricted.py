@@ -7,8 +7,8 @@ import pytest
 from callauction.verdict import Reading, Verdict, restricted
 from damage import DAMAGES, places, timed_day
 from extracts import Extract
-from test_doubts import DAYS, SEEDS
-from test_verdict import judged
+from judging import judged
+from planted import DAYS, SEEDS
 
 NONE = Reading(unrestricted=True)
 

@@ -8,10 +8,11 @@ from typing import Any
 
 import pandas
 import pytest
-from callauction.verdict import Verdict, audit_events
+from callauction.verdict import audit_events
 from extracts import Extract, Recorder, Rows, price_of, random_day
 from faults import FAULTS
 from hypothesis import HealthCheck, given, settings, strategies
+from judging import frame_of, judged
 from shapes import SHAPES, Shape, written
 
 from checks.model import day as model
@@ -20,19 +21,6 @@ SEEDS = strategies.integers(0, 2**32)
 MANY = settings(deadline=None, max_examples=1000, suppress_health_check=[HealthCheck.too_slow])
 SOME = settings(deadline=None, max_examples=30, suppress_health_check=[HealthCheck.too_slow])
 ITEMS = ("price", "quantity", "surplus", "side", "auction", "trades")
-
-
-def frame_of(rows: Rows) -> pandas.DataFrame:
-    """The rows as a frame with the columns that each extract has."""
-    names = dict.fromkeys(name for row in rows for name in row)
-    columns = [*dict.fromkeys(["event", "order", "side", "price", "quantity", *names])]
-    return pandas.DataFrame(rows, columns=columns, dtype="object")
-
-
-def judged(extract: Extract, **options: Any) -> Verdict:
-    """The verdict on an extract as a frame."""
-    terms: dict[str, Any] = dict(reference=extract.reference, range=extract.range, tick_size="0.01")
-    return audit_events(frame_of(extract.rows), **terms | options)
 
 
 # ---- nothing lawful is condemned

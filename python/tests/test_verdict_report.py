@@ -10,10 +10,10 @@ import pytest
 from callauction.__main__ import main
 from callauction.verdict import page
 from callauction.verdict.orders import members_of
-from test_verdict import frame_of, judged
-from test_wrong_answers import small_day, verdict_of
+from judging import frame_of, judged
 
 from extracts import TOP, Rows, random_day
+from small_days import small_day, verdict_of
 
 EXTRACT = TOP / "examples/extracts/german.csv"
 

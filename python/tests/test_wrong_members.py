@@ -7,8 +7,8 @@ from typing import Any
 import pytest
 from callauction.verdict import Reading, Verdict, audit_events
 from damage import timed_day, wrong_member
-from test_meeting_damages import rows_of
-from test_verdict import frame_of, judged
+from judging import frame_of, judged
+from lines import timed_rows
 
 SEEDS = range(16)
 
@@ -17,7 +17,7 @@ def opening(text: str, members: dict[str, str], **cells: dict[str, str]) -> Verd
     """The verdict on an opening of these lines; each row of an order, and each trade, has the
     members that are said of its orders, but for these cells of rows by the names of places.
     """
-    rows = rows_of(text)
+    rows = timed_rows(text)
     for row in rows:
         names = {"bid": "bid_member", "ask": "ask_member", "order": "member"}
         row |= {names[it]: members[row[it]] for it in names if row.get(it) in members}
@@ -102,7 +102,7 @@ def renamed(codes: dict[str, str], cells: dict[str, dict[str, str]] = {}) -> Ver
     names = {order: codes.get(member, member) for order, member in members.items()}
     own = {
         f"row{place}": {"bid_member": names[row["bid"]], "ask_member": names[row["ask"]]}
-        for place, row in enumerate(rows_of(MERGED)) if row["event"] == "trade"
+        for place, row in enumerate(timed_rows(MERGED)) if row["event"] == "trade"
     }  # fmt: skip
     return opening(MERGED, members, **{it: own[it] | cells.get(it, {}) for it in own})
 

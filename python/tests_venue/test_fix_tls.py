@@ -14,7 +14,7 @@ import pytest
 import served
 from callauction.fix.wires import LINGER_SECONDS
 from callauction.venue.gates import HEAD_SECONDS
-from fixing import SOH, Closed, Peer
+from fixing import SOH, Peer
 from patience import TIMED
 from served import Served
 from test_operations import certificate

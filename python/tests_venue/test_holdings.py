@@ -2,7 +2,6 @@
 import asyncio
 
 import pytest
-import served
 from callauction.venue import AsyncClient, VenueError
 from callauction.venue.accounts import Fill
 from callauction.venue.gains import Value

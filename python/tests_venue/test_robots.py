@@ -11,7 +11,7 @@ import aiohttp
 import judged
 import pytest
 import served
-from callauction.venue import AsyncClient, Client, VenueError
+from callauction.venue import Client, VenueError
 from conftest import FAST
 from served import Served
 from test_messages import RECEIVED, SENT

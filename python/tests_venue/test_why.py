@@ -1,7 +1,6 @@
 """Why an auction has its price, as the screen says it: each sentence holds of the book, by the
 rules of docs/MODEL.md, which are stated again here.
 """
-import pathlib
 import random
 import re
 from collections.abc import Iterator, Mapping
