@@ -1,5 +1,5 @@
 """Times of an extract in many forms: what can't be read says nothing of which row came first."""
-import re
+import json
 from collections.abc import Callable
 from pathlib import Path
 
@@ -123,8 +123,8 @@ def test_one_time_that_cannot_be_read_leaves_what_is_above_certain(tmp_path: Pat
 
 @pytest.mark.parametrize("event", ["new", "cancel", UNCROSS])
 @pytest.mark.parametrize("time, said", [
-    ("", "row {} has no time, and which row came first decides"),
-    ("9h", "the time of row {}, '9h', can't be read, and which row came first decides"),
+    ("", "rows without a time, which nothing says where to sort, such as row {}: 1\n"),
+    ("9h", "times that can't be read, such as '9h': 1\n"),
 ])  # fmt: skip
 def test_one_row_without_a_time_among_sorted_ones_leaves_the_day_in_doubt(
     event: str, time: str, said: str, tmp_path: Path, capsys: Printed
@@ -137,7 +137,7 @@ def test_one_row_without_a_time_among_sorted_ones_leaves_the_day_in_doubt(
     rows = by_order(rows)
     assert audited(text_of(rows), ["--sort"], tmp_path) == 5
     row = 2 + next(at for at, it in enumerate(rows) if it["time"] == time)
-    assert said.format(row) in "".join(capsys.readouterr())
+    assert said.format(row) in capsys.readouterr().err
 
 
 def test_what_no_book_gives_is_certain_beside_a_row_without_a_time(tmp_path: Path) -> None:
@@ -154,8 +154,10 @@ def test_a_row_without_a_time_is_of_its_instrument_alone(tmp_path: Path, capsys:
     words = ["--sort", "--by", "isin"]
     assert audited(text_of(both), words, tmp_path) == 5
     printed = capsys.readouterr().out
-    assert re.search(r"(?m)^DE1\b.*\blawful", printed), printed
-    assert re.search(r"(?m)^DE2\b.*\bincomplete", printed), printed
+    assert "DE2, doubtful: row " in printed and "DE1" not in printed
+    assert audited(text_of(both), [*words, "--json"], tmp_path) == 5
+    words_of = [json.loads(line)["verdict"] for line in capsys.readouterr().out.splitlines()]
+    assert words_of[:2] == ["lawful", "incomplete"]
 
 
 @pytest.mark.parametrize("time", ["", "9h"])

@@ -62,6 +62,7 @@ class Doubts:
         self.falls = self._falls()
         self.other_day = self._other_day()
         self.odd = self._odd()
+        self._may_be_another = rows.is_sorted and bool(rows.is_odd[uncrosses].any())
         self.bad = sorted([*self._from_first(rows.bad), *rows.holes], key=lambda row: row.since)
         unread = [row.place for row in rows.bad if row.is_order and row.place >= 0]
         self.all_orders = numpy.union1d(orders, numpy.array(unread, "i8"))
@@ -192,12 +193,14 @@ class Doubts:
 
     def of_name(self, place: int) -> str:
         """Why an uncross may be another auction's than the due one, or late: that is no matter of
-        books, but rows of results may be missing, or do what isn't known.
+        books, but rows of results may be missing, do what isn't known, or have no place.
         """
         if self.gap is not None and place >= self.gap[0]:
             return self.gap[1]
         if self.rows.next_day:
             return self.rows.next_day
+        if self.odd is not None and self._may_be_another:
+            return self.odd[1].text
         odd = (row for row in self.bad if row.doubt is Doubt.ANY and row.since < place)
         return next((row.unknown for row in odd), "")
 

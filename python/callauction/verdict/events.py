@@ -136,8 +136,11 @@ def _note_odd_times(rows: Rows) -> None:
     """Notes the times that can't be read, and the rows without one that were sorted."""
     if not rows.is_odd.any():
         return
-    codes, texts = rows.names.texts(numpy.flatnonzero(rows.is_odd), rows.names.theirs["time"])
-    rows.notes[UNTIMED] += int((codes < 0).sum())
+    odd = numpy.flatnonzero(rows.is_odd)
+    codes, texts = rows.names.texts(odd, rows.names.theirs["time"])
+    if (codes < 0).any():
+        first = rows.labels[odd[codes < 0][0]]
+        rows.notes[f"{UNTIMED}, such as row {first}"] += int((codes < 0).sum())
     if texts:
         cell = texts[int(codes[codes >= 0][0])]
         rows.notes[f"{UNREAD_TIMES}, such as {cell!r}"] += int((codes >= 0).sum())
