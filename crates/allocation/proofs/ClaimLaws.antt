@@ -20,11 +20,11 @@ use Rattle.auction_terms.specs.declared.Side.{Side}
 use Rattle.auction_terms.specs.declared.Side.TheVariants.{Bid, Ask}
 use Rattle.auction_terms.specs.declared.AuctionKind.{AuctionKind}
 use Rattle.auction_terms.specs.declared.Stamped.{Stamped}
-use Rattle.auction_terms.specs.Allotment.{by_rank, PlacedOrder, eligible_orders}
+use Rattle.auction_terms.specs.Allotment.{by_limit, by_rank, PlacedOrder, eligible_orders}
 use Rattle.auction_terms.specs.Book.{eligible_quantity, participates_in, is_eligible_on}
 use Rattle.auction_terms.specs.Auxiliary.StampedOrders.{placed_by_stamp, order_of, orders_of, open_quantity_of}
 use Rattle.auction_terms.specs.Auxiliary.StampedOrders.{auction_line, IsLineOf}
-use Rattle.auction_terms.specs.Auxiliary.RankedFills.{requested_fill, price_order, ranked_orders}
+use Rattle.auction_terms.specs.Auxiliary.RankedFills.{requested_fill, ranked_orders}
 use Rattle.auction_terms.specs.declared.Order.{Order}
 use Rattle.auction_terms.specs.Auxiliary.Sort.{in_order, SameItems}
 use Rattle.auction_terms.proofs.SortLaws.{Before, Rising, Upto, Up, up_from_sorted, sum_by-in_order, rising_in_order}
@@ -308,8 +308,8 @@ length-ranked : (side : Side) (price : ℕ) (book : List Order) → length (rank
     ≡ count_by (is_eligible_on side price) book
 unfolding ranked_orders
 length-ranked side price book =
-    length-ones (in_order (price_order side) (filter (is_eligible_on side price) book))
-    ∙ sum_by-in_order (price_order side) (λ _. 1) (filter (is_eligible_on side price) book)
+    length-ones (in_order (by_limit side) (filter (is_eligible_on side price) book))
+    ∙ sum_by-in_order (by_limit side) (λ _. 1) (filter (is_eligible_on side price) book)
     ∙ sym (length-ones (filter (is_eligible_on side price) book)) ∙ length-filter (is_eligible_on side price) book
 
 length-claims : (side : Side) (price : ℕ) (book : List Order) (claims : List Claim) → IsRanked side price book claims

@@ -18,9 +18,9 @@ use Rattle.auction_terms.specs.declared.Restriction.{Restriction}
 use Rattle.auction_terms.specs.declared.Restriction.TheVariants.{Unrestricted, OpeningOnly, ClosingOnly}
 use Rattle.auction_terms.specs.declared.Order.{Order}
 use Rattle.auction_terms.specs.declared.Stamped.{Stamped}
-use Rattle.auction_terms.specs.Allotment.{by_rank, PlacedOrder}
+use Rattle.auction_terms.specs.Allotment.{by_limit, by_rank, PlacedOrder}
 use Rattle.auction_terms.specs.Book.{is_on}
-use Rattle.auction_terms.specs.Priority.{by_limit, is_by, orders_by, side_in_priority}
+use Rattle.auction_terms.specs.Priority.{is_by, orders_by, side_in_priority}
 use Rattle.auction_terms.specs.Auxiliary.Sort.{in_order, SameItems}
 use Rattle.auction_terms.specs.Auxiliary.StampedOrders.{placed_by_stamp, orders_of, IsLineOf}
 use Rattle.auction_terms.proofs.FillLaws.{sum_by-map}

@@ -19,9 +19,9 @@ use Rattle.auction_terms.specs.declared.Order.{Order}
 use Rattle.auction_terms.specs.declared.Side.{Side}
 use Rattle.auction_terms.specs.declared.Side.TheVariants.{Bid}
 use Rattle.auction_terms.specs.declared.Trade.{Trade}
-use Rattle.auction_terms.specs.Allotment.{fills_of, is_positive, pairings, spans, trade_of_overlap, trades}
+use Rattle.auction_terms.specs.Allotment.{by_limit, fills_of, is_positive, pairings, spans, trade_of_overlap, trades}
 use Rattle.auction_terms.specs.Auxiliary.OrderLists.{IsOrderly}
-use Rattle.auction_terms.specs.Auxiliary.RankedFills.{allot, price_order, ranked_orders, requested_fill}
+use Rattle.auction_terms.specs.Auxiliary.RankedFills.{allot, ranked_orders, requested_fill}
 use Rattle.auction_terms.specs.Auxiliary.Sort.{in_order, place_in}
 use Rattle.auction_terms.specs.Book.{auction_orders, is_eligible_on, participates_in, volume}
 use Rattle.auction_terms.specs.Day.{visible_of}
@@ -69,7 +69,7 @@ small-fills_of : (side : Side) (book : List Order) (price : ℕ) → All (λ o. 
 unfolding ranked_orders
 small-fills_of side book price all =
     let ranked =
-    All-in_order (λ (o : Order). o.quantity ≤ MAX_QUANTITY) (price_order side) _
+    All-in_order (λ (o : Order). o.quantity ≤ MAX_QUANTITY) (by_limit side) _
     (All-filter (is_eligible_on side price) (λ (o : Order). o.quantity ≤ MAX_QUANTITY) book all) in
     let asked = All-map IsSmall requested_fill _ ranked in
     subst (All IsSmall) (sym (fills_of_is side book price))

@@ -5,18 +5,19 @@ use Rattle.std.proofs.Common.{inl, inr}
 use Rattle.std.proofs.lemmas.List.{length-map, length_push, map-append}
 use Rattle.std.proofs.lemmas.List.Sums.{count_by-le-length, sum_by_push}
 use Rattle.std.proofs.Math.Dec.{eqb-suc-zero}
-use Rattle.std.specs.Prelude.{◌⊎◌, ◌&&◌, cond, unwrap_or, IfSome}
+use Rattle.std.specs.Prelude.{◌⊎◌, ◌&&◌, cond, unwrap_or}
 use Rattle.std.specs.Option.{option_map_or}
 use Rattle.std.specs.List.{position_from}
 use Rattle.auction.specs.ConfigFault.{open_fault}
 use Rattle.auction.specs.declared.OpenFault.{OpenFault}
 use Rattle.auction.specs.declared.OpenFault.TheVariants.{BadBounds, BadCapacity, BadReference, NoMemory}
-use Rattle.auction_terms.specs.declared.Config.{Config}
 use Rattle.auction_terms.specs.Auxiliary.RunningAuction.{RunningAuction, auction_after, opened_auction}
 use Rattle.auction_terms.specs.Results.{◌>>=◌}
-use Rattle.auction_terms.specs.Day.{State, opening_state, replies_from, state_after, step}
+use Rattle.auction_terms.specs.Day.{opening_state, state_after}
 use Rattle.day_road.specs.Heard.{HeardEntry, HearsAll, after_all, heard_from}
-use Rattle.journal.specs.EntryRecord.{RecordedCall, call_part, reply_part}
+use Rattle.day_road.specs.ReplyPairs.{ReplyPair, pair_in, pairs_in}
+use Rattle.day_road.proofs.HeardLaws.{heard-pairs}
+use Rattle.journal.specs.EntryRecord.{RecordedCall, call_part}
 use Rattle.journal.specs.JournalEntries.{day_left, entries_left}
 use Rattle.journal.specs.JournalFile.{RecordedDay, journal_of, recorded_day}
 use Rattle.journal.specs.declared.day.DayHeader.{DayHeader}
@@ -27,9 +28,9 @@ use Rattle.order_file.specs.File.{FailsAsWanted, within_limit}
 use Rattle.order_file.specs.declared.fault.FileFault.{FileFault}
 use Rattle.order_file.specs.declared.fault.FileFault.TheVariants as file
 use Rattle.auction_c.specs.Calling.{fault_number}
-use Rattle.auction_c.specs.Journals.{ReplyPair, auction_in, is_compared}
-use Rattle.auction_c.specs.Journals.{is_unlawful, journal_error, journal_found, journal_in, pair_of, paired, pairs_in}
-use Rattle.auction_c.specs.JournalReading.{HasCompared, Reads, ReadsText, Refuses, pair_in, compared_of}
+use Rattle.auction_c.specs.Journals.{auction_in, is_compared}
+use Rattle.auction_c.specs.Journals.{is_unlawful, journal_error, journal_found, journal_in}
+use Rattle.auction_c.specs.JournalReading.{HasCompared, Reads, ReadsText, Refuses, compared_of}
 use Rattle.auction_c.specs.JournalReading.{compared_with, first_with, told}
 use Rattle.auction_c.specs.declared.errors.TheConstants.{BAD_JOURNAL, DONE, NO_MEMORY}
 use Rattle.auction_c.specs.declared.journals.comparing.Compared.{Compared}
@@ -121,14 +122,6 @@ counts-within c auction heard (counts, came) =
 
 -- ---- all
 
-heard-pairs : (config : Config) (state : State) (rs : List RecordedCall)
-    → map pair_in (heard_from config state rs)
-    ≡ paired (map reply_part rs) (replies_from config state (map call_part rs))
-heard-pairs config state [] = refl
-heard-pairs config state (r ∷ rs) =
-    ap (λ (rest : List ReplyPair). pair_of r.text (step config state r.call).1 ∷ rest)
-    (heard-pairs config (step config state r.call).0 rs)
-
 after-is : (day : DayHeader) (rs : List RecordedCall)
     → after_all (opened_auction day.config) rs ≡ auction_after day.config (map call_part rs)
 after-is day rs =
@@ -193,11 +186,6 @@ config-refused said j old fault is why =
       fault = λ e. absurd (omega (arith, e, below));
       same = λ _. refl;
     }
-
--- where it is opened there is nothing against it
-pub open-none : {X : Type 0} (why : Option OpenFault) (x : X) → IfSome why (λ fault. Ok x ≡ Err fault) → why ≡ None
-open-none None x h = refl
-open-none (Some w) x h = absurd (cc h)
 
 -- ---- the text
 

@@ -6,6 +6,7 @@ use Rattle.auction_terms.specs.declared.Entry.{Entry}
 use Rattle.auction_terms.specs.declared.Price.{Price}
 use Rattle.auction_terms.specs.Auxiliary.RunningAuction.{RunningAuction}
 use Rattle.day_road.specs.Heard.{HeardEntry}
+use Rattle.day_road.specs.ReplyPairs.{ReplyPair, pair_in}
 use Rattle.journal.specs.JournalFile.{RecordedDay}
 use Rattle.journal.specs.PrintedJournal.{call_line}
 use Rattle.order_file.specs.declared.fault.FileFault.{FileFault}
@@ -13,7 +14,7 @@ use Rattle.order_file.specs.declared.fault.FileFault.TheVariants.{TooLong, ReadF
 use Rattle.order_file.specs.declared.fault.FileFault.TheVariants.{BadField, TooManyCommands, NotADay}
 use Rattle.order_file.specs.declared.fault.FileFault.TheVariants.{NoMemory as MemoryRefused}
 use Rattle.auction_c.specs.Encoding.{flag_out}
-use Rattle.auction_c.specs.Journals.{ReplyPair, StopsAt, pair_of, auction_in, first_unlawful_call, journal_found}
+use Rattle.auction_c.specs.Journals.{StopsAt, auction_in, first_unlawful_call, journal_found}
 use Rattle.auction_c.specs.Journals.{is_compared, is_unlawful, journal_error, journal_in, lines_found}
 use Rattle.auction_c.specs.ReadBack.{price_back}
 use Rattle.auction_c.specs.declared.errors.TheConstants.{BAD_JOURNAL, DONE, NO_MEMORY}
@@ -72,10 +73,6 @@ told c members calls = record {
   first_unlawful = c.first_unlawful;
   taken = 0;
 }
-
--- a recorded text beside the lawful reply
-abbrev pub pair_in : HeardEntry → ReplyPair
-pair_in heard = pair_of heard.recording.text heard.reply
 
 -- these were compared, and are all that came to this auction
 abbrev pub HasCompared : Comparison → RunningAuction → List HeardEntry → Type 0

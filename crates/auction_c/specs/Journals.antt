@@ -18,8 +18,8 @@ use Rattle.auction_terms.specs.declared.Reply.TheVariants.{Entered, Changed, Del
 use Rattle.auction_terms.specs.declared.Reply.TheVariants.{Uncrossed, Interrupted, Refused}
 use Rattle.auction_terms.specs.declared.limits.TheConstants.{MAX_MEMBERS, MAX_TICK}
 use Rattle.auction_terms.specs.Auxiliary.RunningAuction.{RunningAuction, auction_after}
-use Rattle.auction_terms.specs.Day.{replay}
 use Rattle.auction_terms.specs.Results.{◌>>=◌}
+use Rattle.day_road.specs.ReplyPairs.{ReplyPair, pairs_in}
 use Rattle.journal.specs.JournalFile.{RecordedDay, journal_of}
 use Rattle.journal.specs.JournalText.{journal_text}
 use Rattle.journal.specs.PrintedJournal.{call_line, call_lines}
@@ -31,7 +31,6 @@ use Rattle.order_file.specs.declared.fault.FileFault.{FileFault}
 use Rattle.order_file.specs.declared.fault.FileFault.TheVariants.{TooLong, ReadFailed, BadMember, BadCommand, BadCount}
 use Rattle.order_file.specs.declared.fault.FileFault.TheVariants.{BadField, TooManyCommands, NotADay}
 use Rattle.order_file.specs.declared.fault.FileFault.TheVariants.{NoMemory as MemoryRefused}
-use Rattle.printed_lines.specs.ReplyWords.{reply_text}
 use Rattle.auction_c.specs.declared.errors.TheConstants.{BAD_JOURNAL, BAD_MEMBER, DONE, NO_CONFIG, NO_ENTRY, NO_MEMORY}
 use Rattle.auction_c.specs.declared.structs.AuctionCommand.{AuctionCommand}
 use Rattle.auction_c.specs.declared.structs.AuctionConfig.{AuctionConfig}
@@ -164,23 +163,6 @@ pub record WritesLines (entries : List AuctionEntry) (old new : List ℕ) (copie
 -- comes that all of the text is too long
 unfoldable pub journal_in : List ℕ → Result RecordedDay FileFault
 journal_in text = within_limit MAX_JOURNAL_BYTES text >>= λ whole. journal_of (committed whole)
-
--- a recorded reply, empty where none was recorded, beside the lawful one
-pub record ReplyPair : Type 0 where
-  pub recorded : List ℕ
-  pub lawful : List ℕ
-
-abbrev pub pair_of : List ℕ → Reply → ReplyPair
-pair_of text reply = record { recorded = text; lawful = reply_text reply }
-
-abbrev pub paired : List (List ℕ) → List Reply → List ReplyPair
-paired [] replies = []
-paired (text ∷ texts) [] = []
-paired (text ∷ texts) (reply ∷ replies) = pair_of text reply ∷ paired texts replies
-
--- each recorded reply of a day beside the replay's
-abbrev pub pairs_in : RecordedDay → List ReplyPair
-pairs_in j = paired j.texts (replay j.day.config j.calls).1
 
 abbrev pub has_text : List ℕ → Bool
 has_text [] = false

@@ -14,9 +14,9 @@ use Rattle.auction_terms.specs.declared.Side.{Side}
 use Rattle.auction_terms.specs.declared.Limit.{Limit}
 use Rattle.auction_terms.specs.declared.Order.{Order}
 use Rattle.auction_terms.specs.declared.Fill.{Fill}
-use Rattle.auction_terms.specs.Auxiliary.RankedFills.{requested_fill, allot, allot_by, price_order, ranked_orders}
+use Rattle.auction_terms.specs.Auxiliary.RankedFills.{requested_fill, allot, allot_by, ranked_orders}
 use Rattle.auction_terms.specs.Auxiliary.Sort.{in_order}
-use Rattle.auction_terms.specs.Allotment.{by_price, by_rank, PlacedOrder, placed_orders, eligible_orders}
+use Rattle.auction_terms.specs.Allotment.{by_limit, by_price, by_rank, PlacedOrder, placed_orders, eligible_orders}
 use Rattle.auction_terms.specs.Allotment.{quantity_ahead, fill, fills_of, is_positive}
 use Rattle.auction_terms.specs.Auxiliary.Sort.{PlaceBelow, PlacesRise}
 use Rattle.auction_terms.specs.Book.{is_eligible_on, volume}
@@ -79,12 +79,12 @@ all_apart_by_place side [] r = tt
 all_apart_by_place side (x ∷ xs) r = (apart_by_place side x xs r.0, all_apart_by_place side xs r.1)
 
 agree_by_place : (side : Side) (x : PlacedOrder) (ys : List PlacedOrder) → PlaceBelow x.0 ys
-    → Agree (by_rank side) (price_order side) (λ z. z.1) x ys
+    → Agree (by_rank side) (by_limit side) (λ z. z.1) x ys
 agree_by_place side x [] b = tt
 agree_by_place side x (y ∷ ys) b = grind (arith, (agree_by_place side x ys b.1))
 
 pub all_agree_by_place : (side : Side) (xs : List PlacedOrder) → PlacesRise xs
-    → AllAgree (by_rank side) (price_order side) (λ z. z.1) xs
+    → AllAgree (by_rank side) (by_limit side) (λ z. z.1) xs
 all_agree_by_place side [] r = tt
 all_agree_by_place side (x ∷ xs) r = (agree_by_place side x xs r.0, all_agree_by_place side xs r.1)
 
@@ -99,9 +99,9 @@ pub ranked_orders_is : (side : Side) (price : ℕ) (xs : List PlacedOrder) → P
     ≡ ranked_orders side price (map (λ z. z.1) xs)
 unfolding ranked_orders
 ranked_orders_is side price xs r =
-    map-in_order (by_rank side) (price_order side) (λ z. z.1) (eligible_orders side price xs)
+    map-in_order (by_rank side) (by_limit side) (λ z. z.1) (eligible_orders side price xs)
     (all_agree_by_place side _ (PlacesRise-filter (λ x. is_eligible_on side price x.1) xs r))
-    ∙ ap (in_order (price_order side)) (map-filter (is_eligible_on side price) (λ (z : PlacedOrder). z.1) xs)
+    ∙ ap (in_order (by_limit side)) (map-filter (is_eligible_on side price) (λ (z : PlacedOrder). z.1) xs)
 
 if_before : Side → PlacedOrder → PlacedOrder → ℕ
 if_before side x y = cond (is_lt (by_rank side y x)) y.1.quantity 0

@@ -1,7 +1,6 @@
 -- The open orders in priority, and what was executed of each.
 use Rattle.std.specs.Prelude.{ℕ, ◌==◌, Bool, true, if◌then◌else◌, List, [], ◌++◌, Option, Some, None, filter, map}
 use Rattle.std.specs.Prelude.{sum_by}
-use Rattle.std.specs.declared.cmp.Ordering.{Ordering}
 use Rattle.auction_terms.specs.declared.Side.{Side}
 use Rattle.auction_terms.specs.declared.Side.TheVariants.{Bid, Ask}
 use Rattle.auction_terms.specs.declared.Order.{Order}
@@ -12,12 +11,9 @@ use Rattle.auction_terms.specs.declared.Config.{Config}
 use Rattle.auction_terms.specs.declared.Price.{Price}
 use Rattle.auction_terms.specs.Book.{auction_orders, is_on, is_restricted_to}
 use Rattle.auction_terms.specs.AuctionPrice.{price}
-use Rattle.auction_terms.specs.Allotment.{by_price, rest_in, trades}
+use Rattle.auction_terms.specs.Allotment.{by_limit, rest_in, trades}
 use Rattle.auction_terms.specs.Day.{State, is_interrupted, visible_of}
 use Rattle.auction_terms.specs.Auxiliary.Sort.{in_order}
-
-abbrev pub by_limit : Side → Order → Order → Ordering
-by_limit side x y = by_price side x.limit y.limit
 
 -- the orders of a side by their limits; what ties keeps its order, which is that of time
 abbrev pub side_in_priority : Side → List Order → List Order

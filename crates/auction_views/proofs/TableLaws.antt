@@ -1,6 +1,6 @@
 -- The lines of a table, one by one, and their fields.
-use Rattle.std.proofs.Common.{◌≡◌, ◌<◌, ◌+◌, ◌++◌, ℕ, List, [], ◌∷◌, map, codes, drop, get_or, length, refl, ap, ◌∙◌}
-use Rattle.std.proofs.Common.{◌-◌, append_assoc, length-drop, suc}
+use Rattle.std.proofs.Common.{◌≡◌, ◌<◌, ◌+◌, ◌++◌, ℕ, List, [], ◌∷◌, map, drop, get_or, length, refl, ap, ◌∙◌}
+use Rattle.std.proofs.Common.{◌-◌, length-drop, suc}
 use Rattle.auction_terms.specs.declared.Trade.{Trade}
 use Rattle.printed_lines.specs.ReplyWords.{words_text}
 use Rattle.printed_lines.proofs.Lists.{IsListText, text-done}
@@ -22,18 +22,6 @@ pub line-put : {X : Type 0} (one : ℕ → X → List ℕ) (texts : ℕ → List
     → after ++ texts (i + 1) (drop (i + 1) xs) ≡ all
 line-put one texts is xs now after all i d e h put =
     ap (λ t. t ++ texts (i + 1) (drop (i + 1) xs)) put ∙ text-done one texts is xs now all i d e h
-
--- a field and its comma were put on a page, and then the others
-pub field-more : (old middle new field rest : List ℕ) → middle ≡ old ++ (field ++ codes ",") → new ≡ middle ++ rest
-    → new ≡ old ++ (field ++ (codes "," ++ rest))
-field-more old middle new field rest e f =
-    f ∙ ap (λ t. t ++ rest) e ∙ append_assoc old (field ++ codes ",") rest
-    ∙ ap (λ t. old ++ t) (append_assoc field (codes ",") rest)
-
--- the last field and the line end were put on a page
-pub field-last : (old middle new field : List ℕ) → middle ≡ old ++ field → new ≡ middle ++ codes "\n"
-    → new ≡ old ++ (field ++ codes "\n")
-field-last old middle new field e f = f ∙ ap (λ t. t ++ codes "\n") e ∙ append_assoc old field (codes "\n")
 
 line-count : (before : ℕ) (trades : List Trade) → length (trade_lines before trades) ≡ length trades
 unfolding trade_lines

@@ -1,23 +1,12 @@
 -- The lines of tables.
 use Rattle.std.specs.Prelude.{ℕ, ◌+◌, List, [], ◌∷◌, ◌++◌, Some, codes, decimal, length}
-use Rattle.auction_terms.specs.declared.Limit.{Limit}
 use Rattle.auction_terms.specs.declared.OpenOrder.{OpenOrder}
-use Rattle.auction_terms.specs.declared.Limit.TheVariants.{Market, At}
 use Rattle.auction_terms.specs.declared.Restriction.{Restriction}
 use Rattle.auction_terms.specs.declared.Restriction.TheVariants.{Unrestricted, OpeningOnly, ClosingOnly}
 use Rattle.auction_terms.specs.declared.Trade.{Trade}
+use Rattle.printed_lines.specs.CsvRecord.{csv_record, limit_field}
 use Rattle.printed_lines.specs.ReplyWords.{side_word, words_text}
 use Rattle.auction_views.specs.declared.row.LadderRow.{LadderRow}
-
--- fields, parted by commas, and a line end
-abbrev pub csv_line : List (List ℕ) → List ℕ
-csv_line [] = codes "\n"
-csv_line (field ∷ []) = field ++ codes "\n"
-csv_line (field ∷ next ∷ fields) = field ++ (codes "," ++ csv_line (next ∷ fields))
-
-abbrev pub limit_word : Limit → List ℕ
-limit_word Market = codes "market"
-limit_word (At tick) = decimal tick
 
 -- the auctions that an order is for: none for every auction
 abbrev pub restriction_word : Restriction → List ℕ
@@ -27,18 +16,19 @@ restriction_word ClosingOnly = codes "closing"
 
 -- the shares with one limit
 unfoldable pub ladder_line : LadderRow → List ℕ
-ladder_line row = csv_line (limit_word row.limit ∷ decimal row.bid ∷ decimal row.ask ∷ [])
+ladder_line row = csv_record (limit_field row.limit ∷ decimal row.bid ∷ decimal row.ask ∷ [])
 
 -- a trade, by its number from 1
 unfoldable pub trade_line : ℕ → Trade → List ℕ
 trade_line number trade =
-    csv_line (decimal number ∷ decimal trade.bid ∷ decimal trade.ask ∷ decimal trade.quantity ∷ decimal trade.tick ∷ [])
+    csv_record (decimal number ∷ decimal trade.bid ∷ decimal trade.ask ∷ decimal trade.quantity ∷ decimal trade.tick
+    ∷ [])
 
 -- an open order: what is open of it, what it shows, what was executed of it, and the auctions that it is for
 unfoldable pub order_line : OpenOrder → List ℕ
 order_line listed =
-    csv_line (decimal listed.order.id ∷ decimal listed.order.member ∷ side_word (Some listed.order.side)
-    ∷ limit_word listed.order.limit ∷ decimal listed.order.quantity ∷ decimal listed.visible ∷ decimal listed.filled
+    csv_record (decimal listed.order.id ∷ decimal listed.order.member ∷ side_word (Some listed.order.side)
+    ∷ limit_field listed.order.limit ∷ decimal listed.order.quantity ∷ decimal listed.visible ∷ decimal listed.filled
     ∷ restriction_word listed.order.restriction ∷ [])
 
 -- the lines of trades after the first `before`

@@ -2,8 +2,9 @@
 
 ghost use Rattle.std.specs.Prelude.{◌≡◌, ◌≤◌, ◌+◌, ◌++◌, Some, codes, decimal, length};
 ghost use Rattle.printed_lines.specs.declared.page.TheConstants.{LONGEST_LINE, LONGEST_NUMBER, ROOM};
+ghost use Rattle.printed_lines.specs.CsvRecord.{limit_field};
 ghost use Rattle.printed_lines.specs.ReplyWords.{side_word};
-ghost use Rattle.auction_views.specs.TableLines.{ladder_line, limit_word, order_line, restriction_word, trade_line};
+ghost use Rattle.auction_views.specs.TableLines.{ladder_line, order_line, restriction_word, trade_line};
 
 use auction_terms::{Limit, OpenOrder, Restriction, Side, Trade};
 use printed_lines::{Page, side_word};
@@ -29,7 +30,7 @@ fn put_number(page: &mut Page, number: u64)
 /// Puts a limit and a comma on the page.
 fn put_limit(page: &mut Page, limit: Limit)
     requires { length page.old + LONGEST_NUMBER + 1 ≤ ROOM }
-    ensures text { page.new ≡ page.old ++ (limit_word limit ++ codes ",") }
+    ensures text { page.new ≡ page.old ++ (limit_field limit ++ codes ",") }
     ensures longer { length page.new ≤ length page.old + LONGEST_NUMBER + 1 }
 {
     match limit {

@@ -1,7 +1,7 @@
 -- What an audit finds of what it hears.
 use Rattle.std.proofs.Common.{◌≡◌, ◌≤◌, ◌+◌, ◌-◌, ◌++◌, ◌∷◌, ◌∙◌, [], ℕ, Bool, true, false, List, length, map, arith}
 use Rattle.std.proofs.Common.{rules, Option, Some, None, Result, Ok, Err, refl, ap, subst, sym, append_assoc}
-use Rattle.std.specs.Prelude.{IfSome, ◌&&◌, nat_le}
+use Rattle.std.specs.Prelude.{IfSome, nat_le}
 use Rattle.printed_lines.specs.declared.page.TheConstants.{LONGEST_LINE}
 use Rattle.journal.specs.declared.entry.TheConstants.{MAX_REPLY}
 use Rattle.std.proofs.lemmas.List.{append-nil, length_push, map-append}
@@ -12,21 +12,23 @@ use Rattle.auction_terms.specs.declared.Reply.{Reply}
 use Rattle.auction_terms.specs.Auxiliary.RunningAuction.{RunningAuction, opened_auction}
 use Rattle.auction_terms.specs.Day.{State, opening_state, replies_from, step}
 use Rattle.day_road.specs.Heard.{HeardEntry, HearsAll, after_all, heard_from, reply_heard}
+use Rattle.day_road.specs.ReplyPairs.{ReplyPair, pair_in, pairs_in}
+use Rattle.day_road.proofs.HeardLaws.{heard-pairs}
 use Rattle.journal.specs.JournalEntries.{day_left, entries_left}
-use Rattle.journal.specs.EntryRecord.{IsReplyText, RecordedCall, call_part, is_reply_text, reply_part}
+use Rattle.journal.specs.EntryRecord.{IsReplyText, RecordedCall, call_part, is_reply_text}
 use Rattle.journal.specs.JournalFile.{RecordedDay, journal_of, recorded_day}
 use Rattle.journal.specs.declared.day.DayHeader.{DayHeader}
 use Rattle.journal.specs.declared.entries.Entries.{Entries}
 use Rattle.journal.specs.declared.reading.TheConstants.{MAX_JOURNAL_BYTES}
+use Rattle.journal.proofs.RecordLineLaws.{and-left}
 use Rattle.journal_file.specs.Committed.{committed}
 use Rattle.order_file.specs.File.{FailsAsWanted, within_limit}
 use Rattle.order_file.specs.declared.fault.FileFault.{FileFault}
 use Rattle.order_file.proofs.BlockCallLaws.{fails-alike}
 use Rattle.printed_lines.specs.KeptText.{kept_text}
-use Rattle.day_audit.specs.Answers.{Answer, answer_of, answers, answers_in, finding_of}
-use Rattle.day_audit.specs.AuditCounts.{counts_of, counts_with, counts_with_all, no_counts}
+use Rattle.day_audit.specs.AuditCounts.{counts_of, counts_with, counts_with_all, finding_of, no_counts}
 use Rattle.day_audit.specs.AuditText.{difference, differences}
-use Rattle.day_audit.specs.Found.{HasFound, HasFoundOf, HasAudited, answer_in, found_copy_text, found_text}
+use Rattle.day_audit.specs.Found.{HasFound, HasFoundOf, HasAudited, found_copy_text, found_text}
 use Rattle.day_audit.specs.JournalAudit.{IsAuditOf}
 use Rattle.day_audit.specs.JournalCopies.{behind_whole, copy_of, journal_copy}
 use Rattle.day_audit.specs.ResultsText.{copy_text, printed_text, uncross_line, uncross_lines}
@@ -40,12 +42,12 @@ use Rattle.day_audit.proofs.JournalAuditLaws.{audit-open}
 
 -- ---- one more
 
-counts-push : (c : Counts) (xs : List Answer) (a : Answer)
+counts-push : (c : Counts) (xs : List ReplyPair) (a : ReplyPair)
     → counts_with_all c (xs ++ a ∷ []) ≡ counts_with (counts_with_all c xs) (finding_of a)
 counts-push c [] a = refl
 counts-push c (x ∷ xs) a = counts-push (counts_with c (finding_of x)) xs a
 
-differences-push : (before n : ℕ) (xs : List Answer) (a : Answer) → n ≡ before + length xs + 1
+differences-push : (before n : ℕ) (xs : List ReplyPair) (a : ReplyPair) → n ≡ before + length xs + 1
     → differences before (xs ++ a ∷ []) ≡ differences before xs ++ difference n a (finding_of a)
 unfolding differences
 differences-push before n [] a e = let same : n ≡ before + 1 = omega (arith, e) in rw same (append-nil _)
@@ -69,40 +71,32 @@ map-long f [] = refl
 map-long f (x ∷ xs) = search (rules, map-long f xs)
 
 pub found-more : (old new : Findings) (heard : List HeardEntry) (h : HeardEntry) (f : Finding) (n : ℕ)
-    → HasFound old heard → n ≡ old.counts.entries + 1 → f ≡ finding_of (answer_in h)
+    → HasFound old heard → n ≡ old.counts.entries + 1 → f ≡ finding_of (pair_in h)
     → new.counts ≡ counts_with old.counts f
-    → kept_text new.lines ≡ kept_text old.lines ++ difference n (answer_in h) f
+    → kept_text new.lines ≡ kept_text old.lines ++ difference n (pair_in h) f
     → kept_text new.results ≡ kept_text old.results ++ uncross_line n h.reply → HasFound new (heard ++ h ∷ [])
 found-more old new heard h f n found number finds counts lines results =
-    let as_answers = map-append answer_in heard (h ∷ []) in
+    let as_pairs = map-append pair_in heard (h ∷ []) in
     let as_replies = map-append reply_heard heard (h ∷ []) in
     let more : length (heard ++ h ∷ []) ≡ length heard + 1 = search (rules, length_push) in
-    let answered : n ≡ 0 + length (map answer_in heard) + 1 =
-    omega (arith, number, found.entries, map-long answer_in heard) in
+    let answered : n ≡ 0 + length (map pair_in heard) + 1 =
+    omega (arith, number, found.entries, map-long pair_in heard) in
     let replied : n ≡ 0 + length (map reply_heard heard) + 1 =
     omega (arith, number, found.entries, map-long reply_heard heard) in
     record {
-      counts = counts ∙ rw (found.counts, finds) (sym (counts-push no_counts (map answer_in heard) (answer_in h)))
-          ∙ ap counts_of (sym as_answers);
+      counts = counts ∙ rw (found.counts, finds) (sym (counts-push no_counts (map pair_in heard) (pair_in h)))
+          ∙ ap counts_of (sym as_pairs);
       entries = ap (λ (c : Counts). c.entries) counts ∙ entries-counted old.counts f _ found.entries ∙ sym more;
       compared = rw (counts, more) (compared-counted old.counts f _ found.compared);
       unlawful = rw (counts, more) (unlawful-counted old.counts f _ found.unlawful);
       lines = lines
-          ∙ rw (found.lines, finds) (sym (differences-push 0 n (map answer_in heard) (answer_in h) answered))
-          ∙ ap (differences 0) (sym as_answers);
+          ∙ rw (found.lines, finds) (sym (differences-push 0 n (map pair_in heard) (pair_in h) answered))
+          ∙ ap (differences 0) (sym as_pairs);
       results = results ∙ rw found.results (sym (uncrosses-push 0 n (map reply_heard heard) h.reply replied))
           ∙ ap (uncross_lines 0) (sym as_replies);
     }
 
 -- ---- all
-
-heard-answers : (config : Config) (state : State) (rs : List RecordedCall)
-    → map answer_in (heard_from config state rs)
-    ≡ answers (map reply_part rs) (replies_from config state (map call_part rs))
-heard-answers config state [] = refl
-heard-answers config state (r ∷ rs) =
-    ap (λ rest. answer_of r.text (step config state r.call).1 ∷ rest)
-    (heard-answers config (step config state r.call).0 rs)
 
 heard-replies : (config : Config) (state : State) (rs : List RecordedCall)
     → map reply_heard (heard_from config state rs) ≡ replies_from config state (map call_part rs)
@@ -120,12 +114,12 @@ found-day day rs findings true found =
       found.lines,
       found.counts,
       found.results,
-      heard-answers day.config (opening_state day.config) rs,
+      heard-pairs day.config (opening_state day.config) rs,
       heard-replies day.config (opening_state day.config) rs,
-    ) (sym (append_assoc (differences 0 (answers_in (recorded_day day rs))) _ _))
+    ) (sym (append_assoc (differences 0 (pairs_in (recorded_day day rs))) _ _))
 found-day day rs findings false found =
-    rw (found.lines, found.counts, heard-answers day.config (opening_state day.config) rs)
-    (sym (append_assoc (differences 0 (answers_in (recorded_day day rs))) _ _))
+    rw (found.lines, found.counts, heard-pairs day.config (opening_state day.config) rs)
+    (sym (append_assoc (differences 0 (pairs_in (recorded_day day rs))) _ _))
 
 pub audited : (entries : Entries) (findings : Findings) (old new : RunningAuction)
     → old ≡ opened_auction entries.day.config → open_fault entries.day.config ≡ None
@@ -137,7 +131,7 @@ audited entries findings old new is opens hears =
       recorded_day entries.day rs,
       rw coming refl,
       opens,
-      found.counts ∙ ap counts_of (heard-answers entries.day.config (opening_state entries.day.config) rs),
+      found.counts ∙ ap counts_of (heard-pairs entries.day.config (opening_state entries.day.config) rs),
       λ results. rw came (found-day entries.day rs findings results found),
     )
 
@@ -189,7 +183,7 @@ audit-refused results (Some all) old new bytes findings WriteFailed h a = absurd
 
 pub text-of-copy : (results : Bool) (findings : Findings) (current : Option AuctionKind) (j : RecordedDay)
     (behind n : ℕ)
-    → found_text results findings current ≡ printed_text results j → findings.counts ≡ counts_of (answers_in j)
+    → found_text results findings current ≡ printed_text results j → findings.counts ≡ counts_of (pairs_in j)
     → n ≡ behind
     → found_copy_text results findings current n ≡ copy_text results (record { recorded = j; behind = behind })
 text-of-copy results findings current j behind n text counts same = rw (text, counts, same) refl
@@ -199,13 +193,9 @@ text-of-copy results findings current j behind n text counts same = rw (text, co
 pub put-more : (kept full page put a : List ℕ) → full ++ page ≡ kept → put ≡ page ++ a → full ++ put ≡ kept ++ a
 put-more kept full page put a is puts = rw puts (sym (append_assoc full page a) ∙ ap (λ (t : List ℕ). t ++ a) is)
 
-and-first : (a b : Bool) → (a && b) ≡ true → a ≡ true
-and-first true b e = refl
-and-first false b e = cc e
-
 pub reply-short : (text : List ℕ) → IsReplyText text → length text ≤ LONGEST_LINE
 unfolding is_reply_text
 reply-short text e =
-    let few : nat_le (length text) MAX_REPLY ≡ true = and-first _ _ e in
+    let few : nat_le (length text) MAX_REPLY ≡ true = and-left _ _ e in
     let within : length text ≤ MAX_REPLY = search rules in
     omega (arith, within)

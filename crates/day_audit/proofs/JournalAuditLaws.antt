@@ -1,5 +1,5 @@
 -- What an audit of a journal comes to.
-use Rattle.std.proofs.Common.{◌≡◌, ℕ, Bool, List, Option, Some, None, Ok, Err, refl}
+use Rattle.std.proofs.Common.{◌≡◌, ℕ, Bool, List, Option, Some, None, Ok, Err}
 use Rattle.std.specs.Prelude.{IfSome, unwrap_or}
 use Rattle.std.specs.Io.KnownBytes.{Appends}
 use Rattle.byte_streams.specs.Streams.{AppendsBeginning}
@@ -11,11 +11,6 @@ use Rattle.day_audit.specs.declared.fault.AuditFault.TheVariants.{Open, WriteFai
 use Rattle.day_audit.specs.JournalCopies.{JournalCopy, journal_copy}
 use Rattle.day_audit.specs.ResultsText.{copy_text}
 use Rattle.day_audit.specs.JournalAudit.{IsAuditOf, IsFoundOfCopy}
-
--- where it is opened there is nothing against it
-pub open-none : {X : Type 0} (why : Option OpenFault) (x : X) → IfSome why (λ fault. Ok x ≡ Err fault) → why ≡ None
-open-none None x h = refl
-open-none (Some w) x h = absurd (cc h)
 
 pub audit-open : (results : Bool) (left old new : Option (List ℕ)) (copy : JournalCopy) (f : OpenFault)
     → IfSome left (λ bytes. journal_copy bytes ≡ Ok copy)

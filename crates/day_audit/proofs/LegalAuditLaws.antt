@@ -18,8 +18,8 @@ use Rattle.journal.proofs.ReplyTextLaws.{reply-some}
 use Rattle.day_audit.specs.declared.counts.Counts.{Counts}
 use Rattle.day_audit.specs.declared.counts.Finding.{Finding}
 use Rattle.day_audit.specs.declared.counts.Finding.TheVariants.{Lawful, Silent, Unlawful}
-use Rattle.day_audit.specs.Answers.{Answer, answers, answers_in, finding, finding_of}
-use Rattle.day_audit.specs.AuditCounts.{counts_with, counts_with_all, no_counts}
+use Rattle.day_road.specs.ReplyPairs.{ReplyPair, pairs, pairs_in}
+use Rattle.day_audit.specs.AuditCounts.{counts_with, counts_with_all, finding, finding_of, no_counts}
 use Rattle.day_audit.specs.AuditPromises.{IsSilentOrLawful, LegalExactly, LegalIsLawful, PrintedIsLegal}
 
 -- ---- the first unlawful entry stays the first
@@ -30,7 +30,7 @@ counts_with-first c Silent p e = e
 counts_with-first c Lawful p e = e
 counts_with-first c Unlawful p e = rw e refl
 
-first-stays : (c : Counts) (rest : List Answer) (p : ℕ) → c.first_unlawful ≡ Some p
+first-stays : (c : Counts) (rest : List ReplyPair) (p : ℕ) → c.first_unlawful ≡ Some p
     → (counts_with_all c rest).first_unlawful ≡ Some p
 first-stays c [] p e = e
 first-stays c (a ∷ rest) p e =
@@ -63,7 +63,7 @@ none-first c Silent e h = e
 none-first c Lawful e h = e
 none-first c Unlawful e h = absurd h
 
-some-first : (c : Counts) (f : Finding) (rest : List Answer) → c.first_unlawful ≡ None
+some-first : (c : Counts) (f : Finding) (rest : List ReplyPair) → c.first_unlawful ≡ None
     → (counts_with_all (counts_with c f) rest).first_unlawful ≡ None → Agrees f
 some-first c Silent rest e h = tt
 some-first c Lawful rest e h = tt
@@ -74,8 +74,8 @@ some-first c Unlawful rest e h =
     let bad : Some c.entries ≡ None = sym stays ∙ h in
     absurd (cc bad)
 
-legal-answered : (c : Counts) (rest : List Answer) → c.first_unlawful ≡ None → (counts_with_all c rest).first_unlawful
-    ≡ None → AllByRecursion IsSilentOrLawful rest
+legal-answered : (c : Counts) (rest : List ReplyPair) → c.first_unlawful ≡ None
+    → (counts_with_all c rest).first_unlawful ≡ None → AllByRecursion IsSilentOrLawful rest
 legal-answered c [] e h = tt
 legal-answered c (a ∷ rest) e h =
     let agrees = some-first c (finding_of a) rest e h in (
@@ -83,7 +83,7 @@ legal-answered c (a ∷ rest) e h =
       legal-answered (counts_with c (finding_of a)) rest (none-first c (finding_of a) e agrees) h,
     )
 
-answered-legal : (c : Counts) (rest : List Answer) → c.first_unlawful ≡ None → AllByRecursion IsSilentOrLawful rest
+answered-legal : (c : Counts) (rest : List ReplyPair) → c.first_unlawful ≡ None → AllByRecursion IsSilentOrLawful rest
     → (counts_with_all c rest).first_unlawful ≡ None
 answered-legal c [] e h = e
 answered-legal c (a ∷ rest) e h =
@@ -95,9 +95,9 @@ legal-exactly rest = (legal-answered no_counts rest refl, answered-legal no_coun
 
 -- ---- histories
 
-answers-lawful : (replies : List Reply) → AllByRecursion IsSilentOrLawful (answers (map reply_text replies) replies)
-answers-lawful [] = tt
-answers-lawful (r ∷ rs) = (inr refl, answers-lawful rs)
+pairs-lawful : (replies : List Reply) → AllByRecursion IsSilentOrLawful (pairs (map reply_text replies) replies)
+pairs-lawful [] = tt
+pairs-lawful (r ∷ rs) = (inr refl, pairs-lawful rs)
 
 pub printed-legal : PrintedIsLegal
 printed-legal day entries h k legal =
@@ -106,12 +106,12 @@ printed-legal day entries h k legal =
       reads-history day entries h k legal.few,
       rw tells
           (answered-legal no_counts _ refl
-          (answers-lawful (replay day.config (map call_part (map recorded_call_by entries))).1)),
+          (pairs-lawful (replay day.config (map call_part (map recorded_call_by entries))).1)),
     )
 
 -- texts that were recorded, each the lawful one
 texts-agree : (rs ss : List Reply) → length rs ≡ length ss
-    → AllByRecursion IsSilentOrLawful (answers (map reply_text rs) ss) → map reply_text rs ≡ map reply_text ss
+    → AllByRecursion IsSilentOrLawful (pairs (map reply_text rs) ss) → map reply_text rs ≡ map reply_text ss
 texts-agree [] [] n h = refl
 texts-agree [] (s ∷ ss) n h = absurd (omega (arith, n))
 texts-agree (r ∷ rs) [] n h = absurd (omega (arith, n))
@@ -136,7 +136,7 @@ legal-lawful day entries few clear wide h =
     let replies : List Reply = (replay day.config (map call_part (map recorded_call_by entries))).1 in
     let answered =
     rw (texts-recorded entries)
-    at (legal-answered no_counts (answers_in (recorded_day day (map recorded_call_by entries))) refl h) in
+    at (legal-answered no_counts (pairs_in (recorded_day day (map recorded_call_by entries))) refl h) in
     let texts =
     texts-agree (map (λ (e : Entry). e.reply) entries) replies
     (reply-count day.config (opening_state day.config) entries) answered in

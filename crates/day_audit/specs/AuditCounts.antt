@@ -1,9 +1,20 @@
--- What an audit counts.
-use Rattle.std.specs.Prelude.{ℕ, ◌+◌, List, [], ◌∷◌, Option, Some, None}
+-- What an audit finds of an entry, and what it counts.
+use Rattle.std.specs.Prelude.{ℕ, ◌+◌, List, [], ◌∷◌, Option, Some, None, if◌then◌else◌}
+use Rattle.std.specs.Str.{bytes_eq}
+use Rattle.day_road.specs.ReplyPairs.{ReplyPair}
 use Rattle.day_audit.specs.declared.counts.Counts.{Counts}
 use Rattle.day_audit.specs.declared.counts.Finding.{Finding}
 use Rattle.day_audit.specs.declared.counts.Finding.TheVariants.{Lawful, Silent, Unlawful}
-use Rattle.day_audit.specs.Answers.{Answer, finding_of}
+
+abbrev pub finding : List ℕ → List ℕ → Finding
+finding [] lawful = Silent
+finding (b ∷ bs) lawful = if bytes_eq (b ∷ bs) lawful then Lawful else Unlawful
+
+-- what is found of an entry: it is compared where a reply was recorded
+abbrev pub finding_of : ReplyPair → Finding
+finding_of a = finding a.recorded a.lawful
+
+-- ---- counted
 
 abbrev pub no_counts : Counts
 no_counts = record { entries = 0; compared = 0; unlawful = 0; first_unlawful = None }
@@ -24,9 +35,9 @@ counts_with c Unlawful = record {
 }
 
 -- with these entries too
-abbrev pub counts_with_all : Counts → List Answer → Counts
+abbrev pub counts_with_all : Counts → List ReplyPair → Counts
 counts_with_all c [] = c
 counts_with_all c (a ∷ rest) = counts_with_all (counts_with c (finding_of a)) rest
 
-abbrev pub counts_of : List Answer → Counts
-counts_of answers = counts_with_all no_counts answers
+abbrev pub counts_of : List ReplyPair → Counts
+counts_of pairs = counts_with_all no_counts pairs

@@ -8,30 +8,30 @@ use Rattle.journal.specs.JournalFile.{RecordedDay, journal, recorded_day}
 use Rattle.journal.specs.JournalPromises.{FitsJournal, HasUniqueText, HasWideReplies}
 use Rattle.journal.specs.JournalText.{journal_text, recorded_call_by}
 use Rattle.journal.specs.declared.day.DayHeader.{DayHeader}
-use Rattle.day_audit.specs.Answers.{Answer, answers_in}
+use Rattle.day_road.specs.ReplyPairs.{ReplyPair, pairs_in}
 use Rattle.day_audit.specs.AuditCounts.{counts_of}
 
 -- no reply was recorded, or the lawful one
-abbrev pub IsSilentOrLawful : Answer → Type 0
+abbrev pub IsSilentOrLawful : ReplyPair → Type 0
 IsSilentOrLawful a = (a.recorded ≡ []) ⊎ (a.recorded ≡ a.lawful)
 
 -- the audit finds nothing unlawful
-abbrev pub IsAuditedLegal : List Answer → Type 0
-IsAuditedLegal answers = (counts_of answers).first_unlawful ≡ None
+abbrev pub IsAuditedLegal : List ReplyPair → Type 0
+IsAuditedLegal pairs = (counts_of pairs).first_unlawful ≡ None
 
 -- exactly where each recorded reply is the lawful one
 abbrev pub LegalExactly : Type 0
-LegalExactly = (answers : List Answer) → IsAuditedLegal answers ↔ AllByRecursion IsSilentOrLawful answers
+LegalExactly = (pairs : List ReplyPair) → IsAuditedLegal pairs ↔ AllByRecursion IsSilentOrLawful pairs
 
 -- the printed journal of a lawful history is read, and audited legal
 abbrev pub PrintedIsLegal : Type 0
 PrintedIsLegal =
     (day : DayHeader) (entries : List Entry) → FitsDay day → AllByRecursion (FitsJournal day.members) entries
     → IsLegal day.config entries
-    → (j : RecordedDay) × (journal (journal_text day entries) ≡ Ok j) × IsAuditedLegal (answers_in j)
+    → (j : RecordedDay) × (journal (journal_text day entries) ≡ Ok j) × IsAuditedLegal (pairs_in j)
 
 -- and what is audited legal with all its replies recorded is a lawful history
 abbrev pub LegalIsLawful : Type 0
 LegalIsLawful = (day : DayHeader) (entries : List Entry) → length entries ≤ day.config.max_calls
     → AllByRecursion HasUniqueText (map (λ entry. entry.reply) entries) → HasWideReplies day.config (calls_of entries)
-    → IsAuditedLegal (answers_in (recorded_day day (map recorded_call_by entries))) → IsLegal day.config entries
+    → IsAuditedLegal (pairs_in (recorded_day day (map recorded_call_by entries))) → IsLegal day.config entries

@@ -9,14 +9,14 @@ use Rattle.order_file.specs.declared.fault.FileFault.{FileFault}
 use Rattle.day_audit.specs.declared.counts.Audited.{Audited}
 use Rattle.day_audit.specs.declared.fault.AuditFault.{AuditFault}
 use Rattle.day_audit.specs.declared.fault.AuditFault.TheVariants.{File, Open, WriteFailed}
-use Rattle.day_audit.specs.Answers.{answers_in}
+use Rattle.day_road.specs.ReplyPairs.{pairs_in}
 use Rattle.day_audit.specs.AuditCounts.{counts_of}
 use Rattle.day_audit.specs.JournalCopies.{JournalCopy}
 use Rattle.day_audit.specs.ResultsText.{copy_text}
 
 -- the whole lines' replies were counted, and the bytes behind them
 abbrev pub IsFoundOfCopy : JournalCopy → Audited → Type 0
-IsFoundOfCopy copy audited = (audited.counts ≡ counts_of (answers_in copy.recorded)) × (audited.behind ≡ copy.behind)
+IsFoundOfCopy copy audited = (audited.counts ≡ counts_of (pairs_in copy.recorded)) × (audited.behind ≡ copy.behind)
 
 -- What was counted and written, with or without the results, by what the copy of a journal says; a fault of the
 -- journal comes before one of its day.

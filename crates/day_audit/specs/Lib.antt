@@ -1,4 +1,3 @@
-pub mod Answers
 pub mod JournalCopies
 pub mod AuditCounts
 pub mod AuditText

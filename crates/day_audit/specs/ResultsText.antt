@@ -9,7 +9,7 @@ use Rattle.auction_terms.specs.Day.{is_uncross_reply, replay}
 use Rattle.printed_lines.specs.ReplyLines.{line}
 use Rattle.printed_lines.specs.ReplyWords.{kind_word}
 use Rattle.journal.specs.JournalFile.{RecordedDay}
-use Rattle.day_audit.specs.Answers.{answers_in}
+use Rattle.day_road.specs.ReplyPairs.{pairs_in}
 use Rattle.day_audit.specs.AuditCounts.{counts_of}
 use Rattle.day_audit.specs.AuditText.{audit_text}
 use Rattle.day_audit.specs.JournalCopies.{JournalCopy}
@@ -39,7 +39,7 @@ results_if false j = []
 
 -- what an audit found, and then the results of the day, where they are wanted
 abbrev pub printed_text : Bool → RecordedDay → List ℕ
-printed_text results j = audit_text (answers_in j) ++ results_if results j
+printed_text results j = audit_text (pairs_in j) ++ results_if results j
 
 -- how many bytes are behind the whole lines of a broken copy, and which entry they follow
 abbrev pub broken_line : ℕ → ℕ → List ℕ
@@ -53,4 +53,4 @@ behind_line behind entries = if behind == 0 then [] else broken_line behind entr
 abbrev pub copy_text : Bool → JournalCopy → List ℕ
 copy_text results copy =
     printed_text results copy.recorded
-    ++ behind_line copy.behind (counts_of (answers_in copy.recorded)).entries
+    ++ behind_line copy.behind (counts_of (pairs_in copy.recorded)).entries

@@ -4,7 +4,7 @@ ghost use Rattle.std.specs.Prelude.{◌≡◌, []};
 ghost use Rattle.printed_lines.specs.Printing.{Prints};
 ghost use Rattle.printed_lines.specs.ReplyWords.{reply_text};
 ghost use Rattle.byte_streams.specs.Writing.{WritesAll};
-ghost use Rattle.day_audit.specs.Answers.{finding_of};
+ghost use Rattle.day_audit.specs.AuditCounts.{finding_of};
 ghost use Rattle.day_audit.specs.Found.{HasFound, HasFoundOf, found_copy_text, found_text};
 
 use crate::counts::{Counts, Finding};

@@ -1,16 +1,23 @@
 -- What is heard, call by call.
-use Rattle.std.proofs.Common.{◌≡◌, ◌++◌, ◌∷◌, ◌∙◌, [], List, map, false, Result}
+use Rattle.std.proofs.Common.{◌≡◌, ◌++◌, ◌∷◌, ◌∙◌, [], List, map, false, Option, Some, None, Result}
 use Rattle.std.proofs.Common.{Ok, Err, refl, ap, sym, subst, arith, append_assoc}
 use Rattle.std.proofs.lemmas.List.{length_push, map-append}
 use Rattle.std.proofs.lemmas.Grind.{common_steps}
-use Rattle.std.specs.Prelude.{OnOk}
+use Rattle.std.specs.Prelude.{IfSome, OnOk}
 use Rattle.std.specs.Result.{is_err}
+use Rattle.auction.specs.declared.OpenFault.{OpenFault}
 use Rattle.auction_terms.specs.declared.Config.{Config}
-use Rattle.auction_terms.specs.Day.{State, step, state_after}
+use Rattle.auction_terms.specs.Day.{State, replies_from, step, state_after}
 use Rattle.auction_terms.specs.Auxiliary.RunningAuction.{RunningAuction, auction_after_call}
 use Rattle.auction_terms.proofs.RunLaws.{state_after-push}
-use Rattle.journal.specs.EntryRecord.{RecordedCall, call_part}
+use Rattle.journal.specs.EntryRecord.{RecordedCall, call_part, reply_part}
 use Rattle.day_road.specs.Heard.{HeardEntry, after_all, heard_from, heard_in, heard_of}
+use Rattle.day_road.specs.ReplyPairs.{ReplyPair, pair_in, pair_of, pairs}
+
+-- where an auction was opened there is nothing against its config
+pub open-none : {X : Type 0} (why : Option OpenFault) (x : X) → IfSome why (λ fault. Ok x ≡ Err fault) → why ≡ None
+open-none None x h = refl
+open-none (Some w) x h = absurd (cc h)
 
 -- one more call comes to the auction
 after_all-more : (auction : RunningAuction) (front : List RecordedCall) (r : RecordedCall)
@@ -58,3 +65,12 @@ hears-more Hears auction now mid new before front r is same put heard =
     (sym last)
     (subst (λ (heard : List HeardEntry). Hears (auction_after_call now r.call) heard)
     (follows auction now before front r is) heard)
+
+-- the recorded replies beside the lawful ones
+pub heard-pairs : (config : Config) (state : State) (rs : List RecordedCall)
+    → map pair_in (heard_from config state rs)
+    ≡ pairs (map reply_part rs) (replies_from config state (map call_part rs))
+heard-pairs config state [] = refl
+heard-pairs config state (r ∷ rs) =
+    ap (λ (rest : List ReplyPair). pair_of r.text (step config state r.call).1 ∷ rest)
+    (heard-pairs config (step config state r.call).0 rs)

@@ -18,7 +18,7 @@ use Rattle.printed_lines.specs.ReplyWords.{kind_word, side_word}
 use Rattle.day_tables.specs.declared.rule.Rule.{Rule}
 use Rattle.day_tables.specs.declared.rule.Rule.TheVariants.{Market, Single, Highest, Lowest, Reference}
 use Rattle.day_tables.specs.DecidingRule.{rule_of}
-use Rattle.day_tables.specs.TableRecords.{csv_record}
+use Rattle.printed_lines.specs.CsvRecord.{csv_record}
 
 abbrev pub book_header : List ℕ
 book_header = codes "command,auction,limit,bid,ask,demand,supply,volume,surplus,side,best,price\n"

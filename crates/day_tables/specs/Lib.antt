@@ -1,5 +1,4 @@
 pub mod DecidingRule
-pub mod TableRecords
 pub mod TradeTable
 pub mod TableMembers
 pub mod BookTable

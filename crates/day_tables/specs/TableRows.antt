@@ -14,7 +14,7 @@ use Rattle.printed_lines.specs.ReplyWords.{kind_word, side_word}
 use Rattle.day_tables.specs.declared.book.Table.{Table}
 use Rattle.day_tables.specs.declared.book.RowsSoFar.{RowsSoFar}
 use Rattle.day_tables.specs.declared.front_text.TheConstants.{SHORT}
-use Rattle.day_tables.specs.TableRecords.{csv_record}
+use Rattle.printed_lines.specs.CsvRecord.{csv_record}
 use Rattle.day_tables.specs.BookTable.{ShownBook, rule_word, best_word}
 use Rattle.day_tables.specs.TableCurves.{HasRoomForTicks, AreCurves, IsDecidingRule}
 

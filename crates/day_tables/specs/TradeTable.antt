@@ -12,7 +12,7 @@ use Rattle.auction_terms.specs.declared.Reply.TheVariants.{Uncrossed, Interrupte
 use Rattle.auction_terms.specs.declared.Trade.{Trade}
 use Rattle.auction_terms.specs.Day.{calls_of, replay}
 use Rattle.printed_lines.specs.ReplyWords.{kind_word}
-use Rattle.day_tables.specs.TableRecords.{csv_record}
+use Rattle.printed_lines.specs.CsvRecord.{csv_record}
 
 abbrev pub trades_header : List ℕ
 trades_header = codes "trade,auction,bid,bid_member,ask,ask_member,quantity,tick\n"

@@ -1,1 +1,1 @@
-mod StartLaws
+pub mod StartLaws

@@ -27,7 +27,8 @@ use Rattle.auction_terms.specs.declared.Command.{Command}
 use Rattle.auction_terms.specs.declared.Command.TheVariants.{Enter, Change, Delete, OrderStatus, Indicate, ReadTrade}
 use Rattle.auction_terms.specs.declared.Command.TheVariants.{Uncross}
 use Rattle.journal.specs.EntryRecord.{start_of_entry}
-use Rattle.journal.specs.CallFields.{FitsRecord, HasShortTick, command_fields, enter_ending, limit_field, number_field}
+use Rattle.journal.specs.CallFields.{FitsRecord, HasShortTick, command_fields, enter_ending, number_field}
+use Rattle.printed_lines.specs.CsvRecord.{limit_field}
 use Rattle.journal.specs.CallFields.{side_field}
 
 digit-glyph : (k : ℕ) → k < 10 → (is_ascii_digit (48 + k) ≡ true) × ((48 + k) - 48 ≡ k)

@@ -21,7 +21,8 @@ use Rattle.auction_terms.specs.declared.Command.TheVariants.{Enter, Change, Dele
 use Rattle.auction_terms.specs.declared.Command.TheVariants.{Uncross}
 use Rattle.journal.specs.PlainLines.{IsPlain, IsPlainRow, record_line, record_lines}
 use Rattle.journal.specs.CallFields.{FitsRecord, HasShortTick, FitsU32, call_fields, command_fields, enter_ending}
-use Rattle.journal.specs.CallFields.{limit_field, number_field, side_field}
+use Rattle.journal.specs.CallFields.{number_field, side_field}
+use Rattle.printed_lines.specs.CsvRecord.{limit_field}
 use Rattle.journal.specs.declared.day.DayHeader.{DayHeader}
 use Rattle.journal.specs.declared.reading.TheConstants.{MAX_JOURNAL_BYTES}
 use Rattle.journal.specs.DayRecord.{FitsDay, day_fields, day_of_record, is_blank_field, is_day_row, number_if_any}

@@ -15,7 +15,8 @@ use Rattle.auction_terms.specs.declared.Command.{Command}
 use Rattle.auction_terms.specs.declared.Command.TheVariants.{Enter, Change, Delete, OrderStatus, Indicate, ReadTrade}
 use Rattle.auction_terms.specs.declared.Command.TheVariants.{Uncross}
 use Rattle.auction_terms.specs.declared.Entry.{Entry}
-use Rattle.journal.specs.CallFields.{FitsRecord, HasShortTick, FitsU32, command_fields, enter_ending, limit_field}
+use Rattle.journal.specs.CallFields.{FitsRecord, HasShortTick, FitsU32, command_fields, enter_ending}
+use Rattle.printed_lines.specs.CsvRecord.{limit_field}
 use Rattle.journal.specs.CallFields.{number_field, side_field}
 use Rattle.journal.specs.declared.day.DayHeader.{DayHeader}
 use Rattle.journal.specs.declared.reading.TheConstants.{MAX_JOURNAL_BYTES}

@@ -10,14 +10,11 @@ use Rattle.auction_terms.specs.declared.Call.{Call}
 use Rattle.auction_terms.specs.declared.Command.{Command}
 use Rattle.auction_terms.specs.declared.Command.TheVariants.{Enter, Change, Delete, OrderStatus, Indicate, ReadTrade}
 use Rattle.auction_terms.specs.declared.Command.TheVariants.{Uncross}
+use Rattle.printed_lines.specs.CsvRecord.{limit_field}
 
 abbrev pub side_field : Side → List ℕ
 side_field Bid = codes "bid"
 side_field Ask = codes "ask"
-
-abbrev pub limit_field : Limit → List ℕ
-limit_field Market = codes "market"
-limit_field (At tick) = decimal tick
 
 -- a number, or an empty field where there is none
 abbrev pub number_field : Option ℕ → List ℕ

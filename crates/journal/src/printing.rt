@@ -3,7 +3,8 @@
 ghost use Rattle.std.specs.Prelude.{◌≡◌, ◌≤◌, ◌+◌, ◌++◌, ◌∷◌, length, decimal};
 ghost use Rattle.printed_lines.specs.declared.page.TheConstants.{LONGEST_LINE, ROOM};
 ghost use Rattle.printed_lines.specs.Printing.{Prints};
-ghost use Rattle.journal.specs.CallFields.{command_fields, enter_ending, limit_field, number_field, side_field};
+ghost use Rattle.printed_lines.specs.CsvRecord.{limit_field};
+ghost use Rattle.journal.specs.CallFields.{command_fields, enter_ending, number_field, side_field};
 ghost use Rattle.journal.specs.PrintedJournal.{call_line, day_line, comma_fields, sizes_text, ticks_text};
 
 use crate::day::DayHeader;

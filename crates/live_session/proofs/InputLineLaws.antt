@@ -4,8 +4,7 @@ use Rattle.std.proofs.Common.{Option, Some, None, Bool, true, false, refl, ap, s
 use Rattle.std.proofs.Common.{append_assoc, cond, is_some, ◌==◌, ◌∙◌}
 use Rattle.std.specs.Prelude.{min, nat_lt, slice_index}
 use Rattle.std.proofs.lemmas.Bool.{true≢false}
-use Rattle.std.proofs.lemmas.List.{append-nil, drop_all, take_all, take_min}
-use Rattle.std.proofs.Math.Seq.{take-append-add}
+use Rattle.std.proofs.lemmas.List.{append-nil, drop_all, take_all}
 use Rattle.csv.specs.Machine.{after_end, ends_at_end, ends_with, in_field, start_field, start_record, step}
 use Rattle.csv.specs.Reading.{default_config, is_bom, strip_bom}
 use Rattle.csv.specs.declared.parser.Action.{Action}
@@ -14,6 +13,7 @@ use Rattle.csv.specs.declared.parser.State.{State}
 use Rattle.csv.specs.declared.parser.State.TheVariants as st
 use Rattle.csv.specs.declared.parser.Terminator.TheVariants as term
 use Rattle.memchr.specs.Find.{IsFirstByte, is_byte, is_byte2}
+use Rattle.input_hints.proofs.StartLaws.{added}
 use Rattle.live_session.specs.Answered.{line_fault}
 use Rattle.live_session.specs.InputLines.{HasNoLineEnd, IsFirstLineEnd, Lines, is_line_end, is_marked, is_quote_open}
 use Rattle.live_session.specs.InputLines.{is_too_long}
@@ -93,13 +93,6 @@ split-there (b ∷ bs) zero lt = refl
 split-there (b ∷ bs) (suc place) lt = ap (λ (l : List ℕ). b ∷ l) (split-there bs place (omega arith))
 
 -- ---- what is held of a line
-
--- as many as there is room for
-added : (most room : ℕ) (old more : List ℕ) → length old + room ≡ most
-    → old ++ take (min room (length more)) more ≡ take most (old ++ more)
-added most room old more is =
-    ap (λ bytes. old ++ bytes) (take_min room more) ∙ sym (take-append-add old more room)
-    ∙ ap (λ n. take n (old ++ more)) is
 
 pub filled : (most room n : ℕ) (old more front : List ℕ) → length old ≤ most → room ≡ most - length old
     → n ≡ min room (length more) → front ≡ take n more → old ++ front ≡ take most (old ++ more)

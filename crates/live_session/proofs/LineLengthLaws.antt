@@ -13,7 +13,8 @@ use Rattle.auction_terms.specs.declared.Restriction.{Restriction}
 use Rattle.auction_terms.specs.declared.Restriction.TheVariants.{Unrestricted, OpeningOnly, ClosingOnly}
 use Rattle.auction_terms.specs.declared.Side.{Side}
 use Rattle.auction_terms.specs.declared.Side.TheVariants.{Bid, Ask}
-use Rattle.journal.specs.CallFields.{command_fields, enter_ending, limit_field, number_field, side_field}
+use Rattle.journal.specs.CallFields.{command_fields, enter_ending, number_field, side_field}
+use Rattle.printed_lines.specs.CsvRecord.{limit_field}
 use Rattle.journal.specs.PrintedJournal.{comma_fields}
 
 abbrev IsShort : List ℕ → Type 0

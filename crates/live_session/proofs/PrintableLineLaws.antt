@@ -17,7 +17,8 @@ use Rattle.auction_terms.specs.declared.Restriction.TheVariants.{Unrestricted, O
 use Rattle.auction_terms.specs.declared.Side.{Side}
 use Rattle.auction_terms.specs.declared.Side.TheVariants.{Bid, Ask}
 use Rattle.printed_lines.specs.ReplyWords.{reply_text}
-use Rattle.journal.specs.CallFields.{command_fields, enter_ending, limit_field, number_field, side_field}
+use Rattle.journal.specs.CallFields.{command_fields, enter_ending, number_field, side_field}
+use Rattle.printed_lines.specs.CsvRecord.{limit_field}
 use Rattle.journal.specs.EntryRecord.{is_printable}
 use Rattle.journal.specs.JournalPromises.{FitsJournal}
 use Rattle.journal.specs.WideReplies.{AreWide, IsWideReply}

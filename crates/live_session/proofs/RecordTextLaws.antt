@@ -2,7 +2,7 @@
 use Rattle.std.proofs.Common.{◌≡◌, ◌⊎◌, inl, inr, ℕ, List, [], ◌∷◌, ◌++◌, Option, Some, None, Bool, true, false, ◌==◌}
 use Rattle.std.proofs.Common.{refl, ap, sym, ◌∙◌}
 use Rattle.std.proofs.lemmas.Bool.{true≢false}
-use Rattle.csv.specs.Machine.{Read, ends_at_end, field_after, fields_after, in_field, is_end, next_record, step}
+use Rattle.csv.specs.Machine.{Read, ends_at_end, in_field, is_end, next_record, step}
 use Rattle.csv.specs.Reading.{default_config, records, strip_bom}
 use Rattle.csv.specs.declared.parser.Action.{Action}
 use Rattle.csv.specs.declared.parser.Action.TheVariants as act
@@ -11,6 +11,7 @@ use Rattle.csv.specs.declared.parser.State.TheVariants as st
 use Rattle.order_file.specs.Blocks.{Rows}
 use Rattle.order_file.specs.Rows.{records_left}
 use Rattle.order_file.proofs.RowLaws.{first-record, no-record}
+use Rattle.order_file.proofs.WholeLineLaws.{ends-here, steps-on}
 use Rattle.live_session.specs.InputLines.{is_record_open, line_state_after}
 
 -- ---- the machine between records and in them
@@ -96,19 +97,6 @@ does st.AfterQuote c h = by_quote (c == 34) refl
 does st.InEscape c h = absurd h
 does st.InComment c h = absurd h
 
-next-goes-on : (s t : State) (a : Action) (fields : List (List ℕ)) (field : List ℕ) (c : ℕ) (rest : List ℕ)
-    → step default_config s c ≡ (t, a) → is_end a ≡ false
-    → next_record default_config s fields field (c ∷ rest) ≡ next_record default_config t (fields_after a fields field)
-    (field_after a c field) rest
-unfolding next_record
-next-goes-on s t a fields field c rest e stays = rw (e, stays) refl
-
-ends-here : (s t : State) (fields : List (List ℕ)) (field : List ℕ) (c : ℕ) (rest : List ℕ)
-    → step default_config s c ≡ (t, act.EndRecord)
-    → next_record default_config s fields field (c ∷ rest) ≡ Some (fields ++ (field ∷ []), t, rest)
-unfolding next_record
-ends-here s t fields field c rest e = rw e refl
-
 -- ---- the records of a text
 
 -- a record, and those after it
@@ -164,7 +152,7 @@ whole-then s fields field (c ∷ x) y clean e = by_action (does s c clean.0) (λ
         → rows t f p (x ++ y) ≡ rows t f p x ++ records_left st.StartRecord y)
         → rows s fields field (c ∷ (x ++ y)) ≡ rows s fields field (c ∷ x) ++ records_left st.StartRecord y
     by_action (inl (t, a, reached, within, no_end, is)) more =
-        rw (next-goes-on s t a fields field c (x ++ y) is no_end, next-goes-on s t a fields field c x is no_end)
+        rw (steps-on s t a fields field c (x ++ y) is no_end, steps-on s t a fields field c x is no_end)
         (more t _ _ (reached, λ f. absurd (true≢false (sym within ∙ f))) (rw is at e))
     by_action (inr (inl (t, reached, between, is))) more =
         rw (ends-here s t fields field c (x ++ y) is, ends-here s t fields field c x is)
@@ -173,8 +161,8 @@ whole-then s fields field (c ∷ x) y clean e = by_action (does s c clean.0) (λ
         ∙ ap (λ (rs : Rows). rs ++ records_left st.StartRecord y) (sym (left-are-rows t x))))
     by_action (inr (inr (between, is))) more =
         rw (
-          next-goes-on s st.StartRecord act.Skip fields field c (x ++ y) is refl,
-          next-goes-on s st.StartRecord act.Skip fields field c x is refl,
+          steps-on s st.StartRecord act.Skip fields field c (x ++ y) is refl,
+          steps-on s st.StartRecord act.Skip fields field c x is refl,
         )
         (more st.StartRecord _ _ (tt, λ f. clean.1 between) (rw is at e))
 
@@ -196,7 +184,7 @@ line-end-first x = by_first_bytes x
     passed : (x : List ℕ) → records default_config (10 ∷ x) ≡ records default_config x
     passed x =
         left-are-rows st.StartRecord (10 ∷ x)
-        ∙ ap rows_then (next-goes-on st.StartRecord st.StartRecord act.Skip [] [] 10 x refl refl)
+        ∙ ap rows_then (steps-on st.StartRecord st.StartRecord act.Skip [] [] 10 x refl refl)
         ∙ sym (left-are-rows st.StartRecord x)
 
     by_first_bytes : (x : List ℕ) → records default_config (strip_bom (10 ∷ x)) ≡ records default_config x

@@ -4,7 +4,7 @@ use Rattle.std.specs.Prelude.{Option, Some, None, Result, Ok, Err, true, false}
 use Rattle.auction_terms.specs.declared.Call.{Call}
 use Rattle.auction_terms.specs.declared.Entry.{Entry}
 use Rattle.auction_terms.specs.Day.{step}
-use Rattle.auction_terms.specs.Auxiliary.RunningAuction.{RunningAuction, auction_after_call}
+use Rattle.auction_terms.specs.Auxiliary.RunningAuction.{RunningAuction, auction_after_call, entry_in}
 use Rattle.csv.specs.Reading.{default_config, records}
 use Rattle.order_file.specs.Record.{call_of_record}
 use Rattle.order_file.specs.declared.fault.RecordFault.{RecordFault}
@@ -50,21 +50,13 @@ live_call terms auction fields =
     if nat_le auction.config.max_calls auction.calls then Err bad.TooManyCommands
     else unless_reserved terms auction (call_of_record terms.members fields)
 
--- a call, with the auction's reply
-abbrev pub entry_for : RunningAuction → Call → Entry
-entry_for auction call = record {
-  member = call.member;
-  command = call.command;
-  reply = (step auction.config auction.state call).1;
-}
-
 -- A good record is a call. Its line is the reply's, whose number is the call's place in the day.
 abbrev pub replied : Answered → Call → Answered
 replied so_far call = record {
   auction = auction_after_call so_far.auction call;
   records = so_far.records + 1;
   text = so_far.text ++ line (so_far.auction.calls + 1) (step so_far.auction.config so_far.auction.state call).1;
-  entries = so_far.entries ++ entry_for so_far.auction call ∷ [];
+  entries = so_far.entries ++ entry_in so_far.auction call ∷ [];
   faults = so_far.faults;
 }
 

@@ -25,7 +25,7 @@ use Rattle.order_file.specs.declared.record.Word.{Word}
 use Rattle.order_file.specs.declared.record.Word.TheVariants as word
 use Rattle.order_file.proofs.FirstFieldLaws.{IsInside, inside-end}
 use Rattle.order_file.proofs.RowLaws.{first-record, no-record, records_from-done}
-use Rattle.order_file.proofs.WholeLineLaws.{IsBetween}
+use Rattle.order_file.proofs.WholeLineLaws.{IsBetween, IsPassedOver}
 
 -- the records from a state on, where these fields of one were read, and these bytes of a field
 abbrev pub rows_on : State → List (List ℕ) → List ℕ → List ℕ → Rows
@@ -89,9 +89,6 @@ abbrev pub StaysInField : State → ℕ → Type 0
 StaysInField s c = (t : State) × (a : Action) × IsInside t × ((n : ℕ) → fields_at t n ≡ n) × (is_end a ≡ false)
     × ((fields : List (List ℕ)) (field : List ℕ) → fields_after a fields field ≡ fields)
     × (step default_config s c ≡ (t, a))
-
-abbrev pub IsPassedOver : State → ℕ → Type 0
-IsPassedOver s c = IsBetween s × (step default_config s c ≡ (st.StartRecord, act.Skip))
 
 abbrev pub Steps : State → ℕ → Type 0
 Steps s c = EndsRecord s c ⊎ EndsField s c ⊎ StaysInField s c ⊎ IsPassedOver s c

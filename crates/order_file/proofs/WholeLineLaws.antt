@@ -37,7 +37,7 @@ StaysInRecord s c = (t : State) × (a : Action) × IsInRecord t × (is_end a ≡
 abbrev EndsRecord : State → ℕ → Type 0
 EndsRecord s c = (t : State) × IsOutside t × (step default_config s c ≡ (t, act.EndRecord))
 
-abbrev IsPassedOver : State → ℕ → Type 0
+abbrev pub IsPassedOver : State → ℕ → Type 0
 IsPassedOver s c = IsBetween s × (step default_config s c ≡ (st.StartRecord, act.Skip))
 
 in-field-step : (s : State) (c : ℕ) → step default_config s c ≡ in_field default_config c → StaysInRecord s c
@@ -91,7 +91,8 @@ pub steps-on : (s t : State) (a : Action) (fields : List (List ℕ)) (field : Li
 unfolding next_record
 steps-on s t a fields field c rest e stays = rw (e, stays) refl
 
-ends-here : (s t : State) (fields : List (List ℕ)) (field : List ℕ) (c : ℕ) (rest : List ℕ)
+-- a byte is read that ends the record
+pub ends-here : (s t : State) (fields : List (List ℕ)) (field : List ℕ) (c : ℕ) (rest : List ℕ)
     → step default_config s c ≡ (t, act.EndRecord)
     → next_record default_config s fields field (c ∷ rest) ≡ Some (fields ++ (field ∷ []), t, rest)
 unfolding next_record

@@ -4,5 +4,6 @@ pub mod NumberText
 pub mod Printing
 pub mod ReplyLines
 pub mod ReplyWords
+pub mod CsvRecord
 pub mod Tally
 pub mod ReplyList

@@ -6,7 +6,7 @@ use Rattle.auction_terms.specs.declared.Call.{Call}
 use Rattle.auction_terms.specs.declared.Command.{Command}
 use Rattle.auction_terms.specs.declared.Entry.{Entry}
 use Rattle.auction_terms.specs.Day.{IsLegal, calls_of}
-use Rattle.day_audit.specs.Answers.{answers_in}
+use Rattle.day_road.specs.ReplyPairs.{pairs_in}
 use Rattle.day_audit.specs.AuditCounts.{counts_of}
 use Rattle.day_audit.specs.ResultsText.{copy_text}
 use Rattle.day_audit.specs.AuditPromises.{IsAuditedLegal}
@@ -102,12 +102,12 @@ audited day entries text fits opens legal all is =
       record { recorded = recorded_day day (map recorded_call_by entries); behind = 0 },
       copies-whole (journal_text day entries) _ lines read,
       opens,
-      found (subst (λ (k : RecordedDay). IsAuditedLegal (answers_in k)) same well),
+      found (subst (λ (k : RecordedDay). IsAuditedLegal (pairs_in k)) same well),
     )
   where
-    found : IsAuditedLegal (answers_in (recorded_day day (map recorded_call_by entries)))
+    found : IsAuditedLegal (pairs_in (recorded_day day (map recorded_call_by entries)))
         → (finish : Finish) (report : List ℕ)
-        → (finish ≡ finish_of (counts_of (answers_in (recorded_day day (map recorded_call_by
+        → (finish ≡ finish_of (counts_of (pairs_in (recorded_day day (map recorded_call_by
         entries)))).first_unlawful 0)
         × (report ≡ copy_text false (record { recorded = recorded_day day (map recorded_call_by entries); behind = 0 }))
         → finish ≡ Lawful

@@ -1,7 +1,7 @@
 -- What an audit of a journal writes.
 use Rattle.std.specs.Prelude.{◌≡◌, ◌==◌, ℕ, Bool, Option, Some, None, if◌then◌else◌}
 use Rattle.auction.specs.ConfigFault.{open_fault}
-use Rattle.day_audit.specs.Answers.{answers_in}
+use Rattle.day_road.specs.ReplyPairs.{pairs_in}
 use Rattle.day_audit.specs.AuditCounts.{counts_of}
 use Rattle.day_audit.specs.JournalCopies.{JournalCopy, journal_copy}
 use Rattle.day_audit.specs.ResultsText.{copy_text}
@@ -33,7 +33,7 @@ audit_job results = record {
   says = journal_copy;
   opening = λ copy. open_fault copy.recorded.day.config;
   Text = λ copy finish text.
-      (finish ≡ finish_of (counts_of (answers_in copy.recorded)).first_unlawful copy.behind)
+      (finish ≡ finish_of (counts_of (pairs_in copy.recorded)).first_unlawful copy.behind)
       × (text ≡ copy_text results copy);
   Faults = IsWithoutBoard;
 }

@@ -4,8 +4,7 @@ use Rattle.std.specs.Prelude.{Option, None, IfSome, unwrap_or, Result, Ok, Err}
 use Rattle.auction_terms.specs.declared.Call.{Call}
 use Rattle.auction_terms.specs.declared.Config.{Config}
 use Rattle.auction_terms.specs.declared.Entry.{Entry}
-use Rattle.auction_terms.specs.Day.{step}
-use Rattle.auction_terms.specs.Auxiliary.RunningAuction.{RunningAuction, auction_after_call}
+use Rattle.auction_terms.specs.Auxiliary.RunningAuction.{RunningAuction, auction_after_call, entry_in}
 use Rattle.auction.specs.ConfigFault.{open_fault}
 use Rattle.auction.specs.declared.OpenFault.TheVariants.{NoMemory}
 use Rattle.auction_terms.specs.Results.{◌>>=◌}
@@ -31,10 +30,6 @@ use Rattle.program_runs.specs.declared.recorder.Recorder.TheVariants.{Lines, Jou
 use Rattle.program_runs.specs.declared.recorded_day.PrintableDay.{PrintableDay}
 use Rattle.day_tables.specs.AnsweredCalls.{entry_of}
 use Rattle.program_runs.specs.Printed.{history_of, reply_in}
-
--- the entry of the auction's next call
-abbrev pub entry_in : RunningAuction → Call → Entry
-entry_in auction call = entry_of call (step auction.config auction.state call).1
 
 -- the form that it records for
 abbrev pub form_of_recorder : Recorder → Form

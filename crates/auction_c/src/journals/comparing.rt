@@ -2,6 +2,7 @@
 ghost use Rattle.std.specs.Prelude.{◌≡◌, ◌<◌, ◌≤◌, ◌-◌, ◌^◌, []};
 ghost use Rattle.auction_c.specs.JournalReading.{HasCompared, compared_of, compared_with, first_with, told};
 ghost use Rattle.auction_c.specs.Journals as recorded_as;
+ghost use Rattle.day_road.specs.ReplyPairs.{pair_of};
 
 use crate::structs::AuctionJournal;
 use auction::Auction;
@@ -19,7 +20,7 @@ fn has_text(text: &[u8]) -> bool
 
 // Whether one was that isn't the lawful one.
 fn is_unlawful(texts: &mut ReplyTexts, text: &[u8], reply: &Reply) -> bool
-    ensures { result ≡ recorded_as.is_unlawful (recorded_as.pair_of text.now reply.now) }
+    ensures { result ≡ recorded_as.is_unlawful (pair_of text.now reply.now) }
 {
     has_text(text) && !texts.is_text_of(text, reply)
 }

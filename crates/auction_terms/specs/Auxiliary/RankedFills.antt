@@ -1,21 +1,16 @@
 -- The same fills and trades, as they come out going down the ranks.
 use Rattle.std.specs.Prelude.{ℕ, ◌-◌, min, List, [], ◌∷◌, filter, nat_eq, if◌then◌else◌}
-use Rattle.std.specs.declared.cmp.Ordering.{Ordering}
 use Rattle.auction_terms.specs.declared.Side.{Side}
 use Rattle.auction_terms.specs.declared.Order.{Order}
 use Rattle.auction_terms.specs.declared.Fill.{Fill}
 use Rattle.auction_terms.specs.declared.Trade.{Trade}
 use Rattle.auction_terms.specs.Auxiliary.Sort.{in_order}
 use Rattle.auction_terms.specs.Book.{is_eligible_on}
-use Rattle.auction_terms.specs.Allotment.{by_price, spans, pairings}
-
--- orders by price alone
-abbrev pub price_order : Side → Order → Order → Ordering
-price_order side x y = by_price side x.limit y.limit
+use Rattle.auction_terms.specs.Allotment.{by_limit, spans, pairings}
 
 -- the eligible orders of a side, in rank order; this takes no places
 unfoldable pub ranked_orders : Side → ℕ → List Order → List Order
-ranked_orders side price book = in_order (price_order side) (filter (is_eligible_on side price) book)
+ranked_orders side price book = in_order (by_limit side) (filter (is_eligible_on side price) book)
 
 -- what an order asks for
 abbrev pub requested_fill : Order → Fill

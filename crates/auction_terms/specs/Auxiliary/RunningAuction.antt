@@ -2,6 +2,7 @@
 use Rattle.std.specs.Prelude.{ℕ, ◌+◌, List, length}
 use Rattle.auction_terms.specs.declared.Call.{Call}
 use Rattle.auction_terms.specs.declared.Config.{Config}
+use Rattle.auction_terms.specs.declared.Entry.{Entry}
 use Rattle.auction_terms.specs.Day.{State, opening_state, step, state_after}
 
 pub record RunningAuction : Type 0 where
@@ -11,6 +12,14 @@ pub record RunningAuction : Type 0 where
 
 abbrev pub opened_auction : Config → RunningAuction
 opened_auction config = record { config = config; state = opening_state config; calls = 0 }
+
+-- the entry of its next call
+abbrev pub entry_in : RunningAuction → Call → Entry
+entry_in auction call = record {
+  member = call.member;
+  command = call.command;
+  reply = (step auction.config auction.state call).1;
+}
 
 -- after one more call
 abbrev pub auction_after_call : RunningAuction → Call → RunningAuction

@@ -1,6 +1,6 @@
 -- Answers of `put_order_line` (src/row.rt): what the prover left open; rt looks here.
 use Rattle.auction_views.specs.TableLines.{order_line}
-use Rattle.auction_views.proofs.TableLaws.{field-last, field-more}
+use Rattle.printed_lines.proofs.CsvRecordLaws.{field-last, field-more}
 use Rattle.auction_views.proofs.row.put_order_line.Goals as goal
 
 pub returns : goal.returns

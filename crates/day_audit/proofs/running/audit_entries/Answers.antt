@@ -2,7 +2,7 @@
 use Rattle.std.proofs.Common.{◌≡◌, [], ap, sym}
 use Rattle.auction_terms.specs.Auxiliary.RunningAuction.{RunningAuction}
 use Rattle.day_audit.proofs.FoundLaws.{audited}
-use Rattle.day_audit.proofs.JournalAuditLaws.{open-none}
+use Rattle.day_road.proofs.HeardLaws.{open-none}
 use Rattle.day_audit.proofs.running.audit_entries.Goals as goal
 
 pub returns-in-Ok-hear_all-clause-audited : goal.returns-in-Ok-hear_all-clause-audited

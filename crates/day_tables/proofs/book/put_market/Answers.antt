@@ -1,7 +1,7 @@
 -- Answers of `put_market` (src/book.rt): what the prover left open; rt looks here.
 use Rattle.std.proofs.Common.{codes, decimal}
 use Rattle.day_tables.specs.TableRows.{market_table_row}
-use Rattle.day_tables.proofs.RecordLaws.{field-more}
+use Rattle.printed_lines.proofs.CsvRecordLaws.{field-more}
 use Rattle.day_tables.proofs.BookTableLaws.{field-rest}
 use Rattle.day_tables.proofs.book.put_market.Goals as goal
 

@@ -1,6 +1,6 @@
 -- Answers of `put_trade` (src/trades.rt): what the prover left open; rt looks here.
 use Rattle.day_tables.specs.TradeTable.{trade_record}
-use Rattle.day_tables.proofs.RecordLaws.{field-more, field-last}
+use Rattle.printed_lines.proofs.CsvRecordLaws.{field-more, field-last}
 use Rattle.day_tables.proofs.trades.put_trade.Goals as goal
 
 pub returns : goal.returns

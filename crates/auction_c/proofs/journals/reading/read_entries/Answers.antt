@@ -3,7 +3,8 @@ use Rattle.std.proofs.Common.{[], ap, refl, sym}
 use Rattle.auction_terms.specs.Auxiliary.RunningAuction.{RunningAuction}
 use Rattle.journal.proofs.EntryLaws.{fails-alike}
 use Rattle.journal.specs.JournalEntries.{day_left, entries_left}
-use Rattle.auction_c.proofs.JournalFoundLaws.{counts-within, open-none, read-all}
+use Rattle.auction_c.proofs.JournalFoundLaws.{counts-within, read-all}
+use Rattle.day_road.proofs.HeardLaws.{open-none}
 use Rattle.auction_c.proofs.journals.reading.read_entries.Goals as goal
 
 pub told-requires-clause-compared : goal.told-requires-clause-compared
