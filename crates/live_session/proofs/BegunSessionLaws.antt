@@ -1,5 +1,5 @@
 -- A session that begins on a file.
-use Rattle.std.proofs.Common.{◌≡◌, ◌≢◌, ◌<◌, ◌≤◌, ◌+◌, ◌^◌, ℕ, zero, suc, List, [], ◌∷◌, ◌++◌, Option, None, Some}
+use Rattle.std.proofs.Common.{◌≡◌, ◌<◌, ◌≤◌, ◌+◌, ◌^◌, ℕ, zero, suc, List, [], ◌∷◌, ◌++◌, Option, None, Some}
 use Rattle.std.proofs.Common.{Result, Ok, Err, length, refl, ⊎_elim, sym, ap, subst, take, arith, ◌∙◌}
 use Rattle.std.specs.Prelude.{slice_index}
 use Rattle.std.proofs.lemmas.List.{append-nil, take_at}
@@ -25,9 +25,6 @@ use Rattle.live_session.specs.declared.begin_fault.BeginFault.TheVariants as beg
 use Rattle.live_session.specs.declared.begin_fault.CutOff.{CutOff}
 use Rattle.live_session.specs.Resumed.{IsResumedFrom}
 use Rattle.live_session.proofs.CommitLaws.{as-failure}
-
-pub some : (text : List ℕ) → length text ≢ 0 → text ≢ []
-some text is empty = is (ap length empty)
 
 -- the lines of a file, as they were read
 pub front-lines : (file bytes : List ℕ) (end : ℕ) → bytes ≡ file → end ≡ length (committed file)

@@ -1,7 +1,6 @@
 -- Calls that go before others.
 use Rattle.std.proofs.Common.{◌≡◌, ◌<◌, ◌≤◌, ◌+◌, ℕ, List, ◌++◌, [], ◌∷◌, Result, Ok, Err, false, nat_le, refl, ap, sym}
 use Rattle.std.proofs.Common.{length, Bool, true, ◌∙◌, append_assoc, rules, arith}
-use Rattle.std.proofs.lemmas.List.{append-nil}
 use Rattle.auction_terms.specs.declared.Call.{Call}
 use Rattle.auction_terms.specs.Results.{◌>>=◌}
 use Rattle.order_file.specs.File.{FailsAsWanted, calls_after}
@@ -71,22 +70,6 @@ pub after-next : (front : List Call) (call : Call) (left rest all : Result (List
     → after front left ≡ all
     → left ≡ (rest >>= λ calls. Ok (call ∷ calls)) → after (front ++ call ∷ []) rest ≡ all
 after-next front call left rest all same is = after-more front call rest ∙ ap (after front) (sym is) ∙ same
-
--- no record is left
-pub at-end : (members max_calls before : ℕ) (front : List Call) (rows : List (List (List ℕ)))
-    (all : Result (List Call) FileFault)
-    → after front (calls_after members max_calls before rows) ≡ all → rows ≡ [] → all ≡ Ok front
-unfolding calls_after
-at-end members max_calls before front rows all same none = grind (arith, common_steps, append-nil)
-
--- there is a record too many
-pub at-too_many : (members max_calls before : ℕ) (front : List Call) (rows : List (List (List ℕ)))
-    (all : Result (List Call) FileFault)
-    (r : List (List ℕ)) (rs : List (List (List ℕ)))
-    → after front (calls_after members max_calls before rows) ≡ all → rows ≡ r ∷ rs → max_calls ≤ before
-    → all ≡ Err (file.TooManyCommands (before + 1))
-unfolding calls_after
-at-too_many members max_calls before front rows all r rs same is full = grind (arith, common_steps)
 
 -- a fault that was wanted
 pub fails-at : {Y : Type 0} (e : FileFault) (wanted : Result Y FileFault) → wanted ≡ Err e → FailsAsWanted e wanted
