@@ -1,6 +1,6 @@
 //! The limits around the crossing, side by side in lanes.
 
-ghost use Rattle.std.specs.Prelude.{◌≡◌, ◌+◌, List, length, sum};
+ghost use Rattle.std.specs.Prelude.{◌≡◌, ◌+◌, List};
 ghost use Rattle.auction_terms.specs.declared.Order.{Order};
 ghost use Rattle.std.specs.Simd.Lanes.{zip2};
 ghost use Rattle.auction_terms.specs.Ladder.{flag_of};

@@ -1,7 +1,7 @@
 //! The quantities of the open orders, tick by tick.
 #![tactic(auto)]
 
-ghost use Rattle.std.specs.Prelude.{◌≡◌, ◌+◌, ◌-◌, ◌<◌, ◌≤◌, length, sum, slice_set, slice_index};
+ghost use Rattle.std.specs.Prelude.{◌≡◌, ◌+◌, ◌-◌, ◌<◌, ◌≤◌, length, slice_set, slice_index};
 ghost use Rattle.std.specs.Prelude.{List, nat_eq, option_map, IfOk, IfSome};
 ghost use Rattle.std.specs.Simd.Lanes.{zip2};
 ghost use Rattle.auction_terms.specs.declared.limits.TheConstants.{MAX_TICK, MAX_TICKS, MAX_TOTAL};

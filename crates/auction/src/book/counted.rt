@@ -1,5 +1,5 @@
 //! The open orders with the ladder of those that count.
-ghost use Rattle.std.specs.Prelude.{◌≡◌, ◌+◌, ◌<◌, ◌≤◌, length, false, None, IfSome, IfOk, nat_le};
+ghost use Rattle.std.specs.Prelude.{◌≡◌, ◌+◌, ◌<◌, length, false, None, IfSome, IfOk, nat_le};
 ghost use Rattle.auction_terms.specs.Book.{order_of_new};
 ghost use Rattle.auction_terms.specs.Edits.{order_with, keeps_place, with_terms};
 ghost use Rattle.auction_terms.specs.Ladder.{ladder_of};
