@@ -1,4 +1,4 @@
-//! Tables: how many lines there are, and they.
+//! A table: a line that says how many follow, and these.
 
 ghost use Rattle.std.specs.Prelude.{◌≡◌, ◌≤◌, ◌++◌, codes, drop, length, map, OnOk};
 ghost use Rattle.printed_lines.specs.KeptText.{kept_text};

@@ -1,4 +1,4 @@
-//! The one road of a day.
+//! The loop that has each call of a day answered and heard.
 
 ghost use Rattle.std.specs.Prelude.{◌≡◌, ◌≤◌, ◌+◌, List, IfErr};
 ghost use Rattle.order_file.specs.File.{IsOfRecord};

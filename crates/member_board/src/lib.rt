@@ -1,7 +1,7 @@
 //! The call auction board: members call commands on it at once, one lock orders them, and looks take no lock.
 //!
 //! What the crate promises is said at `close`: whatever commands were called, the history that was kept under the lock
-//! is one of the plain auction of one thread, it has as many entries as the members' ledger adds up to, and what each
+//! is one of the plain auction of one thread, it has as many entries as the members' counts add up to, and what each
 //! member was answered or shown is an account of that one history.
 //!
 //! On the members' floor (`run`) each member has a thread of its own, which calls the commands of its script. The

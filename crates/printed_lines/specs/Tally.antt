@@ -1,4 +1,4 @@
--- What is printed of a closed floor: its tally, and the story of its day.
+-- What is printed of a closed floor: its tally, and its history.
 use Rattle.std.specs.Prelude.{ℕ, ◌+◌, List, [], ◌∷◌, ◌++◌, Option, Some, None, codes, decimal}
 use Rattle.auction_terms.specs.declared.Entry.{Entry}
 use Rattle.printed_lines.specs.ReplyWords.{reply_text}

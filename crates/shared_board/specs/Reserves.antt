@@ -1,4 +1,4 @@
--- The last calls of a day, which are the operator's.
+-- What a board's reserve keeps back from a member.
 use Rattle.std.specs.Prelude.{◌≡◌, ℕ, ◌+◌, ◌≤◌, ◌==◌, length, if◌then◌else◌}
 use mathlib.Core.List.{IsPrefix}
 use Rattle.auction_terms.specs.declared.Config.{Config}

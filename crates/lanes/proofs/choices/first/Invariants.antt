@@ -1,4 +1,4 @@
--- Invariants of the loops of `first` (src/lib.rt); rt looks here.
+-- Invariants of the loops of `first` (src/choices.rt); rt looks here.
 use Rattle.std.proofs.Common.{◌≤◌, ◌-◌, length}
 use Rattle.lanes.specs.Selection.{NoFlagIn}
 use Rattle.lanes.proofs.choices.first.Given as goal

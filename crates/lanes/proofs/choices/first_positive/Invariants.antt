@@ -1,4 +1,4 @@
--- Invariants of the loops of `first_positive` (src/lib.rt); rt looks here.
+-- Invariants of the loops of `first_positive` (src/choices.rt); rt looks here.
 use Rattle.std.proofs.Common.{◌≤◌, ◌-◌, length}
 use Rattle.lanes.specs.Positive.{NoneIn}
 use Rattle.lanes.proofs.choices.first_positive.Given as goal

@@ -1,4 +1,4 @@
--- Answers of `gap_lanes` (src/lib.rt): what the prover left open; rt looks here.
+-- Answers of `gap_lanes` (src/choices.rt): what the prover left open; rt looks here.
 use Rattle.lanes.proofs.LaneLaws.{zip2-abs_diff, zip2-max_min}
 use Rattle.lanes.proofs.choices.gap_lanes.Goals as goal
 

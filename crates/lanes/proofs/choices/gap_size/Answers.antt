@@ -1,4 +1,4 @@
--- Answers of `gap_size` (src/lib.rt): what the prover left open; rt looks here.
+-- Answers of `gap_size` (src/choices.rt): what the prover left open; rt looks here.
 use Rattle.std.proofs.Common.{arith}
 use Rattle.lanes.proofs.ChunkLaws.{zip_eights, zip_one}
 use Rattle.lanes.proofs.choices.gap_size.Goals as goal

@@ -1,4 +1,4 @@
--- Invariants of the loops of `gap_size` (src/lib.rt); rt looks here.
+-- Invariants of the loops of `gap_size` (src/choices.rt); rt looks here.
 use Rattle.std.specs.Int.{abs_diff}
 use Rattle.std.proofs.Common.{◌≡◌, ◌≤◌, ◌-◌, length, take}
 use Rattle.std.specs.Simd.Lanes.{zip2}

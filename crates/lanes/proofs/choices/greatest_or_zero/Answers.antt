@@ -1,4 +1,4 @@
--- Answers of `greatest_or_zero` (src/lib.rt): what the prover left open; rt looks here.
+-- Answers of `greatest_or_zero` (src/choices.rt): what the prover left open; rt looks here.
 use Rattle.std.proofs.Common.{arith}
 use Rattle.lanes.proofs.GreatestLaws.{greatest-marked, greatest-zip2, greatest_more, greatest_one}
 use Rattle.lanes.proofs.choices.greatest_or_zero.Goals as goal

@@ -1,4 +1,4 @@
--- Invariants of the loops of `greatest_or_zero` (src/lib.rt); rt looks here.
+-- Invariants of the loops of `greatest_or_zero` (src/choices.rt); rt looks here.
 use Rattle.std.proofs.Common.{◌≡◌, ◌≤◌, ◌-◌, length, take}
 use Rattle.lanes.specs.Selection.{flagged, greatest}
 use Rattle.lanes.proofs.choices.greatest_or_zero.Given as goal

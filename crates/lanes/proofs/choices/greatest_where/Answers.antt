@@ -1,4 +1,4 @@
--- Answers of `greatest_where` (src/lib.rt): what the prover left open; rt looks here.
+-- Answers of `greatest_where` (src/choices.rt): what the prover left open; rt looks here.
 use Rattle.std.proofs.Common.{rules, arith}
 use Rattle.lanes.specs.Selection.{HasFlag}
 use Rattle.lanes.proofs.GreatestLaws.{greatest_is, place_positive}

@@ -1,4 +1,4 @@
--- Answers of `has_flag` (src/lib.rt): what the prover left open; rt looks here.
+-- Answers of `has_flag` (src/choices.rt): what the prover left open; rt looks here.
 use Rattle.std.proofs.Common.{◌≡◌, ℕ, false, not, eqb, get_or, sym, ◌∙◌, arith, w64}
 use lib.Lanes.{chunk}
 use Rattle.std.proofs.lemmas.Simd.{length-chunk, bitmask_splat, none_from_empty_mask}

@@ -1,4 +1,4 @@
--- Answers of `keep_above` (src/lib.rt): what the prover left open; rt looks here.
+-- Answers of `keep_above` (src/choices.rt): what the prover left open; rt looks here.
 use Rattle.std.proofs.Common.{arith}
 use Rattle.lanes.proofs.ChunkLaws.{keep_above_eights, ahead_eights, ahead_more, here_same, keep_above_one}
 use Rattle.lanes.proofs.ChunkLaws.{drop-set, length-keep_above}

@@ -1,4 +1,4 @@
--- Invariants of the loops of `keep_above` (src/lib.rt); rt looks here.
+-- Invariants of the loops of `keep_above` (src/choices.rt); rt looks here.
 use Rattle.std.proofs.Common.{◌≡◌, ◌≤◌, ◌-◌, length, take, drop}
 use Rattle.lanes.specs.Selection.{kept_if_above}
 use Rattle.lanes.proofs.choices.keep_above.Given as goal

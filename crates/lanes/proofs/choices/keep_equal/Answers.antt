@@ -1,4 +1,4 @@
--- Answers of `keep_equal` (src/lib.rt): what the prover left open; rt looks here.
+-- Answers of `keep_equal` (src/choices.rt): what the prover left open; rt looks here.
 use Rattle.std.proofs.Common.{arith}
 use Rattle.lanes.proofs.ChunkLaws.{keep_eights, ahead_eights, ahead_more, here_same, zip_one, drop-set}
 use Rattle.lanes.proofs.ChunkLaws.{length-keep_equal}

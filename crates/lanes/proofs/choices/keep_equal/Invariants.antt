@@ -1,4 +1,4 @@
--- Invariants of the loops of `keep_equal` (src/lib.rt); rt looks here.
+-- Invariants of the loops of `keep_equal` (src/choices.rt); rt looks here.
 use Rattle.std.proofs.Common.{◌≡◌, ◌≤◌, ◌-◌, length, take, drop}
 use Rattle.std.specs.Simd.Lanes.{zip2}
 use Rattle.lanes.specs.Selection.{kept_if_equal}

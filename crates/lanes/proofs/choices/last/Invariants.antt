@@ -1,4 +1,4 @@
--- Invariants of the loops of `last` (src/lib.rt); rt looks here.
+-- Invariants of the loops of `last` (src/choices.rt); rt looks here.
 use Rattle.std.proofs.Common.{◌≤◌, length}
 use Rattle.lanes.specs.Selection.{NoFlagIn}
 use Rattle.lanes.proofs.choices.last.Given as goal

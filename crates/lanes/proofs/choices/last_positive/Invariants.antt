@@ -1,4 +1,4 @@
--- Invariants of the loops of `last_positive` (src/lib.rt); rt looks here.
+-- Invariants of the loops of `last_positive` (src/choices.rt); rt looks here.
 use Rattle.std.proofs.Common.{◌≤◌, length}
 use Rattle.lanes.specs.Positive.{NoneIn}
 use Rattle.lanes.proofs.choices.last_positive.Given as goal

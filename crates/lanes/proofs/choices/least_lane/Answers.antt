@@ -1,4 +1,4 @@
--- Answers of `least_lane` (src/lib.rt): what the prover left open; rt looks here.
+-- Answers of `least_lane` (src/choices.rt): what the prover left open; rt looks here.
 use Rattle.std.proofs.Common.{◌≡◌, Fits, w64, get_or, min, ap, arith}
 use Rattle.std.proofs.lemmas.Simd.{Each1-get_or}
 use Rattle.lanes.proofs.Eight.{eight}

@@ -1,4 +1,4 @@
--- Answers of `least_or_most` (src/lib.rt): what the prover left open; rt looks here.
+-- Answers of `least_or_most` (src/choices.rt): what the prover left open; rt looks here.
 use Rattle.std.proofs.Common.{arith}
 use Rattle.lanes.proofs.LeastLaws.{least-marked, least-zip2, least_more, least_one}
 use Rattle.lanes.proofs.choices.least_or_most.Goals as goal

@@ -1,4 +1,4 @@
--- Invariants of the loops of `least_or_most` (src/lib.rt); rt looks here.
+-- Invariants of the loops of `least_or_most` (src/choices.rt); rt looks here.
 use Rattle.std.proofs.Common.{◌≡◌, ◌≤◌, ◌-◌, length, take}
 use Rattle.lanes.specs.Selection.{flagged, least}
 use Rattle.lanes.proofs.choices.least_or_most.Given as goal

@@ -1,4 +1,4 @@
--- Invariants of the loops of `lesser` (src/lib.rt); rt looks here.
+-- Invariants of the loops of `lesser` (src/choices.rt); rt looks here.
 use Rattle.std.proofs.Common.{◌≡◌, ◌≤◌, ◌-◌, length, take}
 use Rattle.std.specs.Simd.Lanes.{zip2}
 use Rattle.std.specs.Prelude.{min}

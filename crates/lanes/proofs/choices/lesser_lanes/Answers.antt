@@ -1,4 +1,4 @@
--- Answers of `lesser_lanes` (src/lib.rt): what the prover left open; rt looks here.
+-- Answers of `lesser_lanes` (src/choices.rt): what the prover left open; rt looks here.
 use Rattle.std.proofs.Common.{ltb, ap, ◌∙◌, w64}
 use Rattle.std.specs.Simd.Lanes.{sel_l}
 use Rattle.std.proofs.lemmas.Simd.{tops_compared}

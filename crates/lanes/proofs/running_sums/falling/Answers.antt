@@ -1,4 +1,4 @@
--- Answers of `falling` (src/lib.rt): what the prover left open; rt looks here.
+-- Answers of `falling` (src/running_sums.rt): what the prover left open; rt looks here.
 use Rattle.std.proofs.Common.{◌≡◌, ◌+◌, ◌-◌, drop, sum, arith, ap}
 use Rattle.std.proofs.lemmas.List.Sums.{sum_by-drop_more}
 use Rattle.lanes.proofs.RunningSumLaws.{sum_drop_chunk, sum_drop_le, falling_eights}

@@ -1,4 +1,4 @@
--- Invariants of the loops of `falling` (src/lib.rt); rt looks here.
+-- Invariants of the loops of `falling` (src/running_sums.rt); rt looks here.
 use Rattle.std.proofs.Common.{◌≡◌, ◌+◌, ◌≤◌, length, drop}
 use Rattle.std.specs.Prelude.{sum}
 use Rattle.lanes.specs.RunningSums.{falling_sums}

@@ -1,4 +1,4 @@
--- Invariants of the loops of `meet` (src/lib.rt); rt looks here.
+-- Invariants of the loops of `meet` (src/running_sums.rt); rt looks here.
 use Rattle.std.proofs.Common.{◌≡◌, ◌≤◌, ◌<◌, ◌+◌, ◌-◌, ◌⊎◌, ℕ, List, length}
 use Rattle.lanes.specs.Meeting.{before}
 use Rattle.lanes.proofs.running_sums.meet.Given as goal

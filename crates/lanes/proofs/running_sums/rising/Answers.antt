@@ -1,4 +1,4 @@
--- Answers of `rising` (src/lib.rt): what the prover left open; rt looks here.
+-- Answers of `rising` (src/running_sums.rt): what the prover left open; rt looks here.
 use Rattle.std.proofs.Common.{◌+◌, arith}
 use Rattle.std.proofs.lemmas.List.Sums.{sum_by_more}
 use Rattle.lanes.proofs.RunningSumLaws.{sum_take_chunk, sum_take_le, rising_eights, rising_one}

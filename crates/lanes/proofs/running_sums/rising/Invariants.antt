@@ -1,4 +1,4 @@
--- Invariants of the loops of `rising` (src/lib.rt); rt looks here.
+-- Invariants of the loops of `rising` (src/running_sums.rt); rt looks here.
 use Rattle.std.proofs.Common.{◌≡◌, ◌+◌, ◌≤◌, ◌-◌, length, take}
 use Rattle.std.specs.Prelude.{sum}
 use Rattle.lanes.specs.RunningSums.{rising_sums}

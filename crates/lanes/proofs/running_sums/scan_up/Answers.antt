@@ -1,4 +1,4 @@
--- Answers of `scan_up` (src/lib.rt): what the prover left open; rt looks here.
+-- Answers of `scan_up` (src/running_sums.rt): what the prover left open; rt looks here.
 use Rattle.std.proofs.Common.{arith}
 use Rattle.lanes.proofs.Eight.{eight, same_eight}
 use Rattle.lanes.proofs.running_sums.scan_up.Goals as goal

@@ -1,4 +1,4 @@
--- Answers of `sum_of_eight` (src/lib.rt): what the prover left open; rt looks here.
+-- Answers of `sum_of_eight` (src/running_sums.rt): what the prover left open; rt looks here.
 use Rattle.std.proofs.Common.{arith}
 use Rattle.std.proofs.lemmas.Simd.{length-chunk}
 use Rattle.lanes.proofs.Eight.{eight}

@@ -1,4 +1,4 @@
--- Invariants of the loops of `total` (src/lib.rt); rt looks here.
+-- Invariants of the loops of `total` (src/running_sums.rt); rt looks here.
 use Rattle.std.proofs.Common.{◌≡◌, ◌≤◌, ◌-◌, length}
 use Rattle.lanes.specs.Meeting.{before}
 use Rattle.lanes.proofs.running_sums.total.Given as goal

@@ -1,4 +1,4 @@
--- Answers of `brief_code` (src/lib.rt): what the prover left open; rt looks here.
+-- Answers of `brief_code` (src/reply_list.rt): what the prover left open; rt looks here.
 use Rattle.std.proofs.Common.{◌∙◌, ap, arith, subst, sym}
 use Rattle.auction_terms.specs.declared.Reply.TheVariants as replies
 use Rattle.printed_lines.specs.ReplyList.{IsCoded, brief_reply}

@@ -1,4 +1,4 @@
--- Answers of `other_code` (src/lib.rt): what the prover left open; rt looks here.
+-- Answers of `other_code` (src/reply_list.rt): what the prover left open; rt looks here.
 use Rattle.printed_lines.proofs.ReplyListLaws.{again-says, other-says}
 use Rattle.printed_lines.proofs.reply_list.other_code.Goals as goal
 

@@ -1,4 +1,4 @@
--- Answers of `ReplyList::len` (src/lib.rt): what the prover left open; rt looks here.
+-- Answers of `ReplyList::len` (src/reply_list.rt): what the prover left open; rt looks here.
 use Rattle.std.proofs.Common.{arith}
 use Rattle.std.proofs.lemmas.Grind.{common_steps}
 use Rattle.printed_lines.proofs.ReplyListLaws.{length-replies}

@@ -1,4 +1,4 @@
--- Answers of `ReplyList::push` (src/lib.rt): what the prover left open; rt looks here.
+-- Answers of `ReplyList::push` (src/reply_list.rt): what the prover left open; rt looks here.
 use Rattle.printed_lines.proofs.ReplyListLaws.{kept-push, replies-pushed}
 use Rattle.printed_lines.proofs.reply_list.ReplyList.push.Goals as goal
 
