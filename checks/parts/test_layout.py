@@ -181,6 +181,30 @@ def test_a_name_with_one_meaning_in_its_crate(
     assert faults_of(sources.names_of_two_modules, planted(tmp_path, **texts)) == []
 
 
+LONG = "".join(f"{{}} {number} = Some (twice number {number})\n" for number in range(4))
+
+
+@pytest.mark.parametrize("other, faults", [
+    ("-- the same\nabbrev pub double : ℕ → Option ℕ\n" + LONG.format(*["double"] * 4), 1),
+    ("double : ℕ → Option ℕ\n" + LONG.format(*["double"] * 4) + "-- more\n", 1),
+    ("double : ℕ → Option ℤ\n" + LONG.format(*["double"] * 4), 0),
+    ("double : ℕ → Option ℕ\ndouble = double\n", 0),
+])
+@pytest.mark.parametrize("place", ["book/proofs/BLaws.antt", "terms/proofs/day/a/Answers.antt"])
+def test_a_definition_that_stands_in_two_crates(
+    tmp_path: pathlib.Path, place: str, other: str, faults: int
+) -> None:
+    """That of the proof of one function may be as another's."""
+    first = "use a.{b}\nabbrev pub twofold : ℕ → Option ℕ\n" + LONG.format(*["twofold"] * 4)
+    texts = {"crates/terms/specs/A.antt": first, f"crates/{place}": other}
+    found = faults_of(sources.definitions_twice, planted(tmp_path, **texts))
+    assert len(found) == faults * ("book" in place)
+    if found:
+        line = 2 if other.startswith("--") else 1
+        of_first = "twofold (crates/terms/specs/A.antt:2)"
+        assert found == [f"one text has two names: {of_first}, double (crates/{place}:{line})"]
+
+
 @pytest.mark.parametrize("place", ["docs/GLOSSARY.md", "README.md", "docs/MODEL.md"])
 def test_a_dead_name(tmp_path: pathlib.Path, place: str) -> None:
     rows = GLOSSARY if place == "docs/GLOSSARY.md" else ""

@@ -14,6 +14,8 @@
 - No two modules of a crate have types or public functions of one name, nor public definitions and
   lemmas. A function may be named as the definition that it meets, and methods as those of others.
 - No two modules of a package of callauction have constants or types of one name.
+- No definition or law of specs or proofs stands in two crates under any names, where it is longer
+  than SHORT and isn't of the proof of one function.
 - A limit of the market or of memory (LIMITS) isn't written as a number, where it isn't the value of
   a constant: in sources, definitions and proofs, but for tests, examples, comments and texts.
 - No name says buy or sell where docs/GLOSSARY.md says bid and ask.
@@ -38,6 +40,8 @@ LIMITS = {
     268_435_456: "the most bytes of a journal",
 }
 SHARED = {"Lib", "Answers", "Invariants", "Proof"}
+SHORT = 80
+"""As many characters of a definition or law may stand in two crates, without its name."""
 MODELS = {"Leaders"}
 TYPE = re.compile(r"(?:pub(?:\([a-z]+\))? )?(?:struct|enum|trait|union) (?P<name>\w+)")
 DEFINED = r"(?:(?:pub|abbrev|unfoldable|opaque|record|data) +)+(?P<name>[{}]\w*)(?= *[:({{])"
@@ -55,6 +59,8 @@ MODIFIERS = r"(?:(?:pub|abbrev|unfoldable|opaque) +)*"
 LEMMA = re.compile(MODIFIERS + r"(?P<name>[^\s:(){},=]+)(?: *\{[^}]*\})* *: ")
 HEAD = re.compile(r"-- .*`.+` \((?P<source>src/[\w/]+\.rt)\).* rt looks here\.")
 BLOCK = re.compile(MODIFIERS + r"(?P<word>module|record|data)\b")
+OTHER = re.compile(r"--|use |(?:[a-z]+ +)*(?:module|record|data)\b")
+"""A line at the margin that ends the definition above it."""
 FUNCTION = re.compile(r"pub(?:\([\w: ]+\))? (?:(?:const|extern \"C\") )*fn (?P<name>\w+)")
 PUBLIC = re.compile(
     r"(?:  )?(?:(?:abbrev|unfoldable|opaque) +)*pub +"
@@ -179,6 +185,34 @@ def names_of_two_modules(tree: Tree) -> Iterator[str]:
             yield f"{name} has two meanings in a crate: {', '.join(files.values())}"
 
 
+def definitions_of(lines: list[str]) -> Iterator[tuple[int, str, str]]:
+    """The place, the name and the text of each definition and law at a file's margin: its type and
+    its clauses, without its name.
+    """
+    begins = [(place, line) for place, line in enumerate(lines, 1) if line[:1].strip()]
+    heads = {place: found["name"] for place, line in begins if (found := LEMMA.match(line))}
+    ends = sorted({place for place, line in begins if place in heads or OTHER.match(line)})
+    for place, name in heads.items():
+        after = next((it for it in ends if it > place), len(lines) + 1)
+        text = " ".join(line for line in lines[place - 1 : after - 1] if not line.startswith("--"))
+        own = re.compile(rf"(?<![\w.]){re.escape(name)}(?![\w-])")
+        yield place, name, own.sub("_", " ".join(re.sub(MODIFIERS, "", text, 1).split()))
+
+
+def definitions_twice(tree: Tree) -> Iterator[str]:
+    """Definitions and laws that stand in two crates, whatever their names."""
+    places: dict[str, dict[str, str]] = collections.defaultdict(dict)
+    for file in [*tree.specs, *tree.proofs]:
+        if is_test(tree, file) or tree.is_of_function(file):
+            continue
+        for place, name, text in definitions_of(tree.lines(file)):
+            if len(text) > SHORT:
+                places[text].setdefault(tree.crate(file), f"{name} ({tree.name(file)}:{place})")
+    for crates in places.values():
+        if len(crates) > 1:
+            yield f"one text has two names: {', '.join(crates.values())}"
+
+
 def declared(node: ast.stmt) -> set[str]:
     """The public constants, types and functions that a statement at the margin of a module of
     Python makes, but for a command's `main`.
@@ -273,6 +307,7 @@ RULES = [
     near_names,
     names_of_two_crates,
     names_of_two_modules,
+    definitions_twice,
     names_of_two_python_modules,
     retyped_limits,
     other_sides,

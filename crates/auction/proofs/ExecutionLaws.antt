@@ -121,14 +121,14 @@ executed_most side id (t ∷ tape) small =
       (executed_most side id tape (All-tail IsSmallTrade t tape small)),
     )
 
-executed_more : (side : Side) (id : ℕ) (tape : List Trade) (t : Trade)
+pub executed_more : (side : Side) (id : ℕ) (tape : List Trade) (t : Trade)
     → executed_of (tape ++ t ∷ []) side id
     ≡ executed_of tape side id + cond (nat_eq (traded_on side t) id) t.quantity 0
 executed_more side id tape t =
     grind (arith, common_steps, filter-append, sum_by-append, sum_by-cons)
 
 -- rules that agree at each id of the table give the same table
-same_below : (f g : ℕ → ℕ) (a n : ℕ) → ((t : ℕ) → t < a + n → f t ≡ g t) → tick_values f a n ≡ tick_values g a n
+pub same_below : (f g : ℕ → ℕ) (a n : ℕ) → ((t : ℕ) → t < a + n → f t ≡ g t) → tick_values f a n ≡ tick_values g a n
 same_below f g a zero h = refl
 same_below f g a (suc n) h =
     let first : f a ≡ g a = h a (omega arith) in

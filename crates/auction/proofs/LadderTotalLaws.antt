@@ -15,6 +15,7 @@ use Rattle.auction_terms.proofs.LadderLaws.{same_spread, at_spread, stands_by, m
 use Rattle.auction_terms.proofs.LadderLaws.{standing_is, market_is}
 use Rattle.auction_terms.proofs.LadderSums.{HasOrderMore, order_additive, market_additive}
 use Rattle.auction_terms.specs.Ladder.{quantity_in}
+use Rattle.lanes.proofs.RunningSumLaws.{sum-cons}
 use Rattle.tick_ladder.specs.TickLadder.{total_quantity}
 
 -- ---- at one limit
@@ -40,9 +41,6 @@ quantity_in-least low n old new o tick is =
     grind (arith, common_steps, at_limit, by_order, order_additive, standing_is, by_market, market_additive, market_is)
 
 -- ---- in all
-
-sum-cons : (x : ℕ) (xs : List ℕ) → sum (x ∷ xs) ≡ x + sum xs
-sum-cons x xs = sum_by-cons (λ n. n) x xs
 
 sum-spread_none : (f : ℕ → ℕ) (a n : ℕ) → ((t : ℕ) → a ≤ t → f t ≡ 0) → sum (tick_values f a n) ≡ 0
 sum-spread_none f a zero none = refl

@@ -1,13 +1,12 @@
 -- What an uncross does to the orders, read off tables of what its trades executed.
-use Rattle.std.proofs.Common.{◌≡◌, ◌≢◌, ℕ, zero, suc, ◌+◌, ◌-◌, ◌^◌, ◌<◌, ◌≤◌, nat_eq, cond, inl, inr, min, Bool, List}
+use Rattle.std.proofs.Common.{◌≡◌, ◌≢◌, ℕ, zero, suc, ◌+◌, ◌-◌, ◌^◌, ◌≤◌, inl, inr, min, Bool, List}
 use Rattle.std.proofs.Common.{[], ◌∷◌, ◌++◌, length, map, filter, get_or, set, take, replicate, None, refl, sym, ap}
 use Rattle.std.proofs.Common.{◌∙◌, arith}
 use Rattle.std.proofs.lemmas.Bool.{cases_lt}
 use Rattle.std.proofs.lemmas.Bool.Decides.{nat_tests}
 use Rattle.std.proofs.lemmas.Grind.{common_steps}
 use Rattle.std.proofs.lemmas.List.{length-map, set_past, take-map}
-use Rattle.std.proofs.lemmas.List.Elements.{All-filter, All-head, All-tail, filter-append}
-use Rattle.std.proofs.lemmas.List.Sums.{sum_by-append, sum_by-cons}
+use Rattle.std.proofs.lemmas.List.Elements.{All-filter, All-head, All-tail}
 use Rattle.auction_terms.specs.declared.OpenOrder.{OpenOrder}
 use Rattle.auction_terms.specs.declared.Order.{Order}
 use Rattle.auction_terms.specs.declared.Reply.{Reply}
@@ -16,21 +15,16 @@ use Rattle.auction_terms.specs.declared.Side.TheVariants.{Bid, Ask}
 use Rattle.auction_terms.specs.declared.Trade.{Trade}
 use Rattle.auction_terms.specs.Auxiliary.RunningAuction.{RunningAuction}
 use Rattle.auction_terms.specs.Ladder.{tick_values}
-use Rattle.auction_terms.specs.Priority.{executed_of, orders_in_priority, traded_on}
+use Rattle.auction_terms.specs.Priority.{orders_in_priority, traded_on}
 use Rattle.auction_terms.proofs.LadderLaws.{at_spread, length-tick_values, set_spread}
 use Rattle.auction.proofs.EmptyBookLaws.{spread_zero}
+use Rattle.auction.proofs.ExecutionLaws.{executed_more, same_below}
 use Rattle.auction_c.specs.declared.structs.AuctionOutcome.{AuctionOutcome}
 use Rattle.auction_c.specs.Executed.{AreNumberedUpTo, by_side, filled_in, is_touched_in, outcome_in, shares_by_id}
 use Rattle.auction_c.specs.Outcomes.{is_touched_with, outcome_with, outcomes, outcomes_of, shares_of, uncross_reply}
 use Rattle.auction_c.specs.Outcomes.{uncross_trades, uncrossed_of}
 
 -- ---- trade by trade
-
-executed_more : (side : Side) (id : ℕ) (tape : List Trade) (t : Trade)
-    → executed_of (tape ++ t ∷ []) side id
-    ≡ executed_of tape side id + cond (nat_eq (traded_on side t) id) t.quantity 0
-executed_more side id tape t =
-    grind (arith, common_steps, filter-append, sum_by-append, sum_by-cons)
 
 other_id : (side : Side) (tape : List Trade) (t : Trade) (id : ℕ) → (id ≢ traded_on side t)
     → shares_of tape side id ≡ shares_of (tape ++ t ∷ []) side id
@@ -40,14 +34,6 @@ same_id : (side : Side) (tape : List Trade) (t : Trade)
     → min (shares_of tape side (traded_on side t) + t.quantity) (2 ^ 64 - 1)
     ≡ shares_of (tape ++ t ∷ []) side (traded_on side t)
 same_id side tape t = grind (arith, common_steps, nat_tests, executed_more)
-
--- rules that agree at each id of the table give the same table
-same_below : (f g : ℕ → ℕ) (a n : ℕ) → ((t : ℕ) → t < a + n → f t ≡ g t) → tick_values f a n ≡ tick_values g a n
-same_below f g a zero h = refl
-same_below f g a (suc n) h =
-    let first : f a ≡ g a = h a (omega arith) in
-    let rest = same_below f g (a + 1) n (λ t l. h t (omega arith)) in
-    cc
 
 -- one more trade
 pub shares-more : (tape : List Trade) (side : Side) (size : ℕ) (t : Trade)

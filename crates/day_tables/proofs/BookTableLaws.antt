@@ -31,7 +31,7 @@ use Rattle.day_tables.specs.BookTable.{tick_record, tick_records, market_record,
 use Rattle.day_tables.specs.TableCurves.{HasRoomForTicks, AreCurves, IsDecidingRule}
 use Rattle.day_tables.specs.TableRows.{HasPlaces, IsTableOf, has_shares, is_at_price, is_row, side_between, rule_at}
 use Rattle.day_tables.specs.TableRows.{row, row_if, table_rows_below, market_table_row, tick_shown}
-use Rattle.day_tables.proofs.TickTableLaws.{limit_present}
+use Rattle.auction_terms.proofs.LadderLaws.{limit_present}
 
 -- ---- what is among some ticks
 

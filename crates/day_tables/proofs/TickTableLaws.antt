@@ -1,6 +1,6 @@
 -- What the kernels make of a ladder, tick by tick.
 use Rattle.std.specs.Int.{abs_diff}
-use Rattle.std.specs.List.{list_any, list_all}
+use Rattle.std.specs.List.{list_all}
 use Rattle.std.specs.Simd.Lanes.{zip2}
 use Rattle.std.proofs.Common.{◌≡◌, ℕ, zero, suc, ◌+◌, ◌-◌, ◌≤◌, ◌<◌, min, Bool, true, false, cond, eqb, List, [], ◌∷◌}
 use Rattle.std.proofs.Common.{All, Option, Some, None, IfSome, length, get_or, take, replicate, sum, inl, inr, refl}
@@ -12,9 +12,9 @@ use Rattle.std.proofs.lemmas.Grind.{common_steps}
 use Rattle.auction_terms.specs.declared.Order.{Order}
 use Rattle.auction_terms.specs.Book.{demand, supply, volume, surplus, has_bid_surplus, has_ask_surplus, limits}
 use Rattle.auction_terms.specs.AuctionPrice.{best_limits, is_best, is_empty, has_market_orders, price_tick}
-use Rattle.auction_terms.specs.Ladder.{LadderView, ladder_of, tick_values, limit_flag, is_at}
+use Rattle.auction_terms.specs.Ladder.{LadderView, ladder_of, tick_values, limit_flag}
 use Rattle.auction_terms.specs.Auxiliary.BestTicks.{Leaders, has, keyed, lower_among, upper_among}
-use Rattle.auction_terms.proofs.LadderLaws.{length-tick_values, at_spread}
+use Rattle.auction_terms.proofs.LadderLaws.{length-tick_values, at_spread, limit_present, zip_spread}
 use Rattle.auction_terms.proofs.TickListLaws.{All_at, filter-has, no_tick, none_empty, not_empty}
 use Rattle.auction_terms.proofs.ChoiceLaws.{best_limits_keyed, best_limits_none}
 use Rattle.auction_terms.proofs.DemandShape.{demand_falls, supply_rises}
@@ -59,21 +59,16 @@ rising_spread f s a (x ∷ xs) h =
     omega (arith, h (suc i) (omega arith), ap f up, ap (before (x ∷ xs)) shifted, sum-cons x (take (i + 1) xs))) in
     cc
 
-zip2-tick_values : (h : ℕ → ℕ → ℕ) (f g : ℕ → ℕ) (a n : ℕ) → zip2 h (tick_values f a n) (tick_values g a n)
-    ≡ tick_values (λ t. h (f t) (g t)) a n
-zip2-tick_values h f g a zero = refl
-zip2-tick_values h f g a (suc n) = ap (λ l. h (f a) (g a) ∷ l) (zip2-tick_values h f g (a + 1) n)
-
 pub volumes_spread : (book : List Order) (low n : ℕ)
     → zip2 min (tick_values (demand book) low n) (tick_values (supply book) low n) ≡ tick_values (volume book) low n
 unfolding volume
-volumes_spread book low n = zip2-tick_values min (demand book) (supply book) low n
+volumes_spread book low n = zip_spread min (demand book) (supply book) low n
 
 pub surpluses_spread : (book : List Order) (low n : ℕ)
     → zip2 abs_diff (tick_values (demand book) low n) (tick_values (supply book) low n)
     ≡ tick_values (surplus book) low n
 unfolding surplus
-surpluses_spread book low n = zip2-tick_values abs_diff (demand book) (supply book) low n
+surpluses_spread book low n = zip_spread abs_diff (demand book) (supply book) low n
 
 module _ (v : LadderView) (book : List Order) (curves : HasCurvesOf v book) where
   pub demands_spread : falling_sums v.market_bids v.bids ≡ tick_values (demand book) v.low (length v.bids)
@@ -85,11 +80,6 @@ module _ (v : LadderView) (book : List Order) (curves : HasCurvesOf v book) wher
       ∙ ap (tick_values (supply book) v.low) curves.same
 
 -- ---- the limits, as candidates
-
-pub limit_present : (book : List Order) (t : ℕ) → list_any (λ order. is_at t order.limit) book ≡ has t (limits book)
-unfolding limits
-limit_present [] t = refl
-limit_present (o ∷ book) t = grind (arith, common_steps, (limit_present book t))
 
 one_true : (b : Bool) → ◌≡◌ {A = ℕ} (cond b 1 0) 1 → b ≡ true
 one_true b h = grind (arith, common_steps)

@@ -13,9 +13,8 @@ use Rattle.auction_terms.proofs.DemandShape.{AtTick, limits_parts}
 use Rattle.auction_terms.proofs.DemandSums.{counted, quantity_of-cons}
 use Rattle.auction_terms.specs.Ladder.{LadderView, tick_values, is_at, quantity_at, market_quantity, limit_flag}
 use Rattle.auction_terms.specs.Ladder.{ladder_of, flag_of}
-use Rattle.auction_terms.proofs.LadderLaws.{length-tick_values, at_spread}
+use Rattle.auction_terms.proofs.LadderLaws.{length-tick_values, at_spread, limit_present}
 use Rattle.tick_ladder.specs.TickLadder.{IsLadderOf}
-use Rattle.std.specs.List.{list_any}
 use Rattle.std.proofs.lemmas.Grind.{common_steps}
 use Rattle.lanes.specs.Meeting.{before}
 use Rattle.tick_ladder.proofs.BeforeLaws.{before_next, before_all}
@@ -155,12 +154,6 @@ pub record HasCurvesOf (v : LadderView) (book : List Order) : Type 0 where
   pub limit_at : (i : ℕ) → i < length v.bids → 0 < get_or v.bids i 0 + get_or v.asks i 0
       → has (v.low + i) (limits book) ≡ true
 
--- a tick is present where it is a limit
-present_is : (book : List Order) (t : ℕ) → list_any (λ order. is_at t order.limit) book ≡ has t (limits book)
-unfolding limits
-present_is [] t = refl
-present_is (o ∷ book) t = grind (arith, common_steps, (present_is book t))
-
 abbrev one_of : Bool → ℕ
 one_of b = cond b 1 0
 
@@ -183,7 +176,7 @@ curves-of_ladder v book h flags =
     let all : before v.bids n ≡ sum v.bids = before_all v.bids n (omega arith) in
     let flag : (i : ℕ) → i < n → one_of (has (v.low + i) (limits book))
     ≡ one_of (ltb 0 (get_or v.bids i 0 + get_or v.asks i 0)) =
-    λ i lt. ap one_of (sym (present_is book (v.low + i))) ∙ sym (at_spread (limit_flag book) v.low n i lt)
+    λ i lt. ap one_of (sym (limit_present book (v.low + i))) ∙ sym (at_spread (limit_flag book) v.low n i lt)
     ∙ sym (ap (λ l. get_or l i 0) ep) ∙ ap (λ l. get_or l i 0) flags ∙ flag_there v.bids v.asks i long lt in
     record {
       same = long;
