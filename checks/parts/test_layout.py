@@ -163,6 +163,19 @@ def test_names_of_python_that_have_one_meaning(tmp_path: pathlib.Path) -> None:
     assert faults_of(sources.names_of_two_python_modules, tree) == []
 
 
+@pytest.mark.parametrize("text, faults", [
+    ("from test_day import day_of\n", ["test_day is a module of tests"]),
+    ("import tests.test_day as days\n", ["tests.test_day is a module of tests"]),
+    ("from days import test_day\nimport testing\n", []),
+])
+def test_a_module_of_tests_that_another_imports(
+    tmp_path: pathlib.Path, text: str, faults: list[str]
+) -> None:
+    tree = planted(tmp_path, **{"python/tests/test_other.py": text})
+    wanted = [f"python/tests/test_other.py:1: {it}" for it in faults]
+    assert faults_of(sources.imported_tests, tree) == wanted
+
+
 @pytest.mark.parametrize("files", [
     {"specs/Day.antt": "abbrev pub price : Day → ℕ\n", "src/day.rt": "pub fn price() -> u32 {\n"},
     {"src/day.rt": "fn price() -> u32 {\n", "src/line.rt": "pub fn price() -> u32 {\n"},

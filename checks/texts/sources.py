@@ -252,6 +252,16 @@ def names_of_two_python_modules(tree: Tree) -> Iterator[str]:
             yield f"{name} has two meanings in a package: {', '.join(files.values())}"
 
 
+def imported_tests(tree: Tree) -> Iterator[str]:
+    """Modules of tests that another module of Python imports, as if they were helpers."""
+    for file in tree.python:
+        for node in ast.walk(ast.parse(tree.text(file))):
+            names = [it.name for it in node.names] if isinstance(node, ast.Import) else []
+            names += [node.module or ""] if isinstance(node, ast.ImportFrom) else []
+            for name in (it for it in names if it.rpartition(".")[2].startswith("test_")):
+                yield f"{tree.name(file)}:{node.lineno}: {name} is a module of tests"
+
+
 def other_sides(tree: Tree) -> Iterator[str]:
     """Names of sides that the glossary doesn't have."""
     for file in [*tree.sources, *tree.specs, *tree.proofs, *tree.python, *tree.others]:
@@ -309,6 +319,7 @@ RULES = [
     names_of_two_modules,
     definitions_twice,
     names_of_two_python_modules,
+    imported_tests,
     retyped_limits,
     other_sides,
 ]

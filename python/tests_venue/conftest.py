@@ -1,14 +1,18 @@
-"""The program, or its double, for the tests of a venue.
+"""The program, or its double, for the tests of a venue, and venues that most of them need.
 
 CALLBOARD names the built program; where it names none, the double of stand_in.py is run.
 """
 import os
 import pathlib
-from collections.abc import Iterator
+from collections.abc import AsyncIterator, Iterator
 
 import hypothesis
 import pytest
+import pytest_asyncio
 import served
+from callauction.fix.tags import FIX44, FIXT
+from callauction.venue.config import DayTerms, Plan
+from callauction.venue.venue import Venue
 
 FAST = """
 sync = false
@@ -50,3 +54,19 @@ def venue(tmp_path: pathlib.Path) -> Iterator[served.Served]:
     """A venue with one instrument, before its first call."""
     with served.served(tmp_path, FAST) as found:
         yield found
+
+
+@pytest_asyncio.fixture
+async def inside(tmp_path: pathlib.Path) -> AsyncIterator[Venue]:
+    """A venue that runs in this loop."""
+    day = DayTerms(is_synced=False, plan=Plan(call=0))
+    venue = Venue(day, tmp_path, served.program())
+    await venue.open()
+    yield venue
+    await venue.close()
+
+
+@pytest.fixture(params=[FIX44, FIXT])
+def begin(request: pytest.FixtureRequest) -> str:
+    """How messages by FIX begin: in each of the versions."""
+    return str(request.param)

@@ -2,9 +2,11 @@
 import os
 import pathlib
 import tempfile
-from collections.abc import Iterator
+import time
+from collections.abc import Callable, Iterator
 
 import pytest
+import served
 
 MEMORY = "/dev/shm"
 """A folder that is in memory, and on no disk."""
@@ -21,3 +23,11 @@ def tmp_path() -> Iterator[pathlib.Path]:
     is_there = os.access(MEMORY, os.W_OK)
     with tempfile.TemporaryDirectory(dir=MEMORY if is_there else None) as folder:
         yield pathlib.Path(folder)
+
+
+def until(holds: Callable[[], bool], seconds: float = served.SECONDS) -> None:
+    """Waits until this holds. Raises AssertionError."""
+    last = time.monotonic() + seconds
+    while not holds():
+        assert time.monotonic() < last
+        time.sleep(0.02)

@@ -181,3 +181,11 @@ def begun(child: "subprocess.Popen[str]") -> Served:
     others = re.findall(r"^or +(\S+)$", text, re.M)
     code, metrics = found.get("code", ""), found.get("metrics", "")
     return Served(child, found["members"], code, teacher, beamer, others, metrics)
+
+
+def ended(*words: object) -> tuple[int, str]:
+    """How a command line that can't serve ends."""
+    ran = subprocess.run(
+        words_of(*words), env=environment(), capture_output=True, text=True, timeout=SECONDS
+    )
+    return ran.returncode, ran.stderr

@@ -13,7 +13,7 @@ import served
 from callauction.venue import addresses
 from callauction.venue.serving import Address
 from served import Served
-from test_doors import hello
+from speaking import hello
 
 WORDS = ["unshare", "-rmun", sys.executable, str(served.HERE / "namespaces.py")]
 

@@ -14,8 +14,8 @@ from browsing import SCREEN, joined, opened
 from callauction.venue import arrivals
 from callauction.venue.arrivals import Arrivals
 from callauction.venue.messages import MessageError
+from rounds import sees
 from served import Served
-from test_rounds import sees
 
 DO = (
     "if that isn't the class, Close joining on the teacher's page, New code for all, and Remove "

@@ -18,9 +18,9 @@ from callauction.venue.audience import MOST_OF_MEMBER
 from callauction.venue.connection import LEAVE_SECONDS
 from callauction.venue.members import HELLO_BURST
 from conftest import FAST
+from patience import until
 from served import STAND_IN, Served
-from test_doors import hello, said
-from test_robots import until
+from speaking import hello, said
 
 PLAIN = "sync = false\n[phases]\ncall = 0\n"
 MEGABYTE = 1 << 20

@@ -16,8 +16,8 @@ from callauction.venue.config import MOST_TRADERS, DayTerms, MemberTerms
 from callauction.venue.holdings import Own
 from callauction.venue.messages import MessageError
 from callauction.venue.venue import Venue
+from patience import until
 from served import Served
-from test_robots import until
 
 HIGH = 1000
 OWN = {1: Own("bid", 10, 200), 2: Own("ask", 5, None)}

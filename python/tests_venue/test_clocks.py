@@ -14,7 +14,7 @@ from browsing import SCREEN, opened
 from callauction.venue import Client, clock
 from callauction.venue.log import Line
 from callauction.venue.timekeeping import CLOCK_BEHIND, CLOCK_SET, direction_of, set_since
-from test_faults import on_a_clock
+from machines import on_a_clock
 
 CALL = 900
 DAY = f"sync = false\n[phases]\ncall = {CALL}\nautomatic = {{}}\n"

@@ -9,7 +9,7 @@ from callauction.prices import Grid
 from callauction.venue.config import DayTerms, InstrumentTerms, MemberTerms, Plan
 from callauction.venue.fields import ConfigError
 from callauction.venue.owned import OwnerError
-from test_doors import ended
+from served import ended
 
 ALL = """
 title = "Monday"

@@ -11,10 +11,9 @@ from callauction.venue.auctions import MOST_POINTS, Point
 from callauction.venue.venue import LOG, Venue
 from callauction.venue.views import Indication
 from conftest import FAST
+from patience import until
 from served import Served
-from test_doors import hello
-from test_inside import inside  # noqa: F401
-from test_robots import until
+from speaking import hello
 
 Points = list[dict[str, Any]]
 

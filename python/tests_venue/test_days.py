@@ -12,9 +12,9 @@ import pytest
 import served
 from callauction.venue import Client
 from conftest import FAST
+from patience import until
 from served import Served
-from test_doors import hello
-from test_robots import until
+from speaking import hello
 
 CLOCKED = """
 sync = false

@@ -15,32 +15,11 @@ import pytest
 import served
 from callauction.venue import AsyncClient, Client, VenueError
 from callauction.venue.serving import Address
-from served import Served
-from test_messages import RECEIVED
+from schemas import RECEIVED
+from served import Served, ended
+from speaking import Heard, hello, said
 
 ENTER = {"type": "enter", "number": 1, "side": "bid", "quantity": 5, "price": "2.00"}
-Heard = list[dict[str, Any]]
-
-
-async def said(venue: Served, *texts: str, headers: dict[str, str] = {}, count: int = 1) -> Heard:
-    """What a connection hears first after it says these texts."""
-    heard: Heard = []
-    async with aiohttp.ClientSession() as web:
-        async with web.ws_connect(f"{venue.url}api/socket", headers=headers) as socket:
-            for text in texts:
-                await socket.send_str(text)
-            while len(heard) < count:
-                message = await socket.receive(timeout=served.SECONDS)
-                if message.type is not aiohttp.WSMsgType.TEXT:
-                    break
-                found = json.loads(message.data)
-                if found["type"] in ("welcome", "answer", "error"):
-                    heard.append(found)
-    return heard
-
-
-def hello(token: str) -> str:
-    return json.dumps({"type": "hello", "token": token})
 
 
 # ---- tokens
@@ -237,15 +216,6 @@ def test_a_fast_member_is_slowed_down_and_others_are_not(tmp_path: pathlib.Path)
 
 
 # ---- where it listens
-
-
-def ended(*words: object) -> tuple[int, str]:
-    """How a command line that can't serve ends."""
-    command, environment = served.words_of(*words), served.environment()
-    ran = subprocess.run(
-        command, env=environment, capture_output=True, text=True, timeout=served.SECONDS
-    )
-    return ran.returncode, ran.stderr
 
 
 @pytest.mark.parametrize(

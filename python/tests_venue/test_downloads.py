@@ -26,9 +26,9 @@ from callauction.venue import Client, VenueError, config, copies, downloads, log
 from callauction.venue.instrument_board import BoardIdentity, Common, InstrumentBoard
 from callauction.venue.members import Members
 from conftest import FAST
+from patience import until
+from rounds import download, sees, trade
 from served import Served
-from test_robots import until
-from test_rounds import sees, trade
 
 DAY = FAST + """
 [payoff]
@@ -42,13 +42,6 @@ practice = true
 """
 VALUES = [{"member": "=Anna", "side": "bid", "price": "3.00", "quantity": 20},
           {"member": "Bert", "side": "ask", "price": "1.50", "quantity": 10}]
-
-
-def download(venue: Served, kind: str) -> str:
-    """A download, which is there."""
-    status, text = venue.call(f"api/download/{kind}/XYZ", token=venue.operator)
-    assert status == 200, text
-    return str(text)
 
 
 def rows(text: str) -> list[dict[str, str]]:

@@ -21,25 +21,10 @@ from callauction.venue import venue as venues
 from callauction.venue.config import DayTerms, Plan
 from callauction.venue.venue import Venue
 from conftest import FAST
-from patience import TIMED
-from served import Served
-from test_doors import ended, hello
-from test_robots import until
-
-ON_SMALL_DISK = """
-set -e
-folder=$1 journal=$2 size=$3; shift 3
-mkdir -p "$folder/venue" "$folder/small"
-mount -t tmpfs -o "size=$size,mode=0700" tmpfs "$folder/small"
-if [ "$journal" = journal ]; then
-    touch "$folder/small/journal" "$folder/venue/XYZ.journal.csv"
-    mount --bind "$folder/small/journal" "$folder/venue/XYZ.journal.csv"
-else
-    mount --bind "$folder/small" "$folder/venue"
-fi
-exec "$@"
-"""
-"""Runs a command where a small disk has the journal alone, or the whole folder of the venue."""
+from machines import ON_SMALL_DISK, on_a_clock
+from patience import TIMED, until
+from served import Served, ended
+from speaking import hello
 
 
 # ---- clients
@@ -231,39 +216,6 @@ def test_a_program_without_views(tmp_path: pathlib.Path) -> None:
 
 
 # ---- clocks
-
-
-JUMPING = """
-import pathlib, sys, time
-
-real, jump = time.time, pathlib.Path({path!r})
-time.time = lambda: real() + (float(jump.read_text()) if jump.exists() else 0)
-from callauction.venue.__main__ import main
-sys.exit(main())
-"""
-"""A venue on a machine whose clock is set by as many seconds as a file says, once it is there."""
-
-
-@contextlib.contextmanager
-def on_a_clock(folder: pathlib.Path, day: str) -> Iterator[Served]:
-    """A venue whose clock is set by the file `jump`."""
-    (folder / "day.toml").write_text(day)
-    words = ["--day", folder / "day.toml", "--folder", folder / "venue"]
-    words += ["--port", served.free_port()]
-    text, pipe = JUMPING.format(path=str(folder / "jump")), subprocess.PIPE
-    with subprocess.Popen(
-        [sys.executable, "-c", text, *map(str, words)],
-        env=served.environment(),
-        stdout=pipe,
-        stderr=pipe,
-        text=True,
-    ) as child:
-        try:
-            found = served.begun(child)
-            yield found
-            found.end()
-        finally:
-            child.kill()
 
 
 @pytest.mark.parametrize("call, jump, is_ended", [(900, 7200, False), (3, -7200, True)])

@@ -16,10 +16,9 @@ from callauction.venue.treatments import Treatment
 from hypothesis import given
 from hypothesis import strategies as st
 from conftest import FAST
+from patience import until
+from rounds import members, sees
 from served import Served
-from test_hand import members
-from test_robots import until
-from test_rounds import sees
 
 
 def test_robots_trade_their_values(venue: Served, tmp_path: pathlib.Path) -> None:
@@ -74,7 +73,7 @@ def test_robots_go_on_after_a_kill(venue: Served, tmp_path: pathlib.Path) -> Non
     until(lambda: len(sees(venue, "ladder")["levels"]) >= 2)
     venue.child.kill()
     venue.child.wait()
-    with served.served(tmp_path, FAST) as again:
+    with served.served(tmp_path, FAST):
         journal = pathlib.Path(tmp_path / "venue/XYZ.journal.csv")
         until(lambda: journal.read_text().count(",entered ") == 8)
         owners = re.findall(r"^(\d+),enter", journal.read_text(), re.M)

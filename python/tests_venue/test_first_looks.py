@@ -16,18 +16,18 @@ from callauction.venue import results
 from callauction.venue.config import DayTerms, InstrumentTerms, Plan
 from callauction.venue.gates import Gates
 from callauction.venue.instrument_board import InstrumentBoard
-from callauction.venue.json_types import Json
 from callauction.venue.members import Member
-from callauction.venue.messages import TOPICS, MessageError
+from callauction.venue.messages import MessageError
 from callauction.venue.metrics import Measures, halts_of
 from callauction.venue.phases import Phase
 from callauction.venue.process import ProcessError
 from callauction.venue.rounds import Round
 from callauction.venue.venue import Venue
 from conftest import FAST
-from test_operations import looked, measured
-from test_robots import until
-from test_rounds import trade
+from listeners import Listener
+from patience import until
+from rounds import trade
+from watched import looked, measured
 
 SILENT = "the program hasn't answered for 10 s"
 SOON = 30.0
@@ -167,23 +167,6 @@ async def test_a_first_look_that_fails(
         async with asyncio.timeout(SOON):
             while board.auctions.state.phase is not Phase.ENDED:
                 await asyncio.sleep(0.1)
-
-
-class Listener:
-    """A member who is connected, or the operator, and what was last said to it by each key."""
-
-    is_leaving = False
-
-    def __init__(self, member: Member | None = None) -> None:
-        self.member, self.role = member, "member" if member else "operator"
-        self.topics = frozenset(TOPICS)
-        self.said: dict[str, Json] = {}
-
-    def offer(self, key: str, message: Json) -> None:
-        self.said[key] = message
-
-    def leave(self, code: str) -> None:
-        raise AssertionError(code)
 
 
 @pytest.mark.asyncio

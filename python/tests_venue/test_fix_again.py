@@ -10,10 +10,9 @@ import psutil
 import pytest
 import served
 from callauction.fix.reports import MOST_AGE
+from fix_messages import TIME, answer, order, picked
+from fix_venues import Killable, killable, reset, until_logged
 from fixing import Message, Pairs, Peer
-from test_fix_operator import reset
-from test_fix_requests import Killable, killable, until_logged
-from test_fix_tags import TIME, answer, order, picked
 
 
 def heard_again(day: Killable, peer: Peer, folder: pathlib.Path, client: str) -> Message:

@@ -18,10 +18,10 @@ import served
 from callauction.fix.wires import ANSWER_SECONDS
 from callauction.venue.gates import STUCK_SECONDS
 from callauction.venue.passing import IN_VAIN_SECONDS, SLICE
+from certificates import certificate
 from fixing import IS_REMOVED, SOH, Closed, Pairs, Peer
 from patience import TIMED
 from served import Served
-from test_operations import certificate
 
 pytestmark = TIMED
 

@@ -7,11 +7,10 @@ import pathlib
 import fixing
 import pytest
 import served
-from fixing import SOH, Closed, Pairs, Peer
-from test_fix_slips import ORDER, Speaker, begin, refusal
-from test_fix_venue import on
+from acceptors import ORDER, Speaker, refusal
+from fix_venues import on
+from fixing import SOH, Closed, Pairs
 
-__all__ = ["begin"]
 DATA = ["abc", "\x01", "a\x01b", "a\x0158=b", "a\x0135=5\x0134=9", "a\x0110=123\x01", "=\x01="]
 """Data, most with the end of a field."""
 TAKEN = [(354, 355), (93, 89)]

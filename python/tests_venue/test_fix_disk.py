@@ -9,7 +9,7 @@ from collections.abc import Iterator
 import fixing
 import served
 from fixing import Message, Peer
-from test_faults import ON_SMALL_DISK
+from machines import ON_SMALL_DISK
 
 REQUESTS = 100
 

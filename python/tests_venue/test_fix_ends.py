@@ -13,12 +13,10 @@ import pytest
 import served
 from callauction.fix.connections import LOGOUT_SECONDS
 from callauction.fix.resets import LEAVE_SECONDS
+from fix_venues import day_with_copy, on, reset, until_logged
 from fixing import IS_REMOVED, Closed, Message, Pairs, Peer
+from hanging import ends_in_time
 from patience import TIMED
-from test_fix_operator import day_with_copy, reset
-from test_fix_requests import until_logged
-from test_fix_venue import on
-from test_hangs import ends_in_time
 
 ORDERS = 100
 IS_RESET = "the operator resets this session: begin at 1 with an empty store"

@@ -7,11 +7,10 @@ import fixing
 import psutil
 import pytest
 import served
+from acceptors import Asking
+from fix_messages import order, picked
+from fix_venues import killable, on
 from fixing import Closed, Message, Pairs, Peer
-from test_fix_resets import Asking
-from test_fix_requests import killable
-from test_fix_tags import order, picked
-from test_fix_venue import on
 
 MOST = 65536
 """Bytes of a message's body, by the document."""

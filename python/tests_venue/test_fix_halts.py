@@ -11,12 +11,11 @@ import psutil
 import pytest
 import served
 from callauction.fix.feeds import SEEN_SECONDS
+from fix_messages import ask_data, mass_cancel
+from fix_venues import TWO, killable, on, reset, settled
 from fixing import Message, Pairs, Peer
+from hanging import program_of
 from patience import TIMED
-from test_fix_operator import reset
-from test_fix_requests import TWO, ask_data, killable, mass_cancel, settled
-from test_fix_venue import on
-from test_hangs import program_of
 from served import Served
 
 SOON = 5.0

@@ -9,11 +9,9 @@ import fixing
 import pytest
 import served
 from callauction.venue import Client, copies
+from fix_messages import NO_ORDER, picked
+from fix_venues import killable, on, reset
 from fixing import Message, Pairs, Peer
-from test_fix_operator import reset
-from test_fix_requests import killable
-from test_fix_tags import NO_ORDER, picked
-from test_fix_venue import on
 
 USED = "this ClOrdID was used"
 MADE_BEFORE = "its TransactTime (60) is before this day began, of which nothing is done today"

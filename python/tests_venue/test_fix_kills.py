@@ -16,7 +16,7 @@ import served
 from checks.model import files
 from checks.model.day import opened
 from fixing import Closed, Message, Pairs, Peer
-from test_kills import Keeper
+from keeper import Keeper
 
 KILLS = int(os.environ.get("VENUE_FIX_KILLS", "60"))
 MEMBERS = ("ALICE", "BOB", "CAROL")

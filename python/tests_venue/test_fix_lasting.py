@@ -11,7 +11,7 @@ import pytest
 from callauction.fix import front, wires
 from callauction.fix.connections import Connections
 from callauction.fix.sent import Outbound, Sent
-from test_lasting import SOON, Once, has_said
+from lasting import SOON, Once, has_said
 
 pytestmark = pytest.mark.asyncio
 Kept = pytest.LogCaptureFixture

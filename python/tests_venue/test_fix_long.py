@@ -9,12 +9,12 @@ import time
 import fixing
 import pytest
 import served
+from acceptors import Speaker
 from callauction.fix import settings
 from callauction.fix.tags import FIX44
+from fix_venues import on
 from fixing import Peer
 from patience import TIMED
-from test_fix_slips import Speaker
-from test_fix_venue import on
 
 ORDERS = 3000
 MOST_WAIT = 0.25

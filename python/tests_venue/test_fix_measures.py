@@ -6,8 +6,8 @@ import fixing
 import served
 from callauction.venue import metrics
 from fixing import Peer
-from test_operations import looked, measured
-from test_robots import until
+from patience import until
+from watched import looked, measured
 
 NAMES = ("sessions_connected", "received_total", "sent_total", "rejects_total", "resends_total")
 

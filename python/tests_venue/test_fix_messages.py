@@ -8,15 +8,14 @@ import sys
 
 import pytest
 import served
+from acceptors import Speaker, refusal
 from callauction.fix import feeds, given, orders, refusals, requests, seats
 from callauction.fix.tags import (
     DAY, FIXT, GOOD_TILL_CANCEL, LIMIT, MARKET, OTHER_REASON, SIDE_CODES, Exec, Status,
 )
+from fix_messages import FROM, HEAD, NEEDED, NOTHING, OF_ALL, OF_ORDERS, PARTIES
 from fixing import Pairs
-from test_fix_slips import Speaker, begin, refusal
-from test_fix_tags import FROM, HEAD, NEEDED, NOTHING, OF_ALL, OF_ORDERS, PARTIES
 
-__all__ = ["begin"]
 PAGE = served.PACKAGE.parent / "docs/made/FIX_MESSAGES.md"
 HEADING = re.compile(r"^### (?P<kind>\w+) (?P<name>\w+)$|^## (?P<part>.*)$")
 ROW = re.compile(r"^\| (?P<tag>[0-9]+) \| [. ]*\w+ \| (?P<needed>[^|]*) \| (?P<says>.*) \|$")

@@ -7,14 +7,8 @@ import fixing
 import psutil
 import pytest
 import served
+from fix_venues import day_with_copy, on, reset, until_logged
 from fixing import Closed, Message, Pairs, Peer
-from test_fix_requests import until_logged
-from test_fix_venue import on
-
-
-def day_with_copy(port: int, *members: str) -> str:
-    """A day in which the operator's session is COPY."""
-    return fixing.day_of(port, *members).replace("[fix.sessions]", 'copy = "COPY"\n[fix.sessions]')
 
 
 def sides_of(pairs: Pairs) -> list[Message]:
@@ -40,7 +34,7 @@ def reports(peer: Peer, count: int) -> Iterator[tuple[Message, list[Message]]]:
 
 def test_the_operator_has_a_copy_of_each_trade(tmp_path: pathlib.Path) -> None:
     """Also of those of members by the pages, and once over a restart."""
-    port, folder = served.free_port(), tmp_path / "venue"
+    port = served.free_port()
     day = day_with_copy(port, "ALICE", "BOB")
     copy = Peer(port, "COPY")
     with on(tmp_path, day, port, "ALICE", "BOB") as (venue, [alice, bob]):
@@ -90,11 +84,6 @@ FIRST = [
     ("XYZ.3.1a", "a2", "F"),
 ]
 """What the journal gave of a client's orders before it lost its numbers."""
-
-
-def reset(venue: served.Served, name: str) -> tuple[int, object]:
-    """What is answered to the operator who resets a session."""
-    return venue.call("api/operator", {"do": "reset", "session": name}, venue.operator)
 
 
 def test_a_client_that_has_lost_its_numbers(tmp_path: pathlib.Path) -> None:
@@ -172,7 +161,7 @@ def test_a_session_is_reset_once_at_a_time(tmp_path: pathlib.Path) -> None:
 
 
 def test_the_copy_s_session_is_reset(tmp_path: pathlib.Path) -> None:
-    port, folder = served.free_port(), tmp_path / "venue"
+    port = served.free_port()
     with on(tmp_path, day_with_copy(port, "ALICE"), port, "ALICE") as (venue, [alice]):
         venue.do("start")
         alice.enter("a1", "1", 10, "2.00")

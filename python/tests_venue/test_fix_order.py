@@ -8,14 +8,12 @@ import fixing
 import pytest
 import served
 from callauction.fix import dictionaries
+from fix_messages import ALL, TIME, answer, order, whole
 from fixing import Pairs, Peer
-from test_fix_tags import TIME, answer, order, whole
 
 BEGIN, END = (8, 9, 35), 10
 TIMES = (52, 60, 122)
 """Tags of times, which are to a millisecond."""
-ALL = [(267, "5"), *((269, it) for it in "QBA01"), (146, "1"), (55, "XYZ")]
-"""All that there is of market data."""
 AGAIN = {"3", "4", "8", "9", "j", "r", "y", "AE"}
 """The types of messages that are sent again."""
 LIVE = AGAIN - {"4"} | {"A", "0", "h", "W", "X", "Y"}

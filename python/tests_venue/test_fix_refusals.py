@@ -12,11 +12,10 @@ from collections.abc import Iterator
 import fixing
 import pytest
 import served
+from fix_clients import NewPeer, new_day
+from fix_messages import answer, ask_data, order, picked
+from fix_venues import on
 from fixing import Closed, Message, Pairs, Peer
-from test_fix_requests import ask_data
-from test_fix_tags import answer, order, picked
-from test_fix_venue import on
-from test_fix_versions import NewPeer, day_of
 
 MILLISECONDS = re.compile(r"[0-9]{8}-[0-9]{2}:[0-9]{2}:[0-9]{2}\.[0-9]{3}")
 
@@ -54,7 +53,7 @@ def test_a_clock_that_is_wrong(tmp_path: pathlib.Path, monkeypatch: pytest.Monke
 
 def test_a_logon_without_its_version(tmp_path: pathlib.Path) -> None:
     port = served.free_port()
-    with served.served(tmp_path, day_of(port)):
+    with served.served(tmp_path, new_day(port)):
         token = fixing.token_of(tmp_path / "venue", "ALICE")
         peer = NewPeer(port, "ALICE")
         peer.connect()

@@ -1,26 +1,16 @@
 """What members by FIX ask beside orders: all orders deleted or shown, the list of instruments, the
 phases, the market as it changes; and orders that end with their connection.
 """
-import contextlib
-import dataclasses
 import pathlib
 import time
-from collections.abc import Iterator
 
 import fixing
 import psutil
 import pytest
 import served
+from fix_messages import ask_data, mass_cancel, rows
+from fix_venues import TWO, killable, on, reports, settled, until_logged
 from fixing import NOT_DONE, Message, Pairs, Peer
-from test_fix_venue import on, reports
-
-TWO = '[[instrument]]\nname = "XYZ"\n[[instrument]]\nname = "ABC"\ntitle = "Abc Inc."\n'
-
-
-def mass_cancel(peer: Peer, client: str, *more: tuple[int, str]) -> Message:
-    """The answer to an OrderMassCancelRequest."""
-    peer.say("q", [(11, client), *more, (60, fixing.stamp())])
-    return peer.take(lambda it: it[35] == "r")
 
 
 def test_all_orders_are_cancelled(tmp_path: pathlib.Path) -> None:
@@ -269,34 +259,6 @@ def test_a_book_that_is_empty(tmp_path: pathlib.Path) -> None:
         assert bob.take(lambda it: it[35] == "Y")[281] == "8"
 
 
-def ask_data(
-    peer: Peer, request: str, how: str, *more: tuple[int, str], types: str = "QBA01"
-) -> None:
-    """Sends a MarketDataRequest for these types of entries, which are all."""
-    entries = [(267, str(len(types))), *((269, it) for it in types)]
-    symbols = [(146, "1"), (55, "XYZ")]
-    peer.say("V", [(262, request), (263, how), (264, "1"), *more, *entries, *symbols])
-
-
-def rows(peer: Peer, kind: str) -> list[Message]:
-    """The rows of the next message of market data, which is of this kind."""
-    peer.socket.settimeout(fixing.SECONDS)
-    pairs = fixing.parsed(peer.whole())
-    peer.expected += 1
-    assert (35, kind) in pairs, pairs
-    first = 279 if kind == "X" else 269
-    count = int(dict(pairs)[268])
-    found: list[Message] = []
-    place = pairs.index((268, str(count)))
-    for tag, value in pairs[place + 1 : -1]:
-        if tag == first:
-            found.append({})
-        if found:
-            found[-1][tag] = value
-    assert len(found) == count
-    return found
-
-
 def test_an_open_book_has_sizes(tmp_path: pathlib.Path) -> None:
     port = served.free_port()
     day = fixing.day_of(port, "ALICE") + '[[round]]\nbook = "open"\n'
@@ -385,37 +347,6 @@ def test_the_end_of_a_subscription_that_there_is_not(tmp_path: pathlib.Path) -> 
         assert [it[35] for it in peer.got] == ["Y", "Y", "h"]
 
 
-@dataclasses.dataclass
-class Killable:
-    """A venue that is killed and begins again."""
-
-    words: list[object]
-    venue: served.Served
-
-    def again(self) -> served.Served:
-        """Kills it, and begins it again."""
-        self.venue.child.kill()
-        self.venue.child.communicate()
-        self.venue = served.started(*self.words)
-        return self.venue
-
-
-@contextlib.contextmanager
-def killable(folder: pathlib.Path, day: str) -> Iterator[Killable]:
-    """A venue of a day in a call phase."""
-    (folder / "day.toml").write_text(day, "utf-8")
-    words: list[object] = ["--day", folder / "day.toml", "--folder", folder / "venue"]
-    words += ["--port", served.free_port()]
-    found = Killable(words, served.started(*words))
-    try:
-        found.venue.do("start")
-        yield found
-        found.venue.end()
-    finally:
-        found.venue.child.kill()
-        found.venue.child.communicate()
-
-
 def test_orders_end_with_their_connection(tmp_path: pathlib.Path) -> None:
     """Also where the venue was killed; the orders of others and of a session that didn't ask for it
     stay.
@@ -452,15 +383,6 @@ def test_orders_end_with_their_connection(tmp_path: pathlib.Path) -> None:
         bob.logon(fixing.token_of(folder, "BOB"))
         bob.say("H", [(11, "b1"), (55, "XYZ"), (54, "2")])
         assert bob.take(lambda it: it.get(150) == "I")[39] == "0"
-
-
-def settled(peer: Peer, count: int) -> list[Message]:
-    """The reports so far, once so many orders are cancelled. Raises AssertionError."""
-    last = time.monotonic() + fixing.SECONDS
-    while len([it for it in peer.got if it.get(150) == "4"]) < count:
-        assert time.monotonic() < last, peer.got
-        peer.all(0.1)
-    return peer.got
 
 
 def test_a_list_is_settled(tmp_path: pathlib.Path) -> None:
@@ -513,14 +435,6 @@ def test_a_gap_in_place_of_what_was_not_executed(tmp_path: pathlib.Path) -> None
         assert {found[it][58] for it in ("a2", "a3", "a4")} == {NOT_DONE}
         peer.enter("a6", "2", 20, "3.00")
         assert reports(peer)[-1] == ("XYZ.2", "a6", "0", "20")
-
-
-def until_logged(folder: pathlib.Path, text: str) -> None:
-    """Waits until the venue's log has a text. Raises AssertionError."""
-    last = time.monotonic() + fixing.SECONDS
-    while text not in (folder / "venue.log").read_text("utf-8"):
-        assert time.monotonic() < last
-        time.sleep(0.05)
 
 
 def test_ten_reports_of_a_mass_status_count_as_a_message(tmp_path: pathlib.Path) -> None:

@@ -13,12 +13,10 @@ import fixing
 import psutil
 import pytest
 import served
-from callauction.fix._quickfix import Engine
+from acceptors import Asking
 from callauction.fix.resets import RESET_SECONDS
-from callauction.fix.settings import settings_of
-from fixing import Closed, Message, Pairs, Peer
-from test_fix_operator import reset
-from test_fix_requests import Killable, killable, until_logged
+from fix_venues import Killable, killable, reset, until_logged
+from fixing import Closed, Message, Peer
 
 OLD_ORDERS, NEW_ORDERS = 12, 3
 """Orders before and after the reset: the old numbers are above the new ones."""
@@ -279,34 +277,6 @@ def test_a_reset_that_an_order_holds_up(tmp_path: pathlib.Path) -> None:
 
 
 # ---- numbers under which nothing was sent
-
-
-class Asking:
-    """QuickFIX's acceptor, without a venue: what a client HOLES is sent that has logged on."""
-
-    def __init__(self, folder: pathlib.Path) -> None:
-        text = settings_of(folder, {"HOLES": "FIX.4.4"})
-        self.engine = Engine(text, lambda session, password: True)
-        self.session = "FIX.4.4:VENUE->HOLES"
-
-    def keep(self, *numbers: int) -> None:
-        """The session was sent a report under each of these numbers in an earlier run."""
-        pairs: Pairs = [(37, "1"), (17, "X"), (150, "0"), (39, "0"), (55, "XYZ"), (54, "1")]
-        for number in numbers:
-            self.engine.store(self.session, number, "8", pairs, fixing.stamp())
-
-    def begin(self) -> int:
-        """Logs on: the number of the connection."""
-        self.number = self.engine.connect()
-        self.say("A", [(98, "0"), (108, "30"), (554, "any")], 1)
-        return self.number
-
-    def say(self, kind: str, pairs: Pairs, number: int) -> list[Message]:
-        """What is answered to a message."""
-        self.engine.feed(self.number, fixing.written(kind, number, "HOLES", pairs))
-        found = b"".join(data for _, data, *_ in self.engine.outgoing())
-        texts = [it + b"\x01" for it in found.replace(b"\x018=FIX", b"\x01\n8=FIX").split(b"\n")]
-        return [dict(fixing.parsed(it.removesuffix(b"\x01"))) for it in texts if it != b"\x01"]
 
 
 def told(given: list[Message]) -> list[tuple[str, ...]]:

@@ -12,11 +12,10 @@ from callauction.fix.sent import MOST_AT_ONCE
 from callauction.venue.config import DayTerms, Plan
 from callauction.venue.fix_terms import Terms
 from callauction.venue.venue import Venue
+from fix_clients import Asked
+from fix_messages import ALL, picked
+from fix_venues import killable
 from fixing import Peer
-from test_fix_order import ALL
-from test_fix_requests import killable
-from test_fix_tags import picked
-from test_fix_unsettled import Asked
 
 SESSION, MESSAGES = "FIX.4.4:VENUE->ALICE", 2000
 
@@ -108,7 +107,6 @@ def test_answers_that_pass_are_not_kept(tmp_path: pathlib.Path, how: signal.Sign
         kept = {it for it in told if it[1] not in "W" and it[3] != "I"}
         assert {it for it in ids(peer) if it[2] != "last"} == kept
         assert peer.asked == []
-
 
 
 def ids(peer: Peer) -> set[tuple[str, ...]]:

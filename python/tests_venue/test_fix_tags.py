@@ -12,60 +12,19 @@ import pytest
 import served
 from callauction.fix.feeds import phase_of
 from callauction.venue.phases import Phase
+from fix_messages import (
+    FROM, HEAD, NEEDED, NOTHING, NO_ORDER, OF_ALL, OF_ORDERS, PARTIES, TIME, answer, ask_data,
+    order, picked, rows, whole,
+)
+from fix_venues import killable, on, until_logged
 from fixing import NOT_DONE, Message, Pairs, Peer
-from test_fix_requests import ask_data, killable, rows, until_logged
-from test_fix_venue import on
 
-TIME = "20261126-09:00:00"
-HEAD = [(50, "desk"), (57, "floor")]
-NOTHING = [(1, "a"), (21, "1"), (58, "text"), (100, "XETR"), (207, "XETR"), (528, "A"), (581, "1")]
-"""Tags that change nothing."""
-NEEDED: dict[str, list[Pairs]] = {
-    "D": [[(11, "n1")], [(55, "XYZ")], [(54, "1")], [(60, TIME)], [(38, "10")], [(40, "1")]],
-    "G": [
-        *([(41, "a1")], [(11, "n1")], [(55, "XYZ")], [(54, "1")], [(60, TIME)]),
-        *([(38, "10")], [(40, "1")]),
-    ],
-    "F": [[(41, "a1")], [(11, "n1")], [(55, "XYZ")], [(54, "1")], [(60, TIME)]],
-    "H": [[(11, "a1")], [(55, "XYZ")], [(54, "1")]],
-    "q": [[(11, "n1")], [(530, "7")], [(60, TIME)]],
-    "AF": [[(584, "n1")], [(585, "7")]],
-    "V": [
-        *([(262, "n1")], [(263, "0")], [(264, "1")]),
-        *([(267, "1"), (269, "Q")], [(146, "1"), (55, "XYZ")]),
-    ],
-    "g": [[(335, "n1")], [(263, "0")]],
-    "x": [[(320, "n1")], [(559, "4")]],
-}
-"""The tags that each message needs, a group as one."""
 OTHERS = {"D": 99, "G": 99, "F": 660, "H": 660, "q": 64, "AF": 453, "V": 286, "g": 338, "x": 167}
 """A tag for each that the standard has, and the venue hasn't."""
 
 
-NO_ORDER = "there is no order of this ClOrdID in this day"
 OTHER_SIDE = "Side (54) isn't the order's, which is 1"
 """What is said of a replace or a cancel that names another side than its order."""
-
-
-def whole(kind: str, *but: int) -> Pairs:
-    """A message that has what it needs but for these tags."""
-    return [it for group in NEEDED[kind] if group[0][0] not in but for it in group]
-
-
-def order(client: str, side: str, shares: str, *more: tuple[int, str]) -> Pairs:
-    """A NewOrderSingle."""
-    return [(11, client), (55, "XYZ"), (54, side), (60, TIME), (38, shares), *more]
-
-
-def answer(peer: Peer, kind: str, pairs: Pairs, head: Pairs = []) -> Message:
-    """What is answered to a message."""
-    peer.say(kind, pairs, head)
-    return peer.take(lambda it: it[35] not in "0124A")
-
-
-def picked(given: Message, *tags: int) -> tuple[str, ...]:
-    """These tags of a message, empty where it hasn't one."""
-    return tuple(given.get(it, "") for it in tags)
 
 
 def test_what_a_message_needs(tmp_path: pathlib.Path) -> None:
@@ -115,14 +74,6 @@ def test_tags_that_change_nothing(tmp_path: pathlib.Path) -> None:
         assert picked(answer(peer, "F", gone, HEAD), 150, 37, 38) == ("4", "XYZ.1", "12")
         found = answer(peer, "q", [(11, "a4"), (530, "7"), (60, TIME), (58, "text"), (207, "XETR")])
         assert picked(found, 35, 531, 533) == ("r", "7", "0")
-
-
-OF_ALL = [(48, "XYZ"), (22, "8"), (167, "CS")]
-SUB_IDS = [(802, "2"), (523, "FLOOR"), (803, "2"), (523, "X"), (803, "4000")]
-PARTIES = [(453, "2"), (448, "DESK"), (447, "D"), (452, "1"), *SUB_IDS, (448, "T"), (452, "11")]
-OF_ORDERS = [*OF_ALL, (15, "EUR"), (18, "1 5"), (126, "20991231-17:00:00")]
-FROM = [(115, "CLIENT"), (142, "FLOOR")]
-"""What clients send with orders beside what these are."""
 
 
 def test_what_is_sent_with_orders(tmp_path: pathlib.Path) -> None:

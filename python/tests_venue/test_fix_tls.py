@@ -14,10 +14,10 @@ import pytest
 import served
 from callauction.fix.wires import LINGER_SECONDS
 from callauction.venue.gates import HEAD_SECONDS
+from certificates import certificate
 from fixing import SOH, Peer
 from patience import TIMED
 from served import Served
-from test_operations import certificate
 
 pytestmark = TIMED
 SOON = 5.0

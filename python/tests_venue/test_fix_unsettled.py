@@ -8,23 +8,12 @@ from collections.abc import Callable
 import fixing
 import held
 import served
+from fix_clients import Asked
+from fix_messages import picked
+from fix_venues import until_logged
 from fixing import Peer
-from test_fix_requests import until_logged
-from test_fix_tags import picked
 
 Play = Callable[[pathlib.Path, served.Served, Peer], None]
-
-
-class Asked(Peer):
-    """A client that keeps from which number on messages were asked for."""
-
-    def __init__(self, port: int, member: str) -> None:
-        super().__init__(port, member)
-        self.asked: list[int] = []
-
-    def _again(self, begin: int) -> None:
-        self.asked.append(begin)
-        super()._again(begin)
 
 
 def killed(folder: pathlib.Path, play: Play) -> tuple[Peer, list[int], str]:

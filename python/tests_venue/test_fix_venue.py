@@ -1,101 +1,17 @@
 """The FIX front among what else a venue has: pages and WebSocket of the same member, rounds,
 groups, interrupted uncrosses, limits, and an engine of QuickFIX as the client.
 """
-import contextlib
 import pathlib
-import select
-import socket
 import time
-from collections.abc import Callable, Iterator
 
 import fixing
 import pytest
 import served
-from callauction.fix import dictionaries
-from callauction.fix._quickfix import Engine
 from callauction.fix.tags import FIX44, FIXT
 from callauction.venue import Client
-from fixing import Message, Peer
-
-SETTINGS = """[DEFAULT]
-ConnectionType=initiator
-HeartBtInt=30
-StartTime=00:00:00
-EndTime=00:00:00
-FileStorePath={store}
-[SESSION]
-BeginString={begin}
-SenderCompID={member}
-TargetCompID=VENUE
-"""
-DICTIONARIES = {
-    FIX44: "DataDictionary={folder}/FIX44.xml\n",
-    FIXT: "DefaultApplVerID=FIX.5.0SP2\nTransportDataDictionary={folder}/FIXT11.xml\n"
-    "AppDataDictionary={folder}/FIX50SP2.xml\n",
-}
-
-
-class Initiator:
-    """A session of QuickFIX's initiator, whose bytes go by a socket of the test."""
-
-    def __init__(
-        self,
-        port: int,
-        member: str,
-        password: str,
-        folder: pathlib.Path,
-        begin: str = FIX44,
-        more: str = "",
-    ) -> None:
-        folder.mkdir(exist_ok=True)
-        dictionaries.write(folder)
-        text = SETTINGS.format(store=folder, begin=begin, member=member)
-        text += DICTIONARIES[begin].format(folder=folder) + more
-        self.session = f"{begin}:{member}->VENUE"
-        self._engine, self._port, self._password = Engine(text), port, password
-        self.got: list[Message] = []
-        self.events: list[str] = []
-        self.heard = b""
-        self.socket: socket.socket | None = None
-
-    def begin(self) -> None:
-        """Connects, and sends a Logon."""
-        self.socket = socket.create_connection(("127.0.0.1", self._port))
-        self._number = self._engine.begin(self.session, self._password)
-
-    def connect(self) -> None:
-        """Connects, and logs on."""
-        self.begin()
-        self.until(lambda: self._engine.is_logged_on(self.session))
-
-    def close(self) -> None:
-        """Ends the connection without a word."""
-        assert self.socket is not None
-        self.socket.close()
-        self._engine.lost(self._number)
-
-    def send(self, kind: str, pairs: fixing.Pairs) -> None:
-        """Sends a message, or leaves it to the next Logon."""
-        self._engine.send(self.session, kind, [*pairs, (60, fixing.stamp())])
-
-    def until(self, is_done: Callable[[], bool]) -> None:
-        """Goes on until something holds. Raises AssertionError where it doesn't in time."""
-        last = time.monotonic() + fixing.SECONDS
-        while not is_done():
-            assert time.monotonic() < last
-            self.step()
-
-    def step(self) -> None:
-        """Sends what waits to be sent, and takes what comes."""
-        assert self.socket is not None
-        for _, data, *_ in self._engine.outgoing():
-            self.socket.sendall(data)
-        if select.select([self.socket], [], [], 0.05)[0]:
-            data = self.socket.recv(1 << 16)
-            self.heard += data
-            self._engine.feed(self._number, data)
-        self.events += [text.decode() for _, _, text in self._engine.events()]
-        self.got += [given for _, given, _ in self._engine.said()]
+from fix_clients import Initiator
+from fix_venues import on, reports
+from fixing import Peer
 
 
 def order(client: str, side: str, shares: int, price: str) -> fixing.Pairs:
@@ -157,23 +73,6 @@ def test_an_engine_of_quickfix_that_resets(tmp_path: pathlib.Path, begin: str) -
         mine.connect()
         mine.send("D", order("a1", "1", 100, "2.00"))
         mine.until(lambda: any(it[11] == "a1" for it in mine.got))
-
-
-@contextlib.contextmanager
-def on(
-    folder: pathlib.Path, day: str, port: int, *members: str
-) -> Iterator[tuple[served.Served, list[Peer]]]:
-    """A venue of a day, and its members by FIX."""
-    with served.served(folder, day) as venue:
-        peers = [Peer(port, it) for it in members]
-        for it in peers:
-            it.logon(fixing.token_of(folder / "venue", it.member))
-        yield venue, peers
-
-
-def reports(peer: Peer) -> list[tuple[str, str, str, str]]:
-    """What comes of an instrument: ids, what happened, what is open."""
-    return [(it[17], it.get(11, ""), it[150], it[151]) for it in peer.all() if it[35] == "8"]
 
 
 def test_a_member_may_use_the_pages_too(tmp_path: pathlib.Path) -> None:

@@ -10,16 +10,16 @@ from xml.etree import ElementTree
 import fixing
 import pytest
 import served
+from acceptors import ORDER, Speaker, refusal
 from callauction.fix import dictionaries
 from callauction.fix._quickfix import Engine
 from callauction.fix.build import QUICKFIX
 from callauction.fix.feeds import snapshot
 from callauction.fix.settings import settings_of
 from callauction.fix.tags import FIX44, FIXT
+from fix_clients import DICTIONARIES, SETTINGS, Initiator, NewPeer, new_day
+from fix_venues import reset
 from fixing import Pairs, Peer
-from test_fix_operator import reset
-from test_fix_slips import ORDER, Speaker, refusal
-from test_fix_venue import DICTIONARIES, SETTINGS, Initiator
 
 FIELD = re.compile(r"FIELD_SET\(\*this, FIX::(\w+)\)")
 OTHERS = {
@@ -32,18 +32,6 @@ PASSED_OVER = {
     *("Text", "EncodedTextLen", "EncodedText"),
 }
 """Fields that clients repeat where the standard hasn't them, and that change nothing."""
-
-
-class NewPeer(Peer):
-    """A member by FIX 5.0SP2."""
-
-    begin = b"FIXT.1.1"
-
-
-def day_of(port: int) -> str:
-    """A day in which ALICE and COPY speak FIX 5.0SP2, and BOB FIX 4.4."""
-    more = 'copy = "COPY"\nfix50 = ["ALICE", "COPY"]\n[fix.sessions]'
-    return fixing.day_of(port, "ALICE", "BOB").replace("[fix.sessions]", more)
 
 
 def test_a_member_takes_another_version(tmp_path: pathlib.Path) -> None:
@@ -74,7 +62,7 @@ def test_a_member_takes_another_version(tmp_path: pathlib.Path) -> None:
 def test_two_versions_trade_with_each_other(tmp_path: pathlib.Path) -> None:
     port, folder = served.free_port(), tmp_path / "venue"
     alice, bob, copy = NewPeer(port, "ALICE"), Peer(port, "BOB"), NewPeer(port, "COPY")
-    with served.served(tmp_path, day_of(port)) as venue:
+    with served.served(tmp_path, new_day(port)) as venue:
         hello = alice.logon(fixing.token_of(folder, "ALICE"), (1137, "9"))
         assert (hello[8], hello[1137]) == ("FIXT.1.1", "9")
         bob.logon(fixing.token_of(folder, "BOB"))
@@ -98,7 +86,7 @@ def test_two_versions_trade_with_each_other(tmp_path: pathlib.Path) -> None:
         assert found[58] == "MaxFloor and DisplayQty are two peaks"
         alice.say("E", [(66, "list")])
         assert alice.take(lambda it: it[35] == "j")[380] == "3"
-    with served.served(tmp_path, day_of(port)):
+    with served.served(tmp_path, new_day(port)):
         alice.logon(fixing.token_of(folder, "ALICE"), (1137, "9"))
         assert alice.all() == []
         alice.say("H", [(11, "a1"), (55, "XYZ"), (54, "1")])
@@ -107,7 +95,7 @@ def test_two_versions_trade_with_each_other(tmp_path: pathlib.Path) -> None:
 
 def test_a_session_has_its_version(tmp_path: pathlib.Path) -> None:
     port, folder = served.free_port(), tmp_path / "venue"
-    with served.served(tmp_path, day_of(port)):
+    with served.served(tmp_path, new_day(port)):
         for peer in (Peer(port, "ALICE"), NewPeer(port, "BOB")):
             with pytest.raises(fixing.Closed):
                 peer.logon(fixing.token_of(folder, peer.member), (1137, "9"))
@@ -179,7 +167,7 @@ def test_versions_are_no_tags_of_fix_4_4(tmp_path: pathlib.Path) -> None:
 
 def test_quickfix_s_own_initiator(tmp_path: pathlib.Path) -> None:
     port, folder = served.free_port(), tmp_path / "venue"
-    with served.served(tmp_path, day_of(port)) as venue:
+    with served.served(tmp_path, new_day(port)) as venue:
         venue.do("start")
         password = fixing.token_of(folder, "ALICE")
         mine = Initiator(port, "ALICE", password, tmp_path / "client", "FIXT.1.1")

@@ -25,12 +25,11 @@ from aiohttp import web
 from callauction.venue import AsyncClient, Client, VenueError, gates, listening, rates
 from callauction.venue.gates import Gate, Gates, Stage
 from callauction.venue.rates import Guesses
+from certificates import certificate
 from conftest import FAST
-from patience import TIMED, tmp_path  # noqa: F401
+from patience import TIMED, tmp_path, until
 from served import Served
-from test_doors import hello, said
-from test_operations import certificate
-from test_robots import until
+from speaking import hello, said
 
 pytestmark = TIMED
 

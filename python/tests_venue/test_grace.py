@@ -14,7 +14,7 @@ from callauction.venue.log import SlowWrite
 from callauction.venue.messages import Order
 from callauction.venue.phases import Phase
 from callauction.venue.venue import Venue
-from test_robots import until
+from patience import until
 
 SHORT, LONG = 3, 5
 """Seconds of a call: of one that is shorter than what it is given, and of a longer one."""

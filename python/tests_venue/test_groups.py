@@ -14,9 +14,9 @@ import served
 from browsing import SCREEN, opened
 from callauction.venue import AsyncClient, Client, VenueError
 from conftest import FAST
+from rounds import cut, sees, value_of
 from served import Served
-from test_doors import hello
-from test_rounds import cut, sees, value_of
+from speaking import hello
 
 SMALL = FAST + "group = 3\n"
 

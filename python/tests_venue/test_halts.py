@@ -6,9 +6,9 @@ import pytest
 import served
 from browsing import SCREEN, Page, joined, opened
 from callauction.venue import Client, VenueError
+from patience import until
+from rounds import sees
 from served import Served
-from test_robots import until
-from test_rounds import sees
 
 DAY = """
 sync = false

@@ -1,20 +1,14 @@
 """The operator's hand: who may join, by which code; who is removed, comes again, is renamed."""
 import concurrent.futures
 import pathlib
-from typing import Any
 
 import pytest
 import served
 from callauction.venue import Client, VenueError
 from conftest import FAST
+from patience import until
+from rounds import members, sees
 from served import Served
-from test_robots import until
-from test_rounds import sees
-
-
-def members(venue: Served) -> dict[str, dict[str, Any]]:
-    """What the operator sees of the members, by their names."""
-    return {it["name"]: it for it in sees(venue, "members")["members"]}
 
 
 def joins(venue: Served, name: str, code: str = "") -> str:

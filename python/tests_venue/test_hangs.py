@@ -5,10 +5,8 @@ import asyncio
 import contextlib
 import pathlib
 import signal
-import socket
 import subprocess
 import sys
-import threading
 import time
 from collections.abc import Iterator
 
@@ -17,43 +15,21 @@ import judged
 import psutil
 import pytest
 import served
-from callauction.venue import AsyncClient, Client, process, serving
+from callauction.venue import AsyncClient, Client, process
 from callauction.venue.process import Process
 from conftest import FAST
+from hanging import ANSWER_SECONDS, asking, ends_in_time, program_of
 from patience import TIMED, tmp_path  # noqa: F401
 from served import Served
 
 pytestmark = TIMED
 
 TWO = FAST + '[[instrument]]\nname = "HUNG"\n[[instrument]]\nname = "SOUND"\n'
-ANSWER_SECONDS, END_SECONDS = 10.0, 5.0
-"""What a program may take to answer, and a venue to end."""
 LATE = 3.0
 """How much later it may be seen on a machine that does much else."""
-YARDSTICK = f"""
-import os, signal, threading, time
-end = threading.Timer({serving.END_SECONDS}, os._exit, [0])
-signal.signal(signal.SIGTERM, lambda *_: end.start())
-print("begun", flush=True)
-while True:
-    time.sleep(1)
-"""
-"""A process that ends by its timer as long after a signal as a venue has to, and does no more: on a
-machine that does much else it is as late.
-"""
 MOST_WAIT = 1.0
 """Seconds that an order of another instrument may wait meanwhile, half of the time."""
 HALTED = "the program hasn't answered for 10 s"
-
-
-def program_of(venue: Served, name: str) -> psutil.Process:
-    """The process of an instrument's program."""
-    [found] = [
-        child
-        for child in psutil.Process(venue.child.pid).children()
-        if f"{name}.journal.csv" in " ".join(child.cmdline())
-    ]
-    return found
 
 
 @contextlib.contextmanager
@@ -120,27 +96,6 @@ def test_a_machine_that_stands_still(tmp_path: pathlib.Path) -> None:
                 return entry
 
         assert asyncio.run(ask()) == 2
-
-
-def ends_in_time(child: "subprocess.Popen[str]") -> tuple[int, str]:
-    """The status of a venue that ends by a signal, and what it says. Raises AssertionError where it
-    takes more than END_SECONDS, and as much as this machine is late.
-    """
-    words = [sys.executable, "-c", YARDSTICK]
-    with subprocess.Popen(words, stdout=subprocess.PIPE) as yardstick:
-        assert yardstick.stdout is not None and yardstick.stdout.readline()
-        ends: list[float] = []
-        waits = threading.Thread(target=lambda: ends.append(yardstick.wait() + time.monotonic()))
-        waits.start()
-        begin = time.monotonic()
-        yardstick.send_signal(signal.SIGTERM)
-        child.send_signal(signal.SIGTERM)
-        _, error = child.communicate(timeout=served.SECONDS)
-        took = time.monotonic() - begin
-        waits.join()
-        late = ends[0] - begin - serving.END_SECONDS
-    assert took < END_SECONDS + late, (took, late, error)
-    return child.returncode, error
 
 
 @pytest.mark.parametrize("is_asked", [False, True], ids=["idle", "with an order"])
@@ -328,16 +283,6 @@ sys.exit(venue.main())
 """A venue with a page that hangs, and where WHAT says so with a front that hangs at its end."""
 PARTS = ("front", "page", "program", "members")
 MANY = 100
-
-
-@contextlib.contextmanager
-def asking(venue: Served) -> Iterator[None]:
-    """Somebody waits for a page that hangs."""
-    host, port = venue.url.split("/")[2].split(":")
-    with socket.create_connection((host, int(port)), served.SECONDS) as asked:
-        asked.sendall(b"GET /api/schema HTTP/1.1\r\nHost: " + host.encode() + b"\r\n\r\n")
-        time.sleep(0.2)
-        yield
 
 
 def members(venue: Served, count: int) -> list[str]:

@@ -11,11 +11,11 @@ import pytest
 import served
 from aiohttp import web
 from callauction.venue import heads
+from certificates import certificate
 from conftest import FAST
+from listeners import Line
 from raw import HANDSHAKE
 from served import Served
-from test_operations import certificate
-from test_turns import Line
 
 HOST = b"Host: 127.0.0.1\r\n"
 JOIN = b"POST /api/join HTTP/1.1\r\n" + HOST + b"Content-Type: application/json\r\n"

@@ -8,8 +8,8 @@ from callauction.venue.gains import Value
 from callauction.venue.holdings import Holding, Own
 from callauction.venue.messages import MessageError
 from callauction.venue.treatments import Limits
+from rounds import VALUES, limited
 from served import Served
-from test_rounds import VALUES, limited
 
 HIGH = 1000
 OWN = {1: Own("bid", 4, 200), 2: Own("bid", 2, 300), 3: Own("ask", 3, 400)}

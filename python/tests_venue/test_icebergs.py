@@ -11,7 +11,7 @@ from callauction.venue.config import DayTerms, Plan
 from callauction.venue.messages import Order
 from callauction.venue.venue import Venue
 from callauction.venue.views import Level
-from test_first_looks import Listener
+from listeners import Listener
 
 LOOKS = 5
 LIST = "show,orders"

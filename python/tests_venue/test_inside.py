@@ -20,7 +20,7 @@ from callauction.venue import (
     clock, connection, gates, http, listening, log, rates, serving, teaching, tokens, views,
 )
 from callauction.venue.audience import MOST_OF_MEMBER
-from callauction.venue.config import DayTerms, InstrumentTerms, Plan
+from callauction.venue.config import DayTerms, InstrumentTerms
 from callauction.venue.gates import Gates
 from callauction.venue.http import Site
 from callauction.venue.log import ChangedByOthers, Log, SlowWrite
@@ -31,16 +31,6 @@ from callauction.venue.venue import Venue
 
 pytestmark = pytest.mark.asyncio
 IS_DONE_LATER = "the venue has halted; this is done once it goes on"
-
-
-@pytest_asyncio.fixture
-async def inside(tmp_path: pathlib.Path) -> AsyncIterator[Venue]:
-    """A venue that runs in this loop."""
-    day = DayTerms(is_synced=False, plan=Plan(call=0))
-    venue = Venue(day, tmp_path, served.program())
-    await venue.open()
-    yield venue
-    await venue.close()
 
 
 @pytest_asyncio.fixture

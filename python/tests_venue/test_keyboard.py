@@ -7,8 +7,8 @@ import served
 from browsing import SCREEN, Page, opened
 from callauction.venue import Client
 from conftest import FAST
+from rounds import VALUES, trade
 from selenium.webdriver.common.keys import Keys
-from test_rounds import VALUES, trade
 
 
 def writes(page: Page, field: str, words: str) -> None:

@@ -11,9 +11,9 @@ from collections.abc import Iterator
 
 import fixing
 import served
+from hanging import asking, ends_in_time, program_of
 from patience import TIMED, tmp_path  # noqa: F401
 from served import Served
-from test_hangs import asking, ends_in_time, program_of
 
 pytestmark = TIMED
 HANGING = """

@@ -18,7 +18,7 @@ from callauction.venue.leftovers import Program
 from callauction.venue.metrics import halts_of
 from callauction.venue.venue import Venue
 from conftest import FAST
-from test_robots import until
+from patience import until
 
 SLEEPS = ("/bin/sleep", "1000")
 HOLDS = """

@@ -11,7 +11,7 @@ import psutil
 import pytest
 import served
 from callauction.venue import serving
-from test_robots import until
+from patience import until
 
 BEGIN = """
 import sys, threading

@@ -1,31 +1,18 @@
 """Messages, as the venue reads them and as schema.json has them for others."""
-import json
 from typing import Any
 
-import jsonschema
 import pytest
-import served
 from callauction.venue import messages
 from callauction.venue.config import InstrumentTerms
 from callauction.venue.messages import MessageError
 from hypothesis import given, settings
 from hypothesis import strategies as st
+from schemas import SCHEMA, SENT
 
-SCHEMA = json.loads((served.PACKAGE / "callauction/venue/schema.json").read_text("utf-8"))
 TERMS = InstrumentTerms(most_quantity=1000)
 ENTER: dict[str, Any] = {
     "type": "enter", "number": 1, "side": "bid", "quantity": 5, "price": "2.00"
 }
-
-
-def validator(name: str) -> Any:
-    """What looks at messages of this kind."""
-    return jsonschema.Draft202012Validator(
-        {"$ref": f"#/$defs/{name}", "$defs": SCHEMA["$defs"]}
-    )
-
-
-SENT, RECEIVED = validator("sent"), validator("received")
 
 
 @pytest.mark.parametrize(

@@ -36,13 +36,13 @@ from callauction.venue.config import DayTerms
 from callauction.venue.latency import Times
 from callauction.venue.metrics import Measures
 from callauction.venue.serving import Address, AddressError
+from certificates import ECDSA, certificate
 from conftest import FAST
+from patience import until
 from prometheus_client.core import GaugeMetricFamily
 from prometheus_client.metrics_core import Metric
-from prometheus_client.parser import text_string_to_metric_families
-from served import Served
-from test_doors import ended
-from test_robots import until
+from served import Served, ended
+from watched import looked, measured
 
 DAY_IS_OVER = "the day is over: no call can start; the next round can, or --folder NEW begins anew"
 
@@ -433,21 +433,8 @@ def test_a_day_that_runs_is_checked_as_it_is_at_one_moment(tmp_path: pathlib.Pat
 # ---- certificates
 
 
-ECDSA = "ec -pkeyopt ec_paramgen_curve:prime256v1"
 RSA = "rsa:2048"
 """Kinds of keys, as openssl names them."""
-
-
-def certificate(
-    folder: pathlib.Path, name: str, days: int = 30, kind: str = ECDSA
-) -> list[str]:
-    """A certificate and its key, as words of a venue."""
-    cert, key = folder / "cert.pem", folder / "key.pem"
-    words = f"openssl req -x509 -newkey {kind} -nodes"
-    files = ["-subj", f"/CN={name}", "-keyout", str(key), "-out", str(cert), "-days", str(days)]
-    named = ["-addext", "subjectAltName=IP:127.0.0.1"]
-    subprocess.run([*words.split(), *files, *named], check=True, capture_output=True)
-    return ["--tls-cert", str(cert), "--tls-key", str(key)]
 
 
 def seen(venue: Served) -> bytes:
@@ -803,26 +790,6 @@ def test_the_unit_allows_what_a_venue_does(tmp_path: pathlib.Path) -> None:
 
 
 # ---- what is looked at
-
-
-def looked(url: str) -> tuple[int, str]:
-    """The status and the text of a page."""
-    try:
-        with urllib.request.urlopen(url, timeout=served.SECONDS) as answer:
-            return answer.status, answer.read().decode()
-    except urllib.error.HTTPError as fault:
-        with fault:
-            return fault.code, fault.read().decode()
-
-
-def measured(url: str) -> dict[str, dict[tuple[str, ...], float]]:
-    """The samples of /metrics, by their names and the values of their labels."""
-    found: dict[str, dict[tuple[str, ...], float]] = {}
-    families: Any = text_string_to_metric_families
-    for family in families(looked(f"{url}/metrics")[1]):
-        for sample in family.samples:
-            found.setdefault(sample.name, {})[tuple(sample.labels.values())] = sample.value
-    return found
 
 
 def test_health_and_metrics(tmp_path: pathlib.Path) -> None:

@@ -11,7 +11,7 @@ from callauction.venue import owned, remedies
 from callauction.venue.log import LogError, LogInUse, OtherVersion
 from callauction.venue.process import ProcessError
 from callauction.venue.recovery import RecoveryError
-from test_doors import ended
+from served import ended
 
 SAID = [
     (LogInUse("L is in use by another venue"), "end that one, or --folder NEW begins anew", 2),

@@ -2,8 +2,6 @@
 import asyncio
 import json
 import pathlib
-import time
-from collections.abc import Callable
 from decimal import Decimal
 from typing import Any
 
@@ -13,16 +11,9 @@ import pytest
 import served
 from callauction.venue import Client, VenueError
 from conftest import FAST
+from patience import until
+from schemas import RECEIVED, SENT
 from served import Served
-from test_messages import RECEIVED, SENT
-
-
-def until(holds: Callable[[], bool], seconds: float = served.SECONDS) -> None:
-    """Waits until this holds. Raises AssertionError."""
-    last = time.monotonic() + seconds
-    while not holds():
-        assert time.monotonic() < last
-        time.sleep(0.02)
 
 
 def test_two_robots_trade(venue: Served) -> None:

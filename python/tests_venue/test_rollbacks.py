@@ -25,10 +25,10 @@ from callauction.venue.recovery import (
 )
 from callauction.venue.venue import LOOK_SECONDS
 from conftest import FAST
+from patience import until
 from served import Served
-from test_doors import hello, said
-from test_operations import looked, measured
-from test_robots import until
+from speaking import hello, said
+from watched import looked, measured
 
 TWO = FAST + '[[instrument]]\nname = "OLD"\n[[instrument]]\nname = "SOUND"\n'
 ANSWERED, KEPT = 15, 6

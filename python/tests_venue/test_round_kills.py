@@ -16,9 +16,9 @@ import aiohttp
 import judged
 import served
 from conftest import FAST
+from rounds import download
 from served import Served
-from test_doors import hello
-from test_downloads import download
+from speaking import hello
 
 KILLS = int(os.environ.get("VENUE_ROUND_KILLS", "15"))
 ROUNDS, MOST_PAUSE = 3, 5.0

@@ -1,55 +1,15 @@
 """Rounds: the next one for the same members, what it is, and what of it is there after a kill."""
-import asyncio
 import pathlib
-from typing import Any
 
-import aiohttp
 import judged
 import pytest
 import served
 from callauction.venue import Client, VenueError, copies
 from conftest import FAST
+from patience import until
+from rounds import VALUES, cut, limited, sees, trade, value_of
+from schemas import RECEIVED
 from served import Served
-from test_doors import hello
-from test_messages import RECEIVED
-from test_robots import until
-
-
-def sees(venue: Served, kind: str, token: str = "") -> dict[str, Any]:
-    """The message of this kind that somebody is first shown: the operator, if nobody else."""
-
-    async def heard() -> dict[str, Any]:
-        async with aiohttp.ClientSession() as web, asyncio.timeout(served.SECONDS):
-            async with web.ws_connect(f"{venue.url}api/socket") as socket:
-                await socket.send_str(hello(token or venue.operator))
-                while True:
-                    found: dict[str, Any] = await socket.receive_json()
-                    if found["type"] == kind:
-                        return found
-
-    return asyncio.run(heard())
-
-
-def value_of(venue: Served, token: str) -> Any:
-    """The value that a member has."""
-    return venue.call("api/look/fills", token=token)[1]["value"]
-
-
-def trade(
-    venue: Served, buyer: str, seller: str, price: str = "2.00", instrument: str | None = None
-) -> None:
-    """An auction in which one member buys 10 shares of another."""
-    named = {"instrument": instrument} if instrument else {}
-    venue.do("start", **named)
-    with Client(venue.url, buyer) as me, Client(venue.url, seller) as other:
-        me.enter("bid", 10, price, instrument=instrument)
-        other.enter("ask", 10, price, instrument=instrument)
-        venue.do("uncross", **named)
-        until(lambda: bool(me.look("fills", instrument)["fills"]))
-
-
-VALUES = [{"member": "Anna", "side": "bid", "price": "2.50", "quantity": 10},
-          {"member": "Bert", "side": "ask", "price": "1.50", "quantity": 10}]
 
 
 def test_one_press_begins_the_next_round(venue: Served, tmp_path: pathlib.Path) -> None:
@@ -189,12 +149,6 @@ def test_a_round_that_the_operator_makes(venue: Served) -> None:
     assert sees(venue, "round")["round"] == 2
 
 
-def limited(venue: Served, **treatment: Any) -> None:
-    """Begins a second round with these limits, and its first call."""
-    venue.do("next", round=2, treatment=treatment)
-    venue.do("start")
-
-
 def refusals(me: Client, *orders: tuple[str, int, str]) -> list[str]:
     """What is said to these orders, empty where they are taken."""
     found = []
@@ -302,13 +256,6 @@ def test_a_first_round_hands_out_values_as_the_operator_says(venue: Served) -> N
     assert value_of(venue, token) is None
     venue.do("start")
     assert value_of(venue, token)["price"] == "2.00"
-
-
-def cut(log: pathlib.Path, text: str) -> None:
-    """The log as it is where the venue was killed after the last line that has this text."""
-    lines = log.read_text().splitlines(keepends=True)
-    last = max(place for place, line in enumerate(lines) if text in line)
-    log.write_text("".join(lines[: last + 1]))
 
 
 def test_a_kill_while_a_round_begins(venue: Served, tmp_path: pathlib.Path) -> None:

@@ -13,7 +13,7 @@ from callauction.venue.owned import OwnerError
 from callauction.venue.tokens import TokenError
 from conftest import FAST
 from disk import Disk
-from test_doors import ended
+from served import ended
 
 FOLDER = pathlib.Path("venue")
 OTHER = 65_534

@@ -11,7 +11,7 @@ import served
 from browsing import SCREEN, Page, enters, joins, opened
 from callauction.venue import Client
 from conftest import FAST
-from test_rounds import VALUES, trade
+from rounds import VALUES, trade
 
 DAY = f"""
 title = "Rounds"

@@ -11,46 +11,13 @@ import pytest
 from callauction.venue.gates import Gate, Gates, Stage
 from callauction.venue.passing import HEAD_SLICE, Passed, Secured, size_of_slice
 from callauction.venue.turns import Turns
-from test_operations import certificate
+from certificates import certificate
+from listeners import Line
 
 REQUEST = b"GET /api/day HTTP/1.1\r\nHost: 127.0.0.1\r\n\r\n"
 STRANGERS, ADDRESSES, ROUNDS = 250, 5, 100
 Heard = list[tuple[str, bytes]]
 pytestmark = pytest.mark.asyncio
-
-
-class Line(asyncio.Transport):
-    """A transport of a connection that isn't there."""
-
-    is_read = True
-    is_over = False
-    said = b""
-
-    def pause_reading(self) -> None:
-        self.is_read = False
-
-    def resume_reading(self) -> None:
-        self.is_read = True
-
-    def is_closing(self) -> bool:
-        return self.is_over
-
-    def abort(self) -> None:
-        self.is_over = True
-
-    def close(self) -> None:
-        self.is_over = True
-
-    def get_extra_info(self, name: str, default: Any = None) -> Any:
-        return default
-
-    def write(self, data: bytes | bytearray | memoryview) -> None:
-        self.said += bytes(data)
-
-    def taken(self) -> bytes:
-        """What was said since this was asked for the last time."""
-        said, self.said = self.said, b""
-        return said
 
 
 class Inner(asyncio.Protocol):

@@ -17,10 +17,10 @@ from callauction.venue.log import Log
 from callauction.venue.messages import MessageError
 from callauction.venue.treatments import Treatment
 from conftest import FAST
-from test_messages import RECEIVED
-from test_operations import measured
-from test_robots import until
-from test_rounds import sees
+from patience import until
+from rounds import sees
+from schemas import RECEIVED
+from watched import measured
 
 PRICE = "3.00"
 """What the first auction comes to, which isn't the day's own reference price of 2.00."""
