@@ -118,19 +118,7 @@ def _parser() -> argparse.ArgumentParser:
     commands = parser.add_subparsers(required=True, metavar="COMMAND")
     made = {
         name: commands.add_parser(name, help=text, description=text, epilog=_AFTER)
-        for name, text in (
-            (
-                "report",
-                "write the report of an order file, a journal or an extract as an HTML file",
-            ),
-            ("audit", "say whether what was published is lawful: of a journal or an extract"),
-            (
-                "audit-auction",
-                "say whether what was published of auctions is lawful: of their books alone",
-            ),
-            ("plot", "draw a book, the course of the day, or who trades with whom"),
-            ("convert", "make a journal of a CSV file of order events"),
-        )
+        for name, text in _COMMANDS.items()
     }
     runs = {
         "report": _report, "audit": _audit, "audit-auction": _audit_auction, "plot": _plot,
@@ -139,6 +127,12 @@ def _parser() -> argparse.ArgumentParser:
     for name, run in runs.items():
         made[name].add_argument("file", help="the file to read, - for standard input")
         made[name].set_defaults(run=run)
+    _add_own_options(made)
+    return parser
+
+
+def _add_own_options(made: dict[str, Parser]) -> None:
+    """The options of each command."""
     for name in ("report", "plot", "convert"):
         made[name].add_argument("-o", "--output", required=True, help="the file to write")
     _add_pictures(made["plot"])
@@ -157,7 +151,6 @@ def _parser() -> argparse.ArgumentParser:
     command.add_reading(made["convert"])
     _add_conversion(made["convert"])
     made["convert"].add_argument("--orders", help="also write a CSV file of our ids and theirs")
-    return parser
 
 
 def _add_verdicts(parser: argparse.ArgumentParser) -> None:
@@ -195,6 +188,14 @@ def _file(forms: Collection[str], path: str) -> str:
     return path
 
 
+_COMMANDS = {
+    "report": "write the report of an order file, a journal or an extract as an HTML file",
+    "audit": "say whether what was published is lawful: of a journal or an extract",
+    "audit-auction": "say whether what was published of auctions is lawful: of their books alone",
+    "plot": "draw a book, the course of the day, or who trades with whom",
+    "convert": "make a journal of a CSV file of order events",
+}
+"""What each command does."""
 _AFTER = "docs/FORMATS.md has order files, journals and statuses; docs/AUDIT.md has extracts."
 
 

@@ -214,6 +214,18 @@ class Feeds:
         return board.looks.visible_levels if self._venue.rounds.now.is_open_book else []
 
 
+def check_data(given: Given, update: str, types: frozenset[str]) -> None:
+    """Raises SeatError where market data can't be asked for so."""
+    if given[Tag.SUBSCRIPTION_REQUEST_TYPE] not in (ONCE, ON):
+        raise SeatError(UNSUPPORTED, "SubscriptionRequestType is 0, 1 or 2")
+    if given[Tag.MARKET_DEPTH] not in DEPTHS:
+        raise SeatError(DEPTH, "MarketDepth is 0 or 1: the best limits are shown alone")
+    if update not in (WHOLE, CHANGES):
+        raise SeatError(UPDATE_TYPE, "MDUpdateType is 0 or 1")
+    if not types <= {*ENTRY_TYPES}:
+        raise SeatError(ENTRY_TYPE, f"MDEntryType is one of {', '.join(ENTRY_TYPES)}")
+
+
 async def ask_data(seat: "Seat", asked: Pairs, given: Given, number: int) -> None:
     """MarketDataRequest. Raises MessageError. What changes is heard by its connection alone."""
     feeds, request, how = seat.feeds, given[Tag.MD_REQ_ID], given[Tag.SUBSCRIPTION_REQUEST_TYPE]
@@ -224,14 +236,7 @@ async def ask_data(seat: "Seat", asked: Pairs, given: Given, number: int) -> Non
         return
     types = frozenset(value for tag, value in asked if tag == Tag.MD_ENTRY_TYPE)
     update = given.get(Tag.MD_UPDATE_TYPE, WHOLE)
-    if how not in (ONCE, ON):
-        raise SeatError(UNSUPPORTED, "SubscriptionRequestType is 0, 1 or 2")
-    if given[Tag.MARKET_DEPTH] not in DEPTHS:
-        raise SeatError(DEPTH, "MarketDepth is 0 or 1: the best limits are shown alone")
-    if update not in (WHOLE, CHANGES):
-        raise SeatError(UPDATE_TYPE, "MDUpdateType is 0 or 1")
-    if not types <= {*ENTRY_TYPES}:
-        raise SeatError(ENTRY_TYPE, f"MDEntryType is one of {', '.join(ENTRY_TYPES)}")
+    check_data(given, update, types)
     named = (seat.named_board(value) for tag, value in asked if tag == Tag.SYMBOL)
     boards = [*dict.fromkeys(named)]
     data = Data(request, types, frozenset(it.identity.instrument for it in boards), update == WHOLE)

@@ -28,18 +28,7 @@ ENDS = "the venue ends: what was answered stays"
 async def reset(connections: Connections, reports: Reports, comp_id: str) -> None:
     """Ends a session, and begins it anew with what its journals gave so far. Raises MessageError.
     """
-    outbound = connections.outbound
-    seat = next((it for it in connections.seats.values() if it.comp_id == comp_id), None)
-    if seat is None:
-        raise MessageError("bad_message", f"there is no session {comp_id}")
-    try:
-        await asyncio.wait_for(connections.has_begun.wait(), RESET_SECONDS)
-    except TimeoutError:
-        raise MessageError("halted", NOT_READY) from None
-    if not connections.is_ready:
-        raise MessageError("halted", ENDS)
-    if seat in connections.resetting:
-        raise MessageError("bad_phase", f"{comp_id} is being reset")
+    outbound, seat = connections.outbound, await seat_to_reset(connections, comp_id)
     connections.resetting.add(seat)
     try:
         await asyncio.wait_for(answered(reports, seat), RESET_SECONDS)
@@ -56,6 +45,22 @@ async def reset(connections: Connections, reports: Reports, comp_id: str) -> Non
     finally:
         connections.resetting.discard(seat)
         outbound.beginning.discard(seat)
+
+
+async def seat_to_reset(connections: Connections, comp_id: str) -> Seat:
+    """The seat of a session that can be reset now. Raises MessageError where it can't."""
+    seat = next((it for it in connections.seats.values() if it.comp_id == comp_id), None)
+    if seat is None:
+        raise MessageError("bad_message", f"there is no session {comp_id}")
+    try:
+        await asyncio.wait_for(connections.has_begun.wait(), RESET_SECONDS)
+    except TimeoutError:
+        raise MessageError("halted", NOT_READY) from None
+    if not connections.is_ready:
+        raise MessageError("halted", ENDS)
+    if seat in connections.resetting:
+        raise MessageError("bad_phase", f"{comp_id} is being reset")
+    return seat
 
 
 async def answered(reports: Reports, seat: Seat) -> None:

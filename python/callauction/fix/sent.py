@@ -67,23 +67,27 @@ class Sent:
         self._following: dict[str, set[int]] = {}
         for line in self.log.lines():
             with taking(line):
-                session = line["session"]
-                if line["kind"] == "reset":
-                    comp_id = comp_id_of(session)
-                    self.epochs[comp_id] = line.get("epoch", self.epochs[comp_id] + 1)
-                    self.marks[comp_id] = line.get("mark", "")
-                    texts = [text for text, _ in self._texts.pop(session, [])]
-                    self.former.setdefault(session, []).extend(texts)
-                    self._passed.pop(session, None)
-                    anew, count = staged.pop(session, []), int(line.get("anew", 0))
-                    self._texts[session] = anew[len(anew) - count :]
-                elif line["kind"] == "passed":
-                    it = Passed(line["first"], line["last"], line["events"], line["since"])
-                    self._passed.setdefault(session, []).append(it)
-                else:
-                    those = staged if line["kind"] == "anew" else self._texts
-                    text = line["text"].encode("latin-1"), int(line.get("since", 0))
-                    those.setdefault(session, []).append(text)
+                self._learn(line["session"], line, staged)
+
+    def _learn(self, session: str, line: Line, staged: dict[str, list[tuple[bytes, int]]]) -> None:
+        """Takes a line of the log; `staged` is what sessions are sent by a reset that isn't there.
+        """
+        if line["kind"] == "reset":
+            comp_id = comp_id_of(session)
+            self.epochs[comp_id] = line.get("epoch", self.epochs[comp_id] + 1)
+            self.marks[comp_id] = line.get("mark", "")
+            texts = [text for text, _ in self._texts.pop(session, [])]
+            self.former.setdefault(session, []).extend(texts)
+            self._passed.pop(session, None)
+            anew, count = staged.pop(session, []), int(line.get("anew", 0))
+            self._texts[session] = anew[len(anew) - count :]
+        elif line["kind"] == "passed":
+            it = Passed(line["first"], line["last"], line["events"], line["since"])
+            self._passed.setdefault(session, []).append(it)
+        else:
+            those = staged if line["kind"] == "anew" else self._texts
+            text = line["text"].encode("latin-1"), int(line.get("since", 0))
+            those.setdefault(session, []).append(text)
 
     def earlier(self, session: str) -> dict[int, tuple[bytes, int]]:
         """What was written that a session was sent in earlier runs, by its numbers, each with the

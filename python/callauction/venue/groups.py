@@ -9,7 +9,7 @@ from callauction.venue.members import Member
 from callauction.venue.messages import MessageError
 from callauction.venue.parts import Parts
 from callauction.venue.phases import Phase, PhaseError
-from callauction.venue.rounds import by_side, dealt, is_even, small
+from callauction.venue.rounds import Round, by_side, dealt, is_even, small
 from callauction.venue.starts import Starts
 from callauction.venue.treatments import Treatment
 
@@ -82,16 +82,8 @@ class Groups:
             now = self._rounds.now
             if number != now.number + 1:
                 raise PhaseError(f"the round is {now.number}")
-            before = [*now.boards.values()]
-            for board in before:
-                if board.engine.halted is None:
-                    await board.looks.settle()
-            if now.going:
-                names = ", ".join(now.going)
-                raise PhaseError(f"an auction is going on of {names}: end its call, and uncross")
-            if not is_anyway:
-                self._rounds.check_known()
-            for board in before:
+            await self._check_over(now, is_anyway)
+            for board in [*now.boards.values()]:
                 await board.end()
             count = -(-len(self._members.all) // self._day.group)
             found = self._rounds.new(number, treatment, max(1, count))
@@ -102,6 +94,19 @@ class Groups:
             self._deal_round()
         self._log.append("", self._audience.show_all)
         await self._halts.noted()
+
+    async def _check_over(self, now: Round, is_anyway: bool) -> None:
+        """Raises PhaseError while an auction of a round is going on, and unless `is_anyway`
+        MessageError where it isn't known what a board has.
+        """
+        for board in [*now.boards.values()]:
+            if board.engine.halted is None:
+                await board.looks.settle()
+        if now.going:
+            names = ", ".join(now.going)
+            raise PhaseError(f"an auction is going on of {names}: end its call, and uncross")
+        if not is_anyway:
+            self._rounds.check_known()
 
     # ---- who is where
 

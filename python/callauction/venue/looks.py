@@ -150,10 +150,7 @@ class Looks:
         except ProcessError:
             self._stale.update(wanted)
             raise
-        self.indication = views.Indication.of(found[0][0])
-        self._auctions.indicated(self.indication)
-        self.day = views.DayView.of(found[1][0])
-        self._add_trades(trades := views.trades_in_view(found[2]))
+        has_traded = self._take_day(found)
         self.orders.update(zip(asked, map(views.orders_in_view, found[3:])))
         self.is_ladder_seen = has_ladder
         if has_ladder:
@@ -167,7 +164,15 @@ class Looks:
             book.seen(views.orders_in_view(found[-1]))
         is_first, self.is_seen = not self.is_seen, True
         told = [it for it in self.wanted() if self.knows_orders_of(it)] if is_first else asked
-        self.on_shown(frozenset(told), is_first or bool(trades))
+        self.on_shown(frozenset(told), is_first or has_traded)
+
+    def _take_day(self, found: Sequence[list[str]]) -> bool:
+        """Takes what the program shows of its day: whether there are new trades."""
+        self.indication = views.Indication.of(found[0][0])
+        self._auctions.indicated(self.indication)
+        self.day = views.DayView.of(found[1][0])
+        self._add_trades(trades := views.trades_in_view(found[2]))
+        return bool(trades)
 
     def _add_trades(self, trades: Iterable[views.Trade]) -> None:
         """Trades that weren't known, and whose they are."""

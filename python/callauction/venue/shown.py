@@ -242,25 +242,27 @@ def halt_of(board: InstrumentBoard, why: str) -> Json:
     return {"instrument": identity.name, "round": identity.round, "why": why}
 
 
+def member_of(member: Member, is_there: bool, rounds: Rounds) -> Json:
+    """A member, whether it is connected, and its values and gains."""
+    return {
+        "name": member.title,
+        "is_here": is_there or bool(member.robot),
+        "is_removed": member.is_removed,
+        "robot": member.robot,
+        "group": member.group,
+        "values": {
+            name: {"value": value_of(it, member.name), "gain": gain_of(it, member.name)}
+            for name, it in rounds.boards_of(member).items()
+        },
+    }
+
+
 def members_of(members: Members, there: Container[Member | None], rounds: Rounds) -> Json:
     """Who is a member, and who is connected; the codes by which they come, how many there may be,
     and the addresses whose new members are slowed, with how many came from there and who did last;
     the small groups of a round that has begun, with who is there.
     """
-    rows = [
-        {
-            "name": member.title,
-            "is_here": member in there or bool(member.robot),
-            "is_removed": member.is_removed,
-            "robot": member.robot,
-            "group": member.group,
-            "values": {
-                name: {"value": value_of(it, member.name), "gain": gain_of(it, member.name)}
-                for name, it in rounds.boards_of(member).items()
-            },
-        }
-        for member in members.everybody
-    ]
+    rows = [member_of(it, it in there, rounds) for it in members.everybody]
     codes = {members.title_of(name): code for name, code in members.codes.by_name.items()}
     slowed = [
         {"address": address, "count": len(names), "last": last_of(names)}

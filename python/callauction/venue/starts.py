@@ -124,6 +124,14 @@ class Starts:
         except OSError as fault:
             raise MessageError("halted", self._halts.halted or str(fault)) from None
         self._halts.log_goes_on()
+        whys = await self._try_again(halted)
+        texts = "; ".join(f"{key}: {why}" for key, why in whys.items() if why)
+        if text := self._halts.halted or texts:
+            raise MessageError("halted", text)
+        return resumed
+
+    async def _try_again(self, halted: list[InstrumentBoard]) -> dict[str, str | None]:
+        """Begins or resumes boards: by their keys why they have halted again, if so."""
         tried = []
         for board in halted:
             if board.identity.key in self.waiting:
@@ -134,11 +142,7 @@ class Starts:
         if tried:
             await asyncio.wait({task for _, task in tried}, timeout=RESUME_SECONDS)
         late = f"the program hasn't answered for {RESUME_SECONDS:g} s"
-        whys = {it.identity.key: it.engine.halted if task.done() else late for it, task in tried}
-        texts = "; ".join(f"{key}: {why}" for key, why in whys.items() if why)
-        if text := self._halts.halted or texts:
-            raise MessageError("halted", text)
-        return resumed
+        return {it.identity.key: it.engine.halted if task.done() else late for it, task in tried}
 
     async def _resumed(self, board: InstrumentBoard) -> None:
         """Waits for what comes of a board that is tried again, and begins with one that had halted

@@ -16,7 +16,7 @@ from callauction.venue.halts import Halts
 from callauction.venue.instrument_board import InstrumentBoard
 from callauction.venue.lasting import going_on
 from callauction.venue.leaving import Removal
-from callauction.venue.log import VERSION, Log, check_version
+from callauction.venue.log import VERSION, Line, Log, check_version
 from callauction.venue.logger import NOTICES
 from callauction.venue.members import Done, Member, Members, NameTakenError
 from callauction.venue.messages import MessageError, Order
@@ -123,11 +123,7 @@ class Venue:
         self._log_task = asyncio.create_task(self.log.run())
         if not lines:
             self.log.note(kind="venue", version=VERSION)
-        check_version(lines, self.log.path)
-        self.past.learn_day(lines, self.folder)
-        if not any(line["kind"] == "round" for line in lines):
-            self.rounds.note(self.rounds.now)
-        self.rounds.learn(lines)
+        self._learn(lines)
         boot = self.time.learn(lines)
         settled: dict[str, Settled] = {}
         for key, board in self.rounds.boards.items():
@@ -149,6 +145,14 @@ class Venue:
         self._begun(self._robots.run())
         self._begun(self._look())
         return sum(board.engine.journal.count for board in self.rounds.boards.values())
+
+    def _learn(self, lines: list[Line]) -> None:
+        """Takes the day and the rounds of the log. Raises LogError and OtherDayError."""
+        check_version(lines, self.log.path)
+        self.past.learn_day(lines, self.folder)
+        if not any(line["kind"] == "round" for line in lines):
+            self.rounds.note(self.rounds.now)
+        self.rounds.learn(lines)
 
     async def _look(self) -> None:
         """Looks every few seconds whether the machine's clock was set, and whether the journals and

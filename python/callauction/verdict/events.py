@@ -71,6 +71,7 @@ def rows_of(
         rows.is_odd[_untimed(columns, time, _are_moved(order, lead))] = True
     _look_at_orders(rows, columns, is_market)
     _join_two_sides(rows, columns, sequence, lead)
+    _look_at_executions(rows, columns)
     _look_at_results(rows, columns)
     _look_at_peaks(rows, columns)
     unread = _unread_ids(rows, kind)
@@ -491,15 +492,14 @@ def _look_at_orders(rows: Rows, columns: Columns, is_market: Mask) -> None:
     rows.price[is_limit & is_market] = PriceCode.MARKET
 
 
-def _look_at_results(rows: Rows, columns: Columns) -> None:
-    """Refuses rows of trades that can't be read, and the cells of uncrosses that can't."""
+def _look_at_executions(rows: Rows, columns: Columns) -> None:
+    """Refuses rows of trades, of fills and of their busts that can't be read."""
     kind = rows.kind
-    rows.price[(kind >= Kind.UNCROSS) & (rows.price == PriceCode.EMPTY)] = PriceCode.UNSAID
+    rows.price[(kind > Kind.UNCROSS) & (rows.price == PriceCode.EMPTY)] = PriceCode.UNSAID
     is_alone = (kind == Kind.BUST) & (rows.key >= 0) & (rows.bid < 0) & (rows.ask < 0)
     is_trade = (kind == Kind.TRADE) | (kind == Kind.BUST) & ~is_alone
     is_fill = (kind == Kind.FILL) | is_alone
     both = is_trade | is_fill
-    rows.state[(kind == Kind.UNCROSS) & (rows.state == StateCode.CONTINUOUS)] = Cell.BAD
     for place in numpy.flatnonzero(both & (rows.state == StateCode.CONTINUOUS)):
         rows.refuse(place, NO_AUCTION, Doubt.BOOKS)
     _refuse(rows, columns, is_fill & (rows.key < 0), "order", "")
@@ -509,7 +509,13 @@ def _look_at_results(rows: Rows, columns: Columns) -> None:
     _refuse(rows, columns, both & (rows.price < PriceCode.MARKET), "price", _NO_DECIMAL)
     named = (rows.state == Cell.BAD) | (rows.state == StateCode.INTERRUPTED)
     _refuse(rows, columns, both & named, "auction", _none_of(STATES[1:-1]))
-    uncross = kind == Kind.UNCROSS
+
+
+def _look_at_results(rows: Rows, columns: Columns) -> None:
+    """Refuses the cells of uncrosses that can't be read, which are missing from then on."""
+    uncross = rows.kind == Kind.UNCROSS
+    rows.price[uncross & (rows.price == PriceCode.EMPTY)] = PriceCode.UNSAID
+    rows.state[uncross & (rows.state == StateCode.CONTINUOUS)] = Cell.BAD
     volume = columns.wholes("volume")
     rows.quantity = numpy.where(uncross & (volume != Cell.MISSING), volume, rows.quantity)
     unread = uncross & (rows.price < PriceCode.NO_PRICE)
