@@ -6,7 +6,7 @@ import sys
 import time
 
 import served
-from callauction.venue import Client, downloads, teaching
+from callauction.venue import Client, downloads, operator_words
 from callauction.venue.config import DayTerms
 from callauction.venue.instrument_board import BoardIdentity, Common, InstrumentBoard
 from callauction.venue.log import Log
@@ -57,7 +57,8 @@ def test_all_words_of_the_operator_are_there() -> None:
     text = DOCUMENT.read_text("utf-8").partition("| WORD |")[2].partition("\n\n")[0]
     first = (row.split("|")[1] for row in text.splitlines()[2:])
     words = [word for cell in first for word in re.findall(r"\w+", cell)]
-    assert sorted(words) == sorted({*teaching.STEPS, *teaching.TEACHER_WORDS, "uncross", "extend"})
+    acts = {*operator_words.STEPS, *operator_words.ACTS, "uncross", "extend"}
+    assert sorted(words) == sorted(acts)
 
 
 def test_all_downloads_are_there(venue: Served) -> None:

@@ -17,7 +17,7 @@ import pytest
 import pytest_asyncio
 import served
 from callauction.venue import (
-    clock, connection, gates, http, listening, log, rates, serving, teaching, tokens, views,
+    clock, connection, gates, http, listening, log, operator_words, rates, serving, tokens, views,
 )
 from callauction.venue.audience import MOST_OF_MEMBER
 from callauction.venue.config import DayTerms, InstrumentTerms
@@ -270,7 +270,7 @@ async def test_what_the_operator_wants_as_the_log_fails_is_answered(inside: Venu
     await inside.log.written()
     log.rename(other)
     with pytest.raises(MessageError) as found:
-        await teaching.done(inside, {"do": "door", "open": False})
+        await operator_words.done(inside, {"do": "door", "open": False})
     assert (found.value.code, found.value.text) == ("halted", IS_DONE_LATER)
     other.rename(log)
     await inside.starts.resume()
@@ -405,12 +405,12 @@ async def test_what_a_state_has_other_looks_have_too(client: Any, inside: Venue)
     code = inside.members.codes.by_name[""]
     (anna, token), (bert, _) = [await inside.join(code, it) for it in ("Anna", "Bert")]
     values = [{"member": "Anna", "side": "bid", "price": "2.50", "quantity": 10}]
-    await teaching.done(inside, {"do": "give", "values": values})
-    await teaching.done(inside, {"do": "start"})
+    await operator_words.done(inside, {"do": "give", "values": values})
+    await operator_words.done(inside, {"do": "start"})
     for member, side in ((anna, "bid"), (bert, "ask")):
         answer, _ = inside.submit(member, Order(1, "XYZ", f"enter,{side},10,200"))
         await answer
-    await teaching.done(inside, {"do": "uncross"})
+    await operator_words.done(inside, {"do": "uncross"})
     operator = inside.secrets["operator"]
     status, found = await got(client, "/api/look/state", operator)
     assert (status, found["phase"], found["results"][0]["trades"]) == (200, "waiting", 1)

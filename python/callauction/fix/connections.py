@@ -203,7 +203,7 @@ class Connections:
             seat.inbound.turn()
 
 
-class Door:
+class FixAddress:
     """The address at which connections come."""
 
     def __init__(self, host: str, port: int) -> None:

@@ -12,7 +12,7 @@ from collections.abc import Callable, Coroutine
 from typing import Any
 
 from callauction.fix._quickfix import Engine
-from callauction.fix.connections import MOST_CONNECTIONS, Connections, Door
+from callauction.fix.connections import MOST_CONNECTIONS, Connections, FixAddress
 from callauction.fix.epochs import Epoch
 from callauction.fix.reports import Reports
 from callauction.fix.resets import ENDS, reset
@@ -53,7 +53,7 @@ class Front:
     files = MOST_CONNECTIONS + OTHER_FILES
 
     def __init__(self, venue: Venue, terms: Terms, program: str) -> None:
-        self._venue, self._door = venue, Door(terms.host, terms.port)
+        self._venue, self._door = venue, FixAddress(terms.host, terms.port)
         self._sent = Sent(venue.folder, venue.day.is_synced)
         self._connections = Connections(venue, self._sent, self._start)
         self._outbound = self._connections.outbound

@@ -57,13 +57,13 @@ class OutputFault(Exception):
 
 class Form(NamedTuple):
     """A form: the words that ask the program for it, what reads the output, what the name of a file
-    that keeps the output ends with, and how many shares of memory it needs.
+    that keeps the output ends with, and by what its memory is multiplied.
     """
 
     words: tuple[str, ...]
     read: Callable[[Blocks], Columns]
     suffix: str
-    shares: int = 1
+    memory_factor: int = 1
 
 
 def blocks_of(output: Readable) -> Blocks:

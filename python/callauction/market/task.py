@@ -35,7 +35,7 @@ NO_MEMORY = "out of memory"
 """What the program says where it gets no memory."""
 LEAST_MEMORY, MEMORY_OF_BYTE = 64 * MIB, 8
 """The address space that a run may have: the first in bytes, and the second for each byte of its
-file, times the shares of its form.
+file, times the factor of its form.
 """
 LEAST_SECONDS, BYTES_OF_MINUTE = 60, 4 * MIB
 """How long a run may take: the first in seconds, and a minute for each 4 MiB of its file, which are
@@ -61,7 +61,7 @@ class Request(NamedTuple):
 
     def for_size(self, size: int, form: Form) -> "Request":
         """The request with the limits for a run in this form on a file of `size` bytes."""
-        memory = self.memory or form.shares * (LEAST_MEMORY + MEMORY_OF_BYTE * size)
+        memory = self.memory or form.memory_factor * (LEAST_MEMORY + MEMORY_OF_BYTE * size)
         seconds = self.seconds or LEAST_SECONDS + 60 * (size // BYTES_OF_MINUTE)
         return self._replace(memory=memory, seconds=seconds)
 

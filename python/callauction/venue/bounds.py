@@ -5,7 +5,7 @@ from decimal import Decimal
 from callauction.limits import MOST_CALLS, MOST_MEMBERS, MOST_OPEN
 from callauction.venue.fields import Fields
 
-SHARE, LEAST = 8, 64
+EIGHTH, LEAST = 8, 64
 """Where a day says nothing: an eighth of the orders and of the commands, at least these."""
 MOST_SHARES = 1_000_000_000_000
 
@@ -15,7 +15,7 @@ class Bound:
     """The most that a member may have of one instrument: open orders; their shares, and their value
     in ticks times shares, None for no bound; commands of the day, and of these, None for no bound,
     while the last quarter is used: as many as each would have if an instrument's members were as
-    many as it takes, at least LEAST, and what shares.py says. `worth` is that value as money.
+    many as it takes, at least LEAST, and what last_quarter.py says. `worth` is that value as money.
     """
 
     orders: int
@@ -38,8 +38,8 @@ class Bounds:
     def of(self, most_open: int, most_calls: int, tick_size: Decimal) -> Bound:
         """The bound of an instrument that has at most as many open orders and commands."""
         return Bound(
-            self.orders or max(LEAST, most_open // SHARE),
-            self.calls or max(LEAST, most_calls // SHARE),
+            self.orders or max(LEAST, most_open // EIGHTH),
+            self.calls or max(LEAST, most_calls // EIGHTH),
             self.quantity or None,
             int(self.value / tick_size) if self.value else None,
             self.value,

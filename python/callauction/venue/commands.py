@@ -4,7 +4,7 @@ import time
 from collections.abc import Callable, Collection, Iterable
 
 from callauction.limits import MOST_MEMBERS
-from callauction.venue import allowance, config, shares
+from callauction.venue import allowance, config, last_quarter
 from callauction.venue.accounts import Accounts
 from callauction.venue.book import Book
 from callauction.venue.engine import Engine
@@ -41,7 +41,7 @@ class Commands:
         self._terms, self._reserve, self.limits = terms, day.reserve, terms.limits(treatment)
         self._bound = day.bounds.of(terms.open, terms.calls, terms.grid.tick_size)
         self._engine, self._book, self._accounts = engine, book, accounts
-        self.codes: Callable[[], Collection[str]] = lambda: (shares.CLASS_CODE,)
+        self.codes: Callable[[], Collection[str]] = lambda: (last_quarter.CLASS_CODE,)
         self._codes: Collection[str] = ()
         self._codes_end = 0.0
         self._full: set[str] = set()
@@ -167,11 +167,11 @@ class Commands:
         is_entered = record.startswith("enter")
         if left < 1 + is_entered:
             raise MessageError("no_calls")
-        last, bound = self._terms.calls // shares.LAST_PART, self._bound
+        last, bound = self._terms.calls // last_quarter.LAST_PART, self._bound
         if bound.last_calls is None or bound.calls >= self._terms.calls or left > last:
             return
         left, used = left - is_entered, self._used_by_code()
-        most = shares.most(member, used, left, last, bound.last_calls)
+        most = last_quarter.most(member, used, left, last, bound.last_calls)
         allowance.check_last(self._used(member), most)
 
     @property
@@ -189,9 +189,9 @@ class Commands:
         if (now := time.monotonic()) >= self._codes_end:
             self._codes, self._codes_end = self.codes(), now + CODES_SECONDS
         found = {code: self._used(code) for code in self._codes}
-        if shares.CLASS_CODE in found:
+        if last_quarter.CLASS_CODE in found:
             rest = (it for it in self._book.numbers if it not in found)
-            found[shares.CLASS_CODE] = sum(map(self._used, rest))
+            found[last_quarter.CLASS_CODE] = sum(map(self._used, rest))
         return found
 
     def say_full(self) -> None:

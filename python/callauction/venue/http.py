@@ -13,7 +13,7 @@ from aiohttp import ClientPayloadError, hdrs, web
 from aiohttp.http_exceptions import HttpProcessingError
 
 from callauction.venue import addresses, downloads, fields, heads, messages, replay, sheets, shown
-from callauction.venue import teaching
+from callauction.venue import operator_words
 from callauction.venue.arrivals import JOIN_SECONDS
 from callauction.venue.connection import connect, packed
 from callauction.venue.gates import BODY_SECONDS, Gates
@@ -66,7 +66,7 @@ CODES_GUESSED = (
 
 
 @dataclasses.dataclass
-class Doors:
+class AllowedHosts:
     """Who may ask: those whose address bar has one of these hosts, or the address of this machine
     that they have reached, whenever it came.
     """
@@ -109,7 +109,7 @@ class Site:
     def __init__(
         self, venue: Venue, program: str, hosts: frozenset[str], gates: Gates | None = None
     ) -> None:
-        self._venue, self._program, self._doors = venue, program, Doors(hosts)
+        self._venue, self._program, self._doors = venue, program, AllowedHosts(hosts)
         self._files = {path.name: path for path in (VENUE_FOLDER / "pages").iterdir()}
         self._gates = Gates() if gates is None else gates
         self._guesses, self._wrong_codes = Guesses(), WrongCodes(venue.log)
@@ -316,7 +316,7 @@ class Site:
         self._check_operator(request)
         body = await body_of(request)
         try:
-            return answered(await teaching.done(self._venue, body))
+            return answered(await operator_words.done(self._venue, body))
         except PhaseError as fault:
             raise MessageError("bad_phase", str(fault)) from None
 

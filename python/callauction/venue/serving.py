@@ -215,7 +215,7 @@ def decoded(cert: str) -> dict[str, Any]:
     return found
 
 
-class Door(Protocol):
+class ListeningPart(Protocol):
     """A way to a venue that listens."""
 
     def shut(self) -> None:
@@ -225,7 +225,7 @@ class Door(Protocol):
         """Ends all connections, soon, once it is shut."""
 
 
-class Front(Door, Protocol):
+class Front(ListeningPart, Protocol):
     """Another way than by pages and WebSocket, which has at most `files` files open."""
 
     files: int
@@ -347,7 +347,7 @@ async def begin(
     address: Address,
     tls: listening.Tls | None,
     fronts: Sequence[Front],
-    doors: list[Door],
+    doors: list[ListeningPart],
 ) -> None:
     """Opens a venue and its doors. Raises AddressError, and what Venue.open raises."""
     entries = await venue.open()
@@ -386,7 +386,7 @@ async def tell_manager(stopped: asyncio.Event) -> None:
         living.cancel()
 
 
-async def end(venue: Venue, doors: Sequence[Door]) -> None:
+async def end(venue: Venue, doors: Sequence[ListeningPart]) -> None:
     """Ends a venue and its doors at the same time, once nobody new can come. Raises OSError."""
     gc.disable()
     for door in doors:
@@ -479,7 +479,7 @@ async def serve(
     if tls is not None or sys.stdin is None or not sys.stdin.isatty():
         on_signal(signal.SIGHUP, functools.partial(reload, venue, address, tls))
     counting = asyncio.create_task(notices.write_counts())
-    doors: list[Door] = []
+    doors: list[ListeningPart] = []
     try:
         if await unless(stopped, begin(venue, program, address, tls, fronts, doors)):
             await tell_manager(stopped)

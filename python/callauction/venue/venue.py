@@ -8,7 +8,7 @@ import pathlib
 from collections.abc import Awaitable, Callable, Coroutine, Iterator
 from typing import Any
 
-from callauction.venue import config, downloads, ending, owned, room, shares, tokens
+from callauction.venue import config, downloads, ending, last_quarter, owned, room, tokens
 from callauction.venue.auctions import TICK
 from callauction.venue.audience import Audience
 from callauction.venue.groups import Groups
@@ -95,7 +95,7 @@ class Venue:
         later = [name for name, it in members.items() if it is None]
         names = [*here, *later][: config.MOST_TRADERS]
         has_class = self.day.members.is_open or "" in self.members.codes.by_name
-        return [*[shares.CLASS_CODE] * has_class, *names]
+        return [*[last_quarter.CLASS_CODE] * has_class, *names]
 
     def _changed(self, board: InstrumentBoard) -> None:
         """A program halted or runs again, or the venue."""

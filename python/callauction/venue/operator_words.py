@@ -59,7 +59,7 @@ async def done(venue: Venue, message: dict[str, Any]) -> Json:
     word = text_of(message, "do")
     try:
         with refusing():
-            act = TEACHER_WORDS.get(word)
+            act = ACTS.get(word)
             found = await (act(venue, message) if act else step(venue, word, message))
     except (MessageError, PhaseError) as fault:
         say(logging.WARNING if word == "resume" else logging.INFO, message, f" isn't done: {fault}")
@@ -396,7 +396,7 @@ async def reset(venue: Venue, message: dict[str, Any]) -> Json:
     return {}
 
 
-TEACHER_WORDS: Words = {
+ACTS: Words = {
     "reset": reset,
     "next": begin_round,
     "treat": treat,
