@@ -582,9 +582,9 @@ def test_what_is_written_says_what_it_is_of(tmp_path: Path) -> None:
         assert main(repeated[4:]) == 4
 
 
-@pytest.mark.parametrize("command", ["audit", "report"])
+@pytest.mark.parametrize("command, ending", [("audit", "csv"), ("report", "html")])
 def test_days_and_shape_are_hashed_too(
-    command: str, tmp_path: Path, capsys: pytest.CaptureFixture[str]
+    command: str, ending: str, tmp_path: Path, capsys: pytest.CaptureFixture[str]
 ) -> None:
     """The references of the days decide, and how a shape reads rows."""
     day, days, shape = (tmp_path / name for name in ("day.csv", "days.csv", "own.toml"))
@@ -592,7 +592,7 @@ def test_days_and_shape_are_hashed_too(
     days.write_text(f"isin,reference,tick_size\nDE1,{base_day().reference},0.01\n")
     shape.write_text('decimal = "."\n')
     words = [command, str(day), "--by", "isin", "--days", str(days), "--shape", str(shape)]
-    out, found = tmp_path / "out.csv", tmp_path / "found.csv"
+    out, found = tmp_path / f"out.{ending}", tmp_path / "found.csv"
     more = ["--json", "--findings", str(found)] if command == "audit" else []
     assert main([*words, "-o", str(out), *more]) == 0
     hashes = " ".join(hashlib.sha256(it.read_bytes()).hexdigest() for it in (day, days, shape))
