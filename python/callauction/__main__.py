@@ -15,9 +15,9 @@ import sys
 from collections.abc import Collection, Iterable
 from typing import TYPE_CHECKING, Any, NoReturn
 
-from callauction import needed
+from callauction import packages
 
-needed.check_start()  # before what needs pandas
+packages.check_start()  # before what needs pandas
 
 from callauction.cells import FrameError  # noqa: E402
 from callauction.overwriting import (  # noqa: E402
@@ -30,8 +30,8 @@ from callauction.verdict import command, shapes  # noqa: E402
 from callauction.verdict.columns import ColumnError, ExtractError  # noqa: E402
 
 if TYPE_CHECKING:
-    from callauction.progress import Progress
     from callauction.journal import Journal
+    from callauction.progress import Progress
 
 SECONDS = 2
 """Work that takes longer shows how far it is."""
@@ -81,7 +81,7 @@ def main(words: list[str] | None = None) -> int:
     except ProgramError as fault:
         return _fail("\n".join([fault.text, *getattr(fault, "__notes__", [])]), fault.status)
     except (OSError, MemoryError, ModuleNotFoundError) as fault:
-        return _fail(needed.said_of_fault(fault) or "out of memory", FAILED)
+        return _fail(packages.said_of_fault(fault) or "out of memory", FAILED)
     except _BAD_FILES as fault:
         return _fail(str(fault), BAD_FILE)
     except ValueError as fault:

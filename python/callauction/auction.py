@@ -8,7 +8,7 @@ from typing import Any, Self, cast
 
 import numpy
 
-from callauction import copied, words
+from callauction import array_copies, words
 from callauction.arrays import (
     COMMAND,
     ORDER,
@@ -290,7 +290,8 @@ class Auction:
         """
         function, reply = lib.python_uncross_orders, ffi.new("callauction_reply *")
         most = self.config.max_open
-        found = copied.all_of(self._call, function, "callauction_outcome", OUTCOME, most, reply)
+        kind = "callauction_outcome"
+        found = array_copies.all_of(self._call, function, kind, OUTCOME, most, reply)
         return cast("words.Uncrossed | words.Interrupted | words.Refused", read(reply)), found
 
     def read_trade(
@@ -372,19 +373,19 @@ class Auction:
         """The shares bid and the shares offered by the orders that count, with a limit at each tick
         from low to high: two new arrays of uint64 of the length high - low + 1.
         """
-        bids, asks, _ = copied.ladder(self._call, lib.python_ladder, self.config)
+        bids, asks, _ = array_copies.ladder(self._call, lib.python_ladder, self.config)
         return bids, asks
 
     def market_orders(self) -> MarketOrders:
         """The shares of the market orders that count."""
-        _, _, market = copied.ladder(self._call, lib.python_ladder, self.config)
+        _, _, market = array_copies.ladder(self._call, lib.python_ladder, self.config)
         return market
 
     def trades(self, seen: int = 0) -> Structs:
         """The trades of the day after the first `seen`: a new array of TRADE. Raises TypeError or
         ValueError for a bad number.
         """
-        return copied.after(self._call, lib.python_trades, "callauction_trade", TRADE, seen)
+        return array_copies.after(self._call, lib.python_trades, "callauction_trade", TRADE, seen)
 
     def orders(self, member: int | None = None) -> Structs:
         """The open orders of a member, or of all, in price-time priority: a new array of ORDER, the
@@ -393,14 +394,14 @@ class Auction:
         """
         of = ALL_MEMBERS if member is None else number("member", member, ALL_MEMBERS - 1)
         function, most = lib.python_orders, self.config.max_open
-        return copied.all_of(self._call, function, "callauction_order", ORDER, most, of)
+        return array_copies.all_of(self._call, function, "callauction_order", ORDER, most, of)
 
     def expiring(self) -> Structs:
         """The orders that an uncross now would take out because they are for its auction alone,
         with what would be left of them then: a new array of ORDER. Raises MemoryError.
         """
         function, most = lib.python_expiring, self.config.max_open
-        return copied.all_of(self._call, function, "callauction_order", ORDER, most)
+        return array_copies.all_of(self._call, function, "callauction_order", ORDER, most)
 
     def carried_over(self) -> CarriedOver:
         """What is left of the day for the next one. Raises MemoryError."""

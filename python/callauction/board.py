@@ -9,7 +9,7 @@ from typing import TYPE_CHECKING, Any, Self, cast
 
 import numpy
 
-from callauction import copied, words
+from callauction import array_copies, words
 from callauction.arrays import (
     ENTRY,
     ORDER,
@@ -22,6 +22,7 @@ from callauction.arrays import (
     refuse_first,
 )
 from callauction.auction import ALL_MEMBERS, Auction, config_of, config_struct, copy_over
+from callauction.board_replay import uncrossed_orders
 from callauction.carried import CarriedOver, all_entered, commands_in
 from callauction.errors import AuctionError, NotAppliedError, close_after
 from callauction.library import ffi, lib
@@ -36,7 +37,6 @@ from callauction.reading import (
     read,
     state_of,
 )
-from callauction.replayed import uncrossed_orders
 from callauction.words import (
     AuctionKind,
     Command,
@@ -240,7 +240,7 @@ class Member:
         to high (two new arrays of uint64), those of the market orders, and after how many calls.
         """
         config, calls = self._board.config, ffi.new("uint32_t *")
-        found = copied.ladder(self._call, lib.python_board_ladder, config, calls)
+        found = array_copies.ladder(self._call, lib.python_board_ladder, config, calls)
         return *found, int(calls[0])
 
     def trades(self, seen: int = 0) -> Structs:
@@ -248,7 +248,7 @@ class Member:
         ValueError for a bad number.
         """
         function, calls = lib.python_board_trades, ffi.new("uint32_t *")
-        return copied.after(self._call, function, "callauction_trade", TRADE, seen, calls)
+        return array_copies.after(self._call, function, "callauction_trade", TRADE, seen, calls)
 
     def orders(self, member: int | None = None) -> Structs:
         """The open orders of a member of the board, or of all, as Auction.orders. Raises TypeError
@@ -256,12 +256,12 @@ class Member:
         """
         of = ALL_MEMBERS if member is None else number("member", member, ALL_MEMBERS - 1)
         function, most = lib.python_board_orders, self._board.config.max_open
-        return copied.all_of(self._call, function, "callauction_order", ORDER, most, of)
+        return array_copies.all_of(self._call, function, "callauction_order", ORDER, most, of)
 
     def expiring(self) -> Structs:
         """What an uncross now would take out, as Auction.expiring. Raises MemoryError."""
         function, most = lib.python_board_expiring, self._board.config.max_open
-        return copied.all_of(self._call, function, "callauction_order", ORDER, most)
+        return array_copies.all_of(self._call, function, "callauction_order", ORDER, most)
 
     def state(self) -> words.State:
         """Where the day is, after as many calls as it says."""
@@ -274,7 +274,7 @@ class Member:
         thread that writes them down while the day runs. Raises as trades.
         """
         function = lib.python_board_history
-        return copied.after(self._call, function, "callauction_entry", ENTRY, seen)
+        return array_copies.after(self._call, function, "callauction_entry", ENTRY, seen)
 
     def uncrossed_orders(self, kind: AuctionKind) -> Structs:
         """What the uncross of this auction did to the orders, as Auction.uncross_orders says: a new

@@ -9,7 +9,7 @@ import sys
 import pytest
 import served
 from acceptors import Speaker, refusal
-from callauction.fix import feeds, given, orders, refusals, requests, seats
+from callauction.fix import feeds, order_fields, orders, refusals, requests, seats
 from callauction.fix.tags import (
     DAY, FIXT, GOOD_TILL_CANCEL, LIMIT, MARKET, OTHER_REASON, SIDE_CODES, Exec, Status,
 )
@@ -155,10 +155,10 @@ REASONS = {
 EXPECTED = {
     ("D", 54): {*SIDE_CODES.values()},
     ("D", 40): {MARKET, LIMIT},
-    ("D", 59): {*given.RESTRICTIONS_BY_TIME},
+    ("D", 59): {*order_fields.RESTRICTIONS_BY_TIME},
     ("8", 54): {*SIDE_CODES.values(), refusals.NO_SIDE},
     ("8", 59): {
-        *(*given.RESTRICTIONS_BY_TIME, *orders.TIMES_OF_AUCTIONS.values()),
+        *(*order_fields.RESTRICTIONS_BY_TIME, *orders.TIMES_OF_AUCTIONS.values()),
         *(DAY, GOOD_TILL_CANCEL),
     },
     ("8", 39): {*Status},

@@ -10,7 +10,7 @@ import ssl
 import pytest
 import served
 from aiohttp import web
-from callauction.venue import heads
+from callauction.venue import answer_heads
 from certificates import certificate
 from conftest import FAST
 from listeners import Line
@@ -118,7 +118,7 @@ async def test_a_connection_that_is_lost_is_no_fault(caplog: pytest.LogCaptureFi
         return web.Response(text="answered")
 
     for moment in range(8):
-        one = heads.ConnectionHandler(web.Server(answer))
+        one = answer_heads.ConnectionHandler(web.Server(answer))
         one.connection_made(Line())
         one.data_received((GET + b"\r\n") * 2)
         for _ in range(moment):

@@ -31,8 +31,8 @@ from callauction.venue import (
     AsyncClient, Client, addresses, checking, copies, listening, metrics, notices, process, serving,
 )
 from callauction.venue.__main__ import arguments
-from callauction.venue.begun import OtherDayError
 from callauction.venue.config import DayTerms
+from callauction.venue.day_changes import OtherDayError
 from callauction.venue.latency import Times
 from callauction.venue.metrics import Measures
 from callauction.venue.serving import Address, AddressError

@@ -14,8 +14,8 @@ from callauction.fix.sent import MOST_AT_ONCE, Outbound, Sent
 from callauction.fix.tags import Tag, Type, now
 from callauction.fix.wires import STATES, Wire
 from callauction.venue import listening
+from callauction.venue.background import going_on
 from callauction.venue.gates import Gates
-from callauction.venue.lasting import going_on
 from callauction.venue.logger import NOTICES
 from callauction.venue.messages import ERRORS
 from callauction.venue.serving import AddressError

@@ -6,7 +6,7 @@ import itertools
 from collections.abc import Collection, Container
 from typing import NamedTuple, Self
 
-from callauction.fix.given import MOST_ID_LETTERS, check_client
+from callauction.fix.order_fields import MOST_ID_LETTERS, check_client
 from callauction.fix.orders import NUMBER, SINCE, entry_event
 from callauction.fix.refusals import UNUSED
 from callauction.fix.tags import (

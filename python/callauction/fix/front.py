@@ -16,14 +16,14 @@ from callauction.fix.connections import MOST_CONNECTIONS, Connections, FixAddres
 from callauction.fix.epochs import Epoch
 from callauction.fix.reports import Reports
 from callauction.fix.resets import ENDS, reset
-from callauction.fix.sent import MOST_AT_ONCE, Sent
 from callauction.fix.seats import CopySeat, Seat
+from callauction.fix.sent import MOST_AT_ONCE, Sent
 from callauction.fix.settings import settings_of
 from callauction.fix.tags import FIX44, FIXT, pairs_of
 from callauction.venue import ending, tokens
-from callauction.venue.fix_terms import Terms
+from callauction.venue.background import going_on
 from callauction.venue.book import OPERATOR
-from callauction.venue.lasting import going_on
+from callauction.venue.fix_terms import Terms
 from callauction.venue.listening import Tls
 from callauction.venue.logger import NOTICES
 from callauction.venue.messages import MessageError

@@ -13,7 +13,7 @@ from callauction.fix import feeds, requests, singles
 from callauction.fix.commands import HALT_PAUSE, Commands
 from callauction.fix.epochs import Clients, Epoch, Number, key_of
 from callauction.fix.feeds import Feeds
-from callauction.fix.given import is_sent_again
+from callauction.fix.order_fields import is_sent_again
 from callauction.fix.orders import CLIENT, Held, Report
 from callauction.fix.refusals import FILLED, MADE_BEFORE, OTHER_DAY, SeatError, given_of, refuse
 from callauction.fix.tags import OTHER_REASON, Given, Pairs, Tag, Type, seconds_of

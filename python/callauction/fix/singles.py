@@ -3,7 +3,7 @@ OrderStatusRequest.
 """
 from typing import TYPE_CHECKING, Any
 
-from callauction.fix.given import (
+from callauction.fix.order_fields import (
     RESTRICTIONS_BY_TIME, check_beside, check_client, check_kept, check_side, is_sent_again,
     left_of, peak_of, price_of, shares_of, side_of,
 )

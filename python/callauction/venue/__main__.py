@@ -12,14 +12,14 @@ import sys  # noqa: E402
 from callauction import finder  # noqa: E402
 from callauction.fix.build import MISSING  # noqa: E402
 from callauction.statuses import DONE  # noqa: E402
-from callauction.venue import notices, owned, tried  # noqa: E402
+from callauction.venue import aiohttp_version, notices, owned  # noqa: E402
 
-tried.check_start()  # before what needs aiohttp as it is inside
+aiohttp_version.check_start()  # before what needs aiohttp as it is inside
 
 from callauction.venue import remedies  # noqa: E402
-from callauction.venue.begun import OtherDayError, OtherTermsError  # noqa: E402
 from callauction.venue.checking import checked  # noqa: E402
 from callauction.venue.config import DayTerms  # noqa: E402
+from callauction.venue.day_changes import OtherDayError, OtherTermsError  # noqa: E402
 from callauction.venue.logger import NOTICES  # noqa: E402
 from callauction.venue.serving import (  # noqa: E402
     Address, AddressError, Front, serve, stopped_by_signals,

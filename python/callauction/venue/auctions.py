@@ -9,10 +9,10 @@ from collections.abc import Callable
 from typing import Any, Self
 
 from callauction.venue import clock, config, views
+from callauction.venue.background import going_on
 from callauction.venue.book import OPERATOR, Book
 from callauction.venue.chance import CHANCE
 from callauction.venue.engine import Engine
-from callauction.venue.lasting import going_on
 from callauction.venue.log import SOURCE
 from callauction.venue.messages import MessageError
 from callauction.venue.phases import Phase, PhaseError, State

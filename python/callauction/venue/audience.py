@@ -7,10 +7,10 @@ from callauction.venue.instrument_board import InstrumentBoard
 from callauction.venue.json_types import Json
 from callauction.venue.log import Log
 from callauction.venue.members import Member, Members
-from callauction.venue.paid import Paid
+from callauction.venue.payoff_view import Paid
+from callauction.venue.round_view import Standing
 from callauction.venue.rounds import Rounds
 from callauction.venue.screen import Screen
-from callauction.venue.standing import Standing
 from callauction.venue.watchers import Watcher, Watchers
 
 MOST_OF_MEMBER = 8

@@ -12,8 +12,8 @@ import time
 from collections.abc import Collection, Iterable, Iterator, Mapping, Sequence
 
 from callauction.statuses import FAILED
-from callauction.venue import begun, config, copies, listening, owned, room, tokens
-from callauction.venue.begun import OtherDayError, date_of
+from callauction.venue import config, copies, day_changes, listening, owned, room, tokens
+from callauction.venue.day_changes import OtherDayError, date_of
 from callauction.venue.fields import ConfigError
 from callauction.venue.fix_terms import SENT
 from callauction.venue.halts import PUT_BACK
@@ -194,7 +194,7 @@ def checked_day(day: config.DayTerms, folder: pathlib.Path, lines: list[Line]) -
     check_version(lines, folder / LOG)
     for date in dates_in(lines):
         yield f"{folder}: begun on {date}"
-    if changed := begun.changes(day, lines, folder):
+    if changed := day_changes.changes(day, lines, folder):
         yield f"changed since it was last opened: {', '.join(changed)}"
     if behind := behind_of(lines):
         yield f"warning: {CLOCK_BEHIND % behind}"

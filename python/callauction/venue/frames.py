@@ -2,9 +2,9 @@
 protocol (1002). aiohttp sees to reserved bits, to kinds that there aren't, and to signs of life and
 closes that are long or in parts; it takes frames without a mask, and a message within another one.
 """
-from callauction.venue import tried
+from callauction.venue import aiohttp_version
 
-tried.check_tried()  # before anything of it is taken
+aiohttp_version.check_tried()  # before anything of it is taken
 
 from aiohttp import FlowControlDataQueue, WSCloseCode, WSMessage, WSMsgType, web  # noqa: E402
 from aiohttp.http_websocket import WebSocketError, WebSocketReader, WebSocketWriter  # noqa: E402

@@ -12,7 +12,9 @@ from urllib.parse import urlsplit
 from aiohttp import ClientPayloadError, hdrs, web
 from aiohttp.http_exceptions import HttpProcessingError
 
-from callauction.venue import addresses, downloads, fields, heads, messages, replay, sheets, shown
+from callauction.venue import (
+    addresses, answer_heads, downloads, fields, messages, replay, sheets, shown,
+)
 from callauction.venue import operator_words
 from callauction.venue.arrivals import JOIN_SECONDS
 from callauction.venue.connection import connect, packed
@@ -117,7 +119,7 @@ class Site:
     def application(self) -> web.Application:
         """What aiohttp serves."""
         found = web.Application(middlewares=[self._guarded], client_max_size=MOST_BODY_BYTES)
-        found.on_response_prepare.append(heads.mark)
+        found.on_response_prepare.append(answer_heads.mark)
         found.on_shutdown.append(self._wrong_codes.end)
         for path, name in PAGES.items():
             found.router.add_get(path, self._page(name))

@@ -6,8 +6,8 @@ import socket
 import ssl
 from collections.abc import Callable
 
+from callauction.venue.background import going_on
 from callauction.venue.gates import HEAD_SECONDS, Gate, Gates
-from callauction.venue.lasting import going_on
 from callauction.venue.logger import NOTICES
 from callauction.venue.passing import Passed, Secured
 from callauction.venue.rates import network_of

@@ -17,7 +17,7 @@ from collections.abc import Callable, Iterator, Mapping
 from typing import Any
 
 from callauction.venue import clock, ending, leftovers, owned
-from callauction.venue.lasting import going_on
+from callauction.venue.background import going_on
 
 VERSION = 2
 Line = dict[str, Any]

@@ -8,9 +8,9 @@ from collections.abc import Callable, Iterable, Sequence
 from callauction.venue import config, views
 from callauction.venue.accounts import Accounts, Fill
 from callauction.venue.auctions import TICK, Auctions
+from callauction.venue.background import going_on
 from callauction.venue.book import Book
 from callauction.venue.engine import Engine
-from callauction.venue.lasting import going_on
 from callauction.venue.messages import MessageError
 from callauction.venue.process import ProcessError
 

@@ -10,7 +10,7 @@ from prometheus_client import CONTENT_TYPE_LATEST, CollectorRegistry, generate_l
 from prometheus_client.core import CounterMetricFamily, GaugeMetricFamily, HistogramMetricFamily
 from prometheus_client.metrics_core import Metric
 
-from callauction.venue import clock, heads
+from callauction.venue import answer_heads, clock
 from callauction.venue.gates import Gates
 from callauction.venue.instrument_board import InstrumentBoard
 from callauction.venue.phases import Phase
@@ -169,7 +169,7 @@ def application(venue: Venue, gates: Gates, others: Others = ()) -> web.Applicat
         return web.Response(body=text.of_now(), headers={"Content-Type": CONTENT_TYPE_LATEST})
 
     found = web.Application()
-    found.on_response_prepare.append(heads.mark)
+    found.on_response_prepare.append(answer_heads.mark)
     found.router.add_get("/healthz", healthz)
     found.router.add_get("/metrics", metrics)
     return found

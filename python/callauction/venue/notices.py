@@ -13,7 +13,7 @@ import time
 from collections.abc import Callable
 from typing import TextIO
 
-from callauction.venue.lasting import going_on
+from callauction.venue.background import going_on
 
 REPEAT_SECONDS = 1.0
 """Seconds between two lines that say the same."""

@@ -3,7 +3,7 @@ import errno
 import os
 
 from callauction.statuses import BAD_DAY, BAD_FILE, FAILED, UNLAWFUL
-from callauction.venue.begun import BEGIN_ANEW, OtherDayError
+from callauction.venue.day_changes import BEGIN_ANEW, OtherDayError
 from callauction.venue.fields import ConfigError
 from callauction.venue.log import LogError, LogInUse, OtherVersion
 from callauction.venue.owned import OwnerError

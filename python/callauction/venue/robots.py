@@ -5,11 +5,11 @@ import asyncio
 from collections.abc import Callable, Iterator
 
 from callauction.venue import clock
+from callauction.venue.background import going_on
 from callauction.venue.chance import CHANCE
 from callauction.venue.gains import Value
 from callauction.venue.halts import Halts
 from callauction.venue.instrument_board import InstrumentBoard
-from callauction.venue.lasting import going_on
 from callauction.venue.members import Member, Members
 from callauction.venue.messages import MessageError, Order
 from callauction.venue.recovery import Entry

@@ -18,8 +18,8 @@ from aiohttp import web
 
 from callauction.statuses import FAILED
 from callauction.venue import addresses, ending, gates, listening, notices, owned, supervising
-from callauction.venue.begun import date_of
-from callauction.venue.heads import LINGER_SECONDS, ConnectionHandler
+from callauction.venue.answer_heads import LINGER_SECONDS, ConnectionHandler
+from callauction.venue.day_changes import date_of
 from callauction.venue.http import Site
 from callauction.venue.logger import NOTICES
 from callauction.venue.process import kill_all

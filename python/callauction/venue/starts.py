@@ -9,10 +9,10 @@ from typing import Any
 from callauction.venue.instrument_board import InstrumentBoard
 from callauction.venue.leaving import withdrawn
 from callauction.venue.log import Line
+from callauction.venue.log_replay import Past
 from callauction.venue.messages import MessageError
 from callauction.venue.owned import OwnerError
 from callauction.venue.parts import Parts
-from callauction.venue.past import Past
 from callauction.venue.process import ProcessError
 from callauction.venue.recovery import (
     Mark, RecoveryError, RolledBackError, Settled, mark_of, program_of, runs_of,

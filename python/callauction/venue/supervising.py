@@ -4,7 +4,7 @@ import contextlib
 import os
 import socket
 
-from callauction.venue.lasting import going_on
+from callauction.venue.background import going_on
 
 NOTIFY_SOCKET, WATCHDOG = "NOTIFY_SOCKET", "WATCHDOG_USEC"
 

@@ -11,17 +11,17 @@ from typing import Any
 from callauction.venue import config, downloads, ending, last_quarter, owned, room, tokens
 from callauction.venue.auctions import TICK
 from callauction.venue.audience import Audience
+from callauction.venue.background import going_on
 from callauction.venue.groups import Groups
 from callauction.venue.halts import Halts
 from callauction.venue.instrument_board import InstrumentBoard
-from callauction.venue.lasting import going_on
 from callauction.venue.leaving import Removal
 from callauction.venue.log import VERSION, Line, Log, check_version
+from callauction.venue.log_replay import Past
 from callauction.venue.logger import NOTICES
 from callauction.venue.members import Done, Member, Members, NameTakenError
 from callauction.venue.messages import MessageError, Order
 from callauction.venue.parts import Parts
-from callauction.venue.past import Past
 from callauction.venue.recovery import Entry, Message, Settled
 from callauction.venue.robots import Robots
 from callauction.venue.rounds import Rounds

@@ -6,7 +6,7 @@ import pathlib
 import time
 from collections.abc import Iterable
 
-from callauction.venue import begun
+from callauction.venue import day_changes
 from callauction.venue.instrument_board import InstrumentBoard
 from callauction.venue.log import Line, taking
 from callauction.venue.members import Done
@@ -31,9 +31,9 @@ class Past:
         """Learns when the folder was begun, and what of its day is another since. Raises
         OtherDayError, and LogError.
         """
-        changes = begun.changes(self._day, lines, folder)
-        if changes is None or changes or not begun.has_sessions(lines):
-            self._log.note(kind="day", **begun.kept(self._day))
+        changes = day_changes.changes(self._day, lines, folder)
+        if changes is None or changes or not day_changes.has_sessions(lines):
+            self._log.note(kind="day", **day_changes.kept(self._day))
         self.changes = changes or []
         self.began = next((line["time"] for line in lines if "time" in line), self.began)
 
