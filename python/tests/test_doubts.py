@@ -6,7 +6,7 @@ import itertools
 import random
 
 import pytest
-from callauction.verdict import ExtractError, Verdict, endings, moments
+from callauction.verdict import ExtractError, Verdict, day_end, moments
 from callauction.verdict.phases import BeyondError
 from damage import DAMAGES, ORDERS, places, stray_cancel, ties, timed_day, trades_of_both_sides
 from extracts import Extract, random_day
@@ -289,7 +289,7 @@ def test_another_moment_that_does_not_fit_is_left_out_and_said(
     assert fault is not None
     extract.rows[fault]["surplus"] = str(int(extract.rows[fault]["surplus"]) + 1)
     found = [str(finding) for finding in judged(extract).findings]
-    assert len(found) == 2 and endings.NO_SEARCH not in judged(extract).notes
+    assert len(found) == 2 and day_end.NO_SEARCH not in judged(extract).notes
 
     def beyond(*_: object) -> None:
         raise BeyondError("more than it holds")
@@ -297,7 +297,7 @@ def test_another_moment_that_does_not_fit_is_left_out_and_said(
     monkeypatch.setattr(moments, "indicated", beyond)
     verdict = judged(extract)
     assert [str(finding) for finding in verdict.findings] == found
-    assert verdict.notes[endings.NO_SEARCH] == 1
+    assert verdict.notes[day_end.NO_SEARCH] == 1
 
 
 def test_a_doubtful_finding_has_its_reason_in_its_line() -> None:

@@ -7,7 +7,9 @@ import numpy
 import pandas
 import pytest
 from callauction.__main__ import main
-from callauction.verdict import Reading, audit_auction, audit_events, audit_instruments, worded
+from callauction.verdict import (
+    Reading, audit_auction, audit_events, audit_instruments, column_words,
+)
 from callauction.verdict.cells import frame_source
 from damage import busted, places, timed_day
 from desk import TRADE, UNCROSS, audited, base_day, text_of
@@ -253,10 +255,10 @@ def test_whole_numbers_of_a_sequence_are_read_without_their_texts(
 ) -> None:
     """As they are read by their texts, which takes thrice the time of all else."""
     source = frame_source(pandas.DataFrame({"n": texts}, dtype=str))
-    slow, quick = (worded.Columns(source, {"sequence": "n"}, Reading()) for _ in range(2))
+    slow, quick = (column_words.Columns(source, {"sequence": "n"}, Reading()) for _ in range(2))
     slow.__dict__["_whole_sequences"] = None
     due = slow.sequence(), slow.row_numbers()
-    monkeypatch.delattr(worded.Columns, "_counted")
+    monkeypatch.delattr(column_words.Columns, "_counted")
     for one, other in zip(due, (quick.sequence(), quick.row_numbers())):
         assert (one is None) == (other is None)
         assert one is None or other is None or numpy.array_equal(one, other)

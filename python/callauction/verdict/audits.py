@@ -14,7 +14,7 @@ from callauction.program import Day
 from callauction.progress import Progress
 from callauction.verdict import restricted
 from callauction.verdict.coverage import Coverage
-from callauction.verdict.early import Early, doubt_times
+from callauction.verdict.early_rows import Early, doubt_times
 from callauction.verdict.events import read_zeros, refuse_limits, rows_of
 from callauction.verdict.extract import read_table
 from callauction.verdict.findings import (

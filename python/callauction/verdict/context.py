@@ -13,7 +13,7 @@ import pandas
 from callauction.program import Day
 from callauction.tables import BOOK, table_of
 from callauction.verdict.cells import Ints
-from callauction.verdict.judged import Judged
+from callauction.verdict.paths import Judged
 from callauction.verdict.phases import Result, Uncross, recorded_sums
 from callauction.verdict.rows import OWN, SIDES, Kind, PriceCode, Rows
 from callauction.verdict.rules import Range, Rules

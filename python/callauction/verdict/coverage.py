@@ -2,7 +2,7 @@
 import dataclasses
 
 from callauction.verdict.comparing import FILL_ITEM, Fill, Trade
-from callauction.verdict.judged import Judged, Judgement
+from callauction.verdict.paths import Judged, Judgement
 from callauction.verdict.rows import Rows, StateCode
 
 ITEMS = ("price", "volume", "surplus", "side", "auction", "count")

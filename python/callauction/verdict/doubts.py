@@ -13,7 +13,7 @@ from decimal import Decimal
 
 import numpy
 
-from callauction.verdict import clocks
+from callauction.verdict import time_columns
 from callauction.verdict.busts import Busts
 from callauction.verdict.cells import Ints
 from callauction.verdict.columns import ExtractError
@@ -22,8 +22,8 @@ from callauction.verdict.mixed import is_one_session
 from callauction.verdict.names import is_placeholder, respelled
 from callauction.verdict.phases import Book, Result
 from callauction.verdict.rows import BadRow, Cell, Doubt, Kind, Rows, StateCode
-from callauction.verdict.strays import Strays
 from callauction.verdict.ties import Ties
+from callauction.verdict.unnamed_trades import Strays
 from callauction.words import AUCTIONS
 
 MOST_FALLS = 10
@@ -85,7 +85,7 @@ class Doubts:
         first = numpy.full(len(at), len(rows.kind))
         for end in self.uncrosses[::-1].tolist():
             is_above = rows.group[at] == rows.group[end]
-            for values, least in ((rows.time, clocks.NO_TIME + 1), (rows.number, 0)):
+            for values, least in ((rows.time, time_columns.NO_TIME + 1), (rows.number, 0)):
                 is_above |= (values[at] < values[end]) & (values[at] >= least)
             first[is_above] = end
         first[rows.is_odd[at]] = 0
@@ -97,7 +97,7 @@ class Doubts:
 
     def _falls(self) -> int:
         """How many times of orders are before that of the row above. Raises ExtractError."""
-        timed = self.orders[self.rows.time[self.orders] != clocks.NO_TIME]
+        timed = self.orders[self.rows.time[self.orders] != time_columns.NO_TIME]
         at = self.rows.time[timed]
         falls = numpy.flatnonzero(at[1:] < at[:-1])
         if len(falls) > max(MOST_FALLS, len(at) // 10):
@@ -110,7 +110,7 @@ class Doubts:
     def _other_day(self) -> Reason | None:
         """Why all books are in doubt: rows of orders have other dates than results, or several."""
         rows, known = self.rows, dict[datetime.date | None, int]()
-        starts = numpy.unique(rows.time[self.orders] // clocks.DAY, return_index=True)[1]
+        starts = numpy.unique(rows.time[self.orders] // time_columns.DAY, return_index=True)[1]
         for place in [*self.uncrosses[:1].tolist(), *self.orders[starts].tolist()]:
             known.setdefault(rows.names.date(place), place)
         labels = [rows.labels[place] for date, place in known.items() if date is not None][:2]
@@ -127,11 +127,11 @@ class Doubts:
         have ended with its day.
         """
         rows, orders = self.rows, self.orders
-        day = rows.time[self.uncrosses[:1]] // clocks.DAY
-        old = orders[(rows.time[orders] // clocks.DAY != day) & (rows.time[orders] >= clocks.DAY)]
-        if not len(day) or day <= 0 or (rows.time[old] // clocks.DAY > day).any():
+        day, days = (rows.time[it] // time_columns.DAY for it in (self.uncrosses[:1], orders))
+        old = orders[(days != day) & (days >= 1)]
+        if not len(day) or day <= 0 or (rows.time[old] // time_columns.DAY > day).any():
             return False
-        own = numpy.flatnonzero((rows.kind != Kind.BAD) & (rows.time // clocks.DAY == day))
+        own = numpy.flatnonzero((rows.kind != Kind.BAD) & (rows.time // time_columns.DAY == day))
         named = numpy.concatenate([it[own] for it in (rows.key, rows.bid, rows.ask)])
         return bool(numpy.isin(rows.key[old], named).all())
 
@@ -390,9 +390,9 @@ class Doubts:
         last = int(numpy.flatnonzero(rows.kind >= Kind.NEW)[-1])
         these = numpy.append(traded, filled)
         is_own = (rows.labels[numpy.append(these, place)] == end.label).any()
-        ends = clocks.nanosecond(end.time, rows.names.dates)
-        is_timed = clocks.NO_TIME not in (ends, rows.time[last])
-        if not is_own and is_timed and abs(ends - int(rows.time[last])) > clocks.SECOND:
+        ends = time_columns.nanosecond(end.time, rows.names.dates)
+        is_timed = time_columns.NO_TIME not in (ends, rows.time[last])
+        if not is_own and is_timed and abs(ends - int(rows.time[last])) > time_columns.SECOND:
             return ""
         published = int(rows.quantity[place])
         shares = 2 * int(rows.quantity[traded].sum()) + int(rows.quantity[filled].sum())

@@ -11,23 +11,23 @@ from typing import Any
 import numpy
 import pandas
 
-from callauction.verdict import clocks, times
-from callauction.verdict.again import (
-    Gap, drop_sent_again, drop_sides_again, find_holes, gaps_of, remark_of,
-)  # fmt: skip
+from callauction.verdict import time_columns, times
 from callauction.verdict.cells import Cells, Codes, Ints, Mask, numbered, paired_codes
+from callauction.verdict.column_words import Columns
 from callauction.verdict.columns import EVENTS, KINDS, ExtractError
-from callauction.verdict.given import look_for_given
 from callauction.verdict.joining import join_sides, take_busted
 from callauction.verdict.mixed import LONGEST
 from callauction.verdict.names import below_their_entries, make_keys
 from callauction.verdict.reading import Reading
+from callauction.verdict.repeated_rows import (
+    Gap, drop_sent_again, drop_sides_again, find_holes, gaps_of, remark_of,
+)  # fmt: skip
 from callauction.verdict.rows import (
     CONTINUOUS, RESTRICTIONS, SIDES, STATES, BadRow, Cell, Doubt, Int8s, Kind, Names, PriceCode,
     Rows, StateCode,
 )  # fmt: skip
 from callauction.verdict.table import Table
-from callauction.verdict.worded import Columns
+from callauction.verdict.unread_ids import look_for_given
 
 _SIDE = {"bid": 1, "buy": 1, "ask": 2, "sell": 2}
 _SURPLUS_SIDE = {**_SIDE, "none": 0}
@@ -93,7 +93,7 @@ def _look_at_times(rows: Rows, columns: Columns, kind: Int8s, has_sequence: bool
     without a date that they may be the next day's.
     """
     rows.slack = _slack(columns, kind)
-    later = numpy.flatnonzero((rows.time >= clocks.DAY) & (rows.time < clocks.DATED))
+    later = numpy.flatnonzero((rows.time >= time_columns.DAY) & (rows.time < time_columns.DATED))
     if len(later) and not has_sequence:
         first = columns.source.labels[later[0]]
         rows.next_day = f"the time of row {first} has no date: is it the next day's?"
@@ -181,7 +181,7 @@ def _read(
         columns.words("kept", _KEPT), columns.words("auction", _STATE),
         columns.wholes("surplus"), columns.wholes("trades"), ids.get("bid", none),
         ids.get("ask", none), bid_member, ask_member, member, groups, prices, names,
-        bool(reading.market), (time == clocks.NO_TIME) & _has(columns, "time"),
+        bool(reading.market), (time == time_columns.NO_TIME) & _has(columns, "time"),
         dropped=_dropped(table, columns.names, reading),
         makes_results=reading.results == "trades", end=table.end,
     )  # fmt: skip
@@ -230,7 +230,7 @@ def _ordered(
     if reading.sort:
         _refuse_unread(columns, time)
         _refuse_forms(columns, lead[order])
-        known = numpy.where(time != clocks.NO_TIME, numpy.arange(len(time)), 0)
+        known = numpy.where(time != time_columns.NO_TIME, numpy.arange(len(time)), 0)
         sequence = columns.sequence()
         time = over_midnight(time, sequence, lead[order])
         keys = (time[numpy.maximum.accumulate(known)], lead[order])
@@ -238,9 +238,14 @@ def _ordered(
         _refuse_untimed(columns, time, _are_moved(again, lead[order]))
         order, time = order[again], time[again]
         columns, _ = _timed(table, order, reading)
-    elif "sequence" in table.names and (numpy.diff(time[time != clocks.NO_TIME]) < -LONGEST).any():
+    elif "sequence" in table.names and _falls(time):
         time = over_midnight(time, columns.sequence(), lead[order])
     return columns, order, time
+
+
+def _falls(time: Ints) -> bool:
+    """Whether a time is below the one above it by more than LONGEST."""
+    return bool((numpy.diff(time[time != time_columns.NO_TIME]) < -LONGEST).any())
 
 
 def over_midnight(time: Ints, sequence: Ints | None, lead: Codes) -> Ints:
@@ -248,9 +253,9 @@ def over_midnight(time: Ints, sequence: Ints | None, lead: Codes) -> Ints:
     behind one that is later by more than LONGEST: once, as a session goes on over midnight. Dates
     say it themselves.
     """
-    timed = numpy.flatnonzero(time != clocks.NO_TIME)
+    timed = numpy.flatnonzero(time != time_columns.NO_TIME)
     is_known = sequence is None or (sequence[timed] >= 0).all()
-    if (time[timed] >= clocks.DAY).any() or not is_known:
+    if (time[timed] >= time_columns.DAY).any() or not is_known:
         return time
     keys = (timed, lead[timed]) if sequence is None else (timed, sequence[timed], lead[timed])
     timed = timed[numpy.lexsort(keys)]
@@ -260,13 +265,13 @@ def over_midnight(time: Ints, sequence: Ints | None, lead: Codes) -> Ints:
         ends = falls[(lead[timed[falls]] == number) & (lead[timed[falls + 1]] == number)]
         if len(ends) == 1:
             behind = timed[int(ends[0]) + 1 :]
-            found[behind[lead[behind] == number]] += clocks.DAY
+            found[behind[lead[behind] == number]] += time_columns.DAY
     return found
 
 
 def _refuse_unread(columns: Columns, time: Ints) -> None:
     """Raises ExtractError where more than a few times can't be read by which rows are sorted."""
-    is_unread = (time == clocks.NO_TIME) & _has(columns, "time")
+    is_unread = (time == time_columns.NO_TIME) & _has(columns, "time")
     kinds = columns.words("event", KINDS)
     unread = numpy.flatnonzero(is_unread & (_has(columns, "order") | (kinds > Kind.CANCEL)))
     if len(unread) > len(time) // FEW_UNTIMED:
@@ -289,7 +294,7 @@ def _untimed(columns: Columns, time: Ints, which: Mask) -> Ints:
     is_order = (kinds >= Kind.NEW) & (kinds <= Kind.CANCEL) & _has(columns, "order")
     is_trade = ((kinds == Kind.TRADE) | (kinds == Kind.FILL)) & ~_has(columns, "auction")
     is_due = is_order | is_trade | (kinds == Kind.UNCROSS)
-    return numpy.flatnonzero((time == clocks.NO_TIME) & is_due & which)
+    return numpy.flatnonzero((time == time_columns.NO_TIME) & is_due & which)
 
 
 def _refuse_untimed(columns: Columns, time: Ints, which: Mask) -> None:
@@ -339,10 +344,10 @@ def _slack(columns: Columns, kind: Int8s) -> int:
     steps = [times.step_of(cells.text(int(row))) for row in first]
     of_rows = numpy.array([*steps, 0], "i8")[codes]
     own, due = (
-        int(of_rows[(kind >= least) & (kind <= most) & (codes >= 0)].min(initial=clocks.DAY))
+        int(of_rows[(kind >= least) & (kind <= most) & (codes >= 0)].min(initial=time_columns.DAY))
         for least, most in ((Kind.UNCROSS, Kind.UNCROSS), (Kind.NEW, Kind.CANCEL))
     )
-    return own if due < own < clocks.DAY else 0
+    return own if due < own < time_columns.DAY else 0
 
 
 def _timed(table: Table, order: Ints, reading: Reading) -> tuple[Columns, Ints]:
@@ -351,8 +356,8 @@ def _timed(table: Table, order: Ints, reading: Reading) -> tuple[Columns, Ints]:
     source = table.source if is_whole else table.source.take(order)
     columns = Columns(source, table.names, reading)
     if "time" not in table.names:
-        return columns, numpy.full(len(order), clocks.NO_TIME, "i8")
-    return columns, clocks.nanoseconds(columns.cells("time"), table.dates)
+        return columns, numpy.full(len(order), time_columns.NO_TIME, "i8")
+    return columns, time_columns.nanoseconds(columns.cells("time"), table.dates)
 
 
 def _ids(columns: Columns, lead: Codes) -> tuple[dict[str, Codes], Ints]:
@@ -393,7 +398,7 @@ def _groups(time: Ints, sequence: Ints | None, lead: Codes) -> Ints:
         is_unknown = (sequence[two] < sequence[one]) | (sequence[one] < 0)
         falls = found[one[(found[one] == found[two]) & is_unknown]]
         found = paired_codes(found, numpy.where(numpy.isin(found, falls), 0, sequence + 1))
-    own = time == clocks.NO_TIME
+    own = time == time_columns.NO_TIME
     found[own] = len(time) + numpy.flatnonzero(own)
     return numbered(found)
 

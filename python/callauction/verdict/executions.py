@@ -3,14 +3,14 @@ import dataclasses
 
 import numpy
 
-from callauction.verdict import clocks
+from callauction.verdict import time_columns
 from callauction.verdict.cells import NO_ROWS, Ints
 from callauction.verdict.comparing import (
     NAMED, Compared, Difference, compared_fills, compared_trades,
 )  # fmt: skip
 from callauction.verdict.day_rows import DayRows
 from callauction.verdict.doubts import Doubts
-from callauction.verdict.judged import Moment
+from callauction.verdict.paths import Moment
 from callauction.verdict.phases import NOTHING, Book, Result
 from callauction.verdict.rows import Cell, PriceCode, StateCode
 
@@ -36,8 +36,8 @@ class Executions:
         at = rows.time[uncrosses]
         if len(done):
             by = done[numpy.maximum(numpy.searchsorted(uncrosses[done], these) - 1, 0)]
-        if len(done) and len(these) and (at != clocks.NO_TIME).all():
-            timed = rows.time[these] != clocks.NO_TIME
+        if len(done) and len(these) and (at != time_columns.NO_TIME).all():
+            timed = rows.time[these] != time_columns.NO_TIME
             own = numpy.where(timed, rows.time[these], 0)[:, None]
             by = numpy.where(timed, done[numpy.abs(own - at[done]).argmin(1)], by)
             self.stamps[these] = numpy.where(timed, numpy.abs(own - at).argmin(1), Cell.MISSING)

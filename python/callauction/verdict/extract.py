@@ -9,7 +9,7 @@ from typing import BinaryIO
 import numpy
 import pandas
 
-from callauction.verdict import clocks, conditions, fix
+from callauction.verdict import conditions, fix, time_columns
 from callauction.verdict.cells import (
     Codes, Mask, Short, Source, by_kind, frame_source, with_joined_columns,
 )  # fmt: skip
@@ -114,7 +114,7 @@ def _timed(table: Table, reading: Reading) -> Table:
     found, theirs = table.source, table.names.get("time")
     dates: str = reading.dates
     if theirs is not None and not dates:
-        dates = clocks.dates_of(found.cells(theirs))
+        dates = time_columns.dates_of(found.cells(theirs))
     end = table.end
     if end is not None and theirs is not None and len(found):
         end = end._replace(time=found.cells(theirs).text(len(found) - 1))

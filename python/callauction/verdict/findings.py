@@ -8,15 +8,15 @@ import pandas
 
 from callauction import statuses
 from callauction.reasons import Explanation
-from callauction.verdict import jumps
+from callauction.verdict import joint_differences
 from callauction.verdict.comparing import Difference, Fill, Trade, Value
 from callauction.verdict.context import AROUND, Context, queue_of
 from callauction.verdict.coverage import Coverage, coverage_of
 from callauction.verdict.explain import (
     book_sentences, effect_of, recorded_members, rule_of, sentences_of,
 )  # fmt: skip
-from callauction.verdict.judged import Judged, Judgement
 from callauction.verdict.orders import orders_of
+from callauction.verdict.paths import Judged, Judgement
 from callauction.verdict.rows import BadRow, PriceCode, Rows
 from callauction.verdict.rules import Rules
 
@@ -258,7 +258,7 @@ def _findings(judgement: Judgement, rows: Rows, rules: Rules) -> Iterator[Findin
     numbers: collections.Counter[bool] = collections.Counter()
     for number, judged in enumerate(judgement.uncrosses):
         context = Context(judged, rows, rules, judgement.uncrosses[:number])
-        for those in jumps.grouped(context, judged.differences):
+        for those in joint_differences.grouped(context, judged.differences):
             is_certain = not those[0].doubt
             numbers[is_certain] += 1
             yield _finding(numbers[is_certain], context, those)
@@ -267,7 +267,7 @@ def _findings(judgement: Judgement, rows: Rows, rules: Rules) -> Iterator[Findin
 def _finding(number: int, context: Context, those: Sequence[Difference]) -> Finding:
     """Differences that are one finding, most harm first; a doubtful one's rule is its reason."""
     first, *others = those
-    whole = jumps.joined_differences(those)
+    whole = joint_differences.joined_differences(those)
     recorded, lawful = _both(context, first)
     labels = [context.rows.labels[place] for place in whole.places] or [context.label]
     moved = (f"{each.item}: recorded {one}, lawful {other}"

@@ -18,7 +18,7 @@ from decimal import Decimal, InvalidOperation
 
 import numpy
 
-from callauction.verdict import clocks
+from callauction.verdict import time_columns
 from callauction.verdict.cells import Cells, Ints, Short, Source, parted_source
 from callauction.verdict.columns import ExtractError
 
@@ -408,8 +408,8 @@ def _is_of_one_session(source: Source) -> bool:
     numbers = [int(text) if text.isdecimal() else -1 for text in texts]
     is_report = kinds != (words.index(RESULT) if RESULT in words else len(words))
     number = numpy.array([*numbers, -1], "i8")[codes][is_report]
-    time = clocks.nanoseconds(source.cells("TransactTime"))[is_report][numpy.argsort(number)]
-    time = time[time != clocks.NO_TIME]
+    time = time_columns.nanoseconds(source.cells("TransactTime"))[is_report][numpy.argsort(number)]
+    time = time[time != time_columns.NO_TIME]
     is_own = len(numpy.unique(number)) == len(number) and number.min(initial=0) >= 0
     return is_own and not (time[1:] < time[:-1]).any()
 

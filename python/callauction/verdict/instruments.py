@@ -13,23 +13,23 @@ import pandas
 from callauction.prices import number_of
 from callauction.program import ProgramError
 from callauction.progress import Progress
-from callauction.verdict import clocks
-from callauction.verdict.again import Gap, find_holes, gaps_of, remark_of
+from callauction.verdict import time_columns
 from callauction.verdict.audits import before, judge_rows, rules_of, short_rows
 from callauction.verdict.cells import Codes, Ints, Mask, Source
+from callauction.verdict.column_words import Columns
 from callauction.verdict.columns import (
     KINDS, ColumnError, ExtractError, hint_of, refuse_unknown,
 )  # fmt: skip
 from callauction.verdict.coverage import PLURALS, Coverage
-from callauction.verdict.ends import are_over
 from callauction.verdict.events import dropped_numbers, gaps_in, rows_of
 from callauction.verdict.extract import columns_of, read_table
+from callauction.verdict.file_ends import are_over
 from callauction.verdict.findings import INCOMPLETE, STATUSES, Finding, Verdict
 from callauction.verdict.reading import Reading
+from callauction.verdict.repeated_rows import Gap, find_holes, gaps_of, remark_of
 from callauction.verdict.rows import BadRow, Doubt, Kind, Rows
 from callauction.verdict.rules import Rules
 from callauction.verdict.table import Table
-from callauction.verdict.worded import Columns
 from callauction.words import AUCTIONS
 
 TERMS = (
@@ -218,7 +218,7 @@ class Market:
         """Which instruments the file's end can't cut. Rows that are sorted may have any times."""
         table, time = self.table, None
         if "time" in table.names and not self.reading.sort:
-            time = clocks.nanoseconds(table.source.cells(table.names["time"]), table.dates)
+            time = time_columns.nanoseconds(table.source.cells(table.names["time"]), table.dates)
         return are_over(self.codes, len(self.names), time)
 
     @property

@@ -16,13 +16,12 @@ from callauction.verdict.certain import Certain, with_certain
 from callauction.verdict.comparing import (
     NAMED, PRIORITY, Difference, compared_items, doubted,
 )  # fmt: skip
+from callauction.verdict.day_end import Ending, count_of
 from callauction.verdict.day_rows import DayRows
 from callauction.verdict.doubts import Doubts
-from callauction.verdict.endings import Ending, count_of
 from callauction.verdict.executions import Executions
-from callauction.verdict.judged import Judged, Judgement, Moment, Path, State
 from callauction.verdict.moments import Moments
-from callauction.verdict.orderings import Orderings
+from callauction.verdict.paths import Judged, Judgement, Moment, Path, State
 from callauction.verdict.phases import (
     BeyondError, Result, Sums, Taken, advance, empty, recorded_sums, uncross,
 )  # fmt: skip
@@ -30,6 +29,7 @@ from callauction.verdict.rows import (
     INTERRUPTED, OWN, STATES, Cell, PriceCode, Rows, StateCode,
 )  # fmt: skip
 from callauction.verdict.rules import Rules
+from callauction.verdict.tie_search import Orderings
 from callauction.verdict.uncross_doubts import Items, UncrossDoubts
 from callauction.words import AUCTIONS
 

@@ -10,7 +10,7 @@ import numpy
 
 from callauction.verdict.cells import Ints, Mask
 from callauction.verdict.comparing import Fill, Trade
-from callauction.verdict.judged import Judged, Judgement
+from callauction.verdict.paths import Judged, Judgement
 from callauction.verdict.phases import recorded_sums
 from callauction.verdict.rows import OF_ORDERS, SIDES, Kind, PriceCode, Rows
 

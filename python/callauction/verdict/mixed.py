@@ -8,17 +8,17 @@ from collections.abc import Iterator, Sequence
 import numpy
 import pandas
 
-from callauction.verdict import clocks
+from callauction.verdict import time_columns
 from callauction.verdict.cells import Ints
 from callauction.verdict.columns import ExtractError
-from callauction.verdict.judged import Judgement
+from callauction.verdict.paths import Judgement
 from callauction.verdict.rows import (
     OF_ORDERS, SAID, BadRow, Cell, Doubt, Kind, PriceCode, Rows, StateCode,
 )  # fmt: skip
 from callauction.verdict.rules import Rules
 from callauction.words import AUCTIONS
 
-LONGEST = 18 * 3600 * clocks.SECOND
+LONGEST = 18 * 3600 * time_columns.SECOND
 """How long a session may be in nanoseconds: times that fall by more are the next day's."""
 MOST_RESULTS, MOST_ODD = 8, 2
 """How many results are named, and how many in all may be corrected, or auctions have none."""
@@ -36,7 +36,7 @@ def _results(rows: Rows) -> Ints:
 
 def is_one_session(rows: Rows) -> bool:
     """Whether rows of two dates are of one session: within LONGEST, its auctions in their order."""
-    at = rows.time[(rows.kind != Kind.BAD) & (rows.time != clocks.NO_TIME)]
+    at = rows.time[(rows.kind != Kind.BAD) & (rows.time != time_columns.NO_TIME)]
     names = rows.state[_results(rows)]
     return bool(
         len(at) and at.max() - at.min() < LONGEST and (names > 0).all()
@@ -63,7 +63,7 @@ def refuse_days(rows: Rows) -> None:
             time, own = rows.time[other], rows.kind[one:other] == Kind.NEW
             if is_single and time == rows.time[one]:  # a correction with the time of the auction
                 continue
-            if time != clocks.NO_TIME and (rows.time[one:other][own] > time).any():
+            if time != time_columns.NO_TIME and (rows.time[one:other][own] > time).any():
                 what = f"results of one auction, the {AUCTIONS[number]}, of two days or markets"
                 _refuse(rows, (one, other), what, "--where")
 
@@ -142,8 +142,8 @@ def refuse_parts(rows: Rows, due: Sequence[int]) -> None:
     names = rows.state[ends] - 1
     if len(names) > 1 and names.tolist() == [*due][::-1]:
         raise ExtractError("results are in reverse order (is the newest row first?): say --sort")
-    timed = orders[rows.time[orders] != clocks.NO_TIME]
-    is_timed = len(timed) > 0 and len(ends) > 0 and (rows.time[ends] != clocks.NO_TIME).all()
+    timed = orders[rows.time[orders] != time_columns.NO_TIME]
+    is_timed = len(timed) > 0 and len(ends) > 0 and (rows.time[ends] != time_columns.NO_TIME).all()
     falls = numpy.flatnonzero(rows.time[ends[1:]] < rows.time[ends[:-1]])
     if is_timed and len(falls):
         one, other = rows.labels[ends[falls[0] : falls[0] + 2]]
@@ -166,7 +166,7 @@ def _by_time(rows: Rows, orders: Ints, ends: Ints) -> Ints:
     """
     at, end = rows.time[orders], numpy.sort(rows.time[ends])
     is_dated = [rows.names.date(int(it[0])) is not None for it in (orders, ends)]
-    slack = clocks.SECOND if ":" in rows.names.time(int(ends[0])) else 0
+    slack = time_columns.SECOND if ":" in rows.names.time(int(ends[0])) else 0
     last = numpy.flatnonzero((rows.kind >= Kind.UNCROSS) & (rows.kind <= Kind.FILL))[-1]
     news = orders[rows.kind[orders] == Kind.NEW]
     wrong = (orders > last) & (at < end[-1])
@@ -217,7 +217,7 @@ def with_late_results(rows: Rows, due: Sequence[int]) -> Rows | None:
     is_more, last = has_more(rows, due), rows.of(*OF_ORDERS).max(initial=-1)
     for place in results[results > last].tolist():
         above, time = results[results < place], rows.time[place]
-        if clocks.NO_TIME < time < rows.time[above].max(initial=clocks.NO_TIME):
+        if time_columns.NO_TIME < time < rows.time[above].max(initial=time_columns.NO_TIME):
             key[place] = numpy.flatnonzero(rows.time > time)[0] - 0.5
         elif is_more and rows.state[place] <= 0 and time not in rows.time[above]:
             own = above[:-1][others_said(rows, above[:-1], place) == 1]

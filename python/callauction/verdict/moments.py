@@ -9,12 +9,12 @@ from callauction.verdict import comparing
 from callauction.verdict.cells import Ints
 from callauction.verdict.comparing import Difference, Fill, Trade, doubted
 from callauction.verdict.day_rows import DayRows
-from callauction.verdict.early import Early
+from callauction.verdict.early_rows import Early
 from callauction.verdict.executions import Executions
-from callauction.verdict.judged import Judged, Moment, Path
-from callauction.verdict.orderings import Variants
+from callauction.verdict.paths import Judged, Moment, Path
 from callauction.verdict.phases import indicated
 from callauction.verdict.rows import Kind, PriceCode
+from callauction.verdict.tie_search import Variants
 from callauction.verdict.uncross_doubts import UncrossDoubts
 
 MOST_MOMENTS = 25

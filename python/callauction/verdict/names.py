@@ -12,7 +12,7 @@ import pandas
 
 from callauction.verdict.cells import Codes, Ints
 from callauction.verdict.columns import UNKNOWN, form_of_id, look_of
-from callauction.verdict.judged import Judged, Judgement
+from callauction.verdict.paths import Judged, Judgement
 from callauction.verdict.phases import recorded_sums, sums
 from callauction.verdict.rows import SIDES, BadRow, Cell, Doubt, Kind, PriceCode, Rows, StateCode
 

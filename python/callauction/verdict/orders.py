@@ -11,7 +11,7 @@ from decimal import Decimal
 import numpy
 import pandas
 
-from callauction.verdict.judged import Judged, Judgement, Path
+from callauction.verdict.paths import Judged, Judgement, Path
 from callauction.verdict.phases import recorded_sums
 from callauction.verdict.rows import OF_ORDERS, OWN, SIDES, Kind, PriceCode, Rows
 from callauction.verdict.rules import Rules

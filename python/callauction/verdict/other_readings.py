@@ -5,14 +5,12 @@ from collections.abc import Mapping
 
 import numpy
 
-from callauction.verdict.again import amended, copies, second_trades, too_many
 from callauction.verdict.cells import Ints
-from callauction.verdict.codes import without_codes
 from callauction.verdict.coverage import PRICE_ITEMS
-from callauction.verdict.hidden import lacking, with_rests
-from callauction.verdict.judged import Judgement
+from callauction.verdict.hidden_shares import lacking, with_rests
 from callauction.verdict.judging import Judge
 from callauction.verdict.lots import in_shares, lot_of, members_in_shares, orders_in_shares
+from callauction.verdict.member_codes import without_codes
 from callauction.verdict.mixed import (
     corrected, doubled, has_more, namings, stopped_again, with_last_stops, with_names,
 )  # fmt: skip
@@ -21,6 +19,8 @@ from callauction.verdict.names import (
 )  # fmt: skip
 from callauction.verdict.other_reading import OtherReading, of_rows
 from callauction.verdict.owners import Owners
+from callauction.verdict.paths import Judgement
+from callauction.verdict.repeated_rows import amended, copies, second_trades, too_many
 from callauction.verdict.rows import INTERRUPTED, Doubt, Kind, Rows
 from callauction.verdict.rules import Rules
 from callauction.verdict.table import End

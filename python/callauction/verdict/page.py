@@ -23,8 +23,8 @@ from callauction.progress import Progress
 from callauction.verdict.context import Context, price_text
 from callauction.verdict.findings import LAWFUL, MOST_BAD_ROWS, Finding, Verdict, findings_frame
 from callauction.verdict.instruments import FAULT, Audited, Market
-from callauction.verdict.judged import Judged
 from callauction.verdict.orders import members_of
+from callauction.verdict.paths import Judged
 from callauction.verdict.rows import INTERRUPTED
 from callauction.verdict.rules import Rules
 from callauction.verdict.times import seconds

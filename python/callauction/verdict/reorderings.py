@@ -7,13 +7,13 @@ from collections.abc import Callable, Iterator
 
 import numpy
 
-from callauction.verdict import clocks
+from callauction.verdict import time_columns
 from callauction.verdict.cells import Ints
 from callauction.verdict.doubts import MOST_FALLS
-from callauction.verdict.early import Early
-from callauction.verdict.judged import Judgement
+from callauction.verdict.early_rows import Early
 from callauction.verdict.judging import Judge
 from callauction.verdict.other_reading import OtherReading, of_rows
+from callauction.verdict.paths import Judgement
 from callauction.verdict.rows import OF_ORDERS, Kind, Rows
 
 
@@ -54,7 +54,7 @@ def falls_of_numbers(rows: Rows) -> tuple[str, bool]:
     """
     known = numpy.flatnonzero((rows.kind != Kind.BAD) & (rows.number >= 0))
     falls = numpy.flatnonzero(numpy.diff(rows.number[known]) < 0)
-    if not len(falls) or (rows.time != clocks.NO_TIME).any() or rows.is_odd.any():
+    if not len(falls) or (rows.time != time_columns.NO_TIME).any() or rows.is_odd.any():
         return "", False
     one, other = rows.labels[known[falls[0] : falls[0] + 2]]
     why = f"rows {one} and {other} are in another order than their sequence: say --sort"
@@ -72,11 +72,11 @@ def all_times(rows: Rows, step: int = 1) -> Ints:
     """The places of all rows by time, of the day where only some have a date, and where times of
     one step in nanoseconds are one; one without a time stays below the one above it.
     """
-    is_timed = rows.time != clocks.NO_TIME
-    is_dated = rows.time[is_timed] >= clocks.DATED
+    is_timed = rows.time != time_columns.NO_TIME
+    is_dated = rows.time[is_timed] >= time_columns.DATED
     at = rows.time
     if is_dated.any() and not is_dated.all():
-        at = numpy.where(is_timed, at % clocks.DAY, clocks.NO_TIME)
+        at = numpy.where(is_timed, at % time_columns.DAY, time_columns.NO_TIME)
     known = numpy.where(is_timed, numpy.arange(len(at)), 0)
     return numpy.argsort(at[numpy.maximum.accumulate(known)] // step, kind="stable")
 
@@ -114,8 +114,8 @@ def _order_of_times(rows: Rows, has_late: bool = False) -> tuple[Ints, Ints, Int
     ends = rows.of(Kind.UNCROSS)
     phase = numpy.searchsorted(ends, orders)
     at = rows.time[orders]
-    end = numpy.concatenate([rows.time[ends], [clocks.NO_TIME]])[phase]
-    timed = (at != clocks.NO_TIME) & ((end == clocks.NO_TIME) | (at <= end) | has_late)
+    end = numpy.concatenate([rows.time[ends], [time_columns.NO_TIME]])[phase]
+    timed = (at != time_columns.NO_TIME) & ((end == time_columns.NO_TIME) | (at <= end) | has_late)
     orders, phase = orders[timed], phase[timed]
     return orders, phase, numpy.lexsort((at[timed], phase))
 

@@ -14,8 +14,8 @@ from callauction.verdict.certain import RULES, with_certain
 from callauction.verdict.comparing import PRIORITY, Difference, Fill, Trade, doubted
 from callauction.verdict.coverage import PRICE_ITEMS
 from callauction.verdict.doubts import has_lawful_orders
-from callauction.verdict.judged import Judged, Judgement
 from callauction.verdict.judging import Judge
+from callauction.verdict.paths import Judged, Judgement
 from callauction.verdict.phases import recorded_sums
 from callauction.verdict.rows import INTERRUPTED, SIDES, Cell, PriceCode
 from callauction.words import AUCTIONS

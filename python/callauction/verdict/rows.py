@@ -10,7 +10,7 @@ from typing import Any, Final
 import numpy
 from numpy.typing import NDArray
 
-from callauction.verdict import clocks, times
+from callauction.verdict import time_columns, times
 from callauction.verdict.cells import Array, Codes, Ints, Mask, Source
 from callauction.verdict.columns import EMPTY
 from callauction.verdict.table import End
@@ -350,7 +350,7 @@ class Rows:
     def are_behind(self, those: Ints, places: Ints | int) -> Mask:
         """Which of these rows are below others and not timed before them."""
         own, due = self.time[those], self.time[places]
-        is_early = (clocks.NO_TIME < own) & (own < due)
+        is_early = (time_columns.NO_TIME < own) & (own < due)
         found: Mask = (those > places) & ~is_early
         return found
 

@@ -4,7 +4,7 @@ one spelling.
 import dataclasses
 
 from callauction.verdict.comparing import Difference, doubted
-from callauction.verdict.judged import Judged, Judgement
+from callauction.verdict.paths import Judged, Judgement
 from callauction.verdict.rows import Rows
 from callauction.verdict.uncross_doubts import marked
 

@@ -4,11 +4,11 @@ from collections.abc import Sequence
 
 import numpy
 
-from callauction.verdict import clocks
+from callauction.verdict import time_columns
 from callauction.verdict.comparing import Difference, doubted
-from callauction.verdict.judged import Judged, Judgement
 from callauction.verdict.judging import Judge
 from callauction.verdict.other_reading import OtherReading, ReadDay, of_rows
+from callauction.verdict.paths import Judged, Judgement
 from callauction.verdict.phases import recorded_sums
 from callauction.verdict.rows import Cell, Kind, Rows
 from callauction.verdict.uncross_doubts import Mark, marked
@@ -135,7 +135,7 @@ def _placed(rows: Rows, found: Judgement) -> Rows | None:
     without any, or with one auction.
     """
     ended = [it for it in found.uncrosses if it.is_ended and it.result is not None]
-    is_late = (rows.kind == Kind.TRADE) & (rows.time == clocks.NO_TIME) & (rows.state <= 0)
+    is_late = (rows.kind == Kind.TRADE) & (rows.time == time_columns.NO_TIME) & (rows.state <= 0)
     if len(ended) < 2 or not is_late.any():
         return None
     state, entered = rows.state.copy(), rows.entered(len(rows.names.ids) + 1)

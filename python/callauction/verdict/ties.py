@@ -6,9 +6,9 @@ from collections.abc import Iterator
 import numpy
 
 from callauction.verdict.cells import Ints, Mask
-from callauction.verdict.clocks import NO_TIME
 from callauction.verdict.phases import Book, Result, sums
 from callauction.verdict.rows import Kind, Rows
+from callauction.verdict.time_columns import NO_TIME
 
 MOST_CUTS, MOST_ORDERINGS = 64, 24
 """How many moments of one time, and how many orders of the rows of one order, are tried."""

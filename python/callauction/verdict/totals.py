@@ -1,10 +1,10 @@
 """Replaces that may say an order's whole quantity, and not what is open."""
 import numpy
 
-from callauction.verdict import clocks
+from callauction.verdict import time_columns
 from callauction.verdict.coverage import PRICE_ITEMS
 from callauction.verdict.doubts import Doubts
-from callauction.verdict.judged import Judged, Judgement
+from callauction.verdict.paths import Judged, Judgement
 from callauction.verdict.phases import recorded_sums
 from callauction.verdict.rows import Kind, Rows
 
@@ -64,4 +64,4 @@ class Totals:
         if rows.group[one] == rows.group[other]:
             return False
         both = int(rows.time[one]), int(rows.time[other])
-        return clocks.NO_TIME in both or both[1] - both[0] >= rows.slack
+        return time_columns.NO_TIME in both or both[1] - both[0] >= rows.slack

@@ -11,7 +11,7 @@ from callauction.verdict.comparing import PRIORITY, Difference, doubted
 from callauction.verdict.coverage import PRICE_ITEMS
 from callauction.verdict.day_rows import DayRows
 from callauction.verdict.doubts import Doubts, Reason
-from callauction.verdict.judged import Judged, Moment, Path
+from callauction.verdict.paths import Judged, Moment, Path
 from callauction.verdict.phases import Book, Result, Taken
 from callauction.verdict.rows import BadRow, Rows, StateCode
 from callauction.words import AUCTIONS

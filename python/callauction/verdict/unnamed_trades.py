@@ -4,7 +4,7 @@ from collections.abc import Iterator, Sequence
 
 import numpy
 
-from callauction.verdict import clocks
+from callauction.verdict import time_columns
 from callauction.verdict.cells import Ints, Mask
 from callauction.verdict.rows import Kind, Rows, StateCode
 from callauction.words import AUCTIONS
@@ -21,7 +21,7 @@ class Strays:
         made = ((kind == Kind.TRADE) | (kind == Kind.FILL)) & (rows.state <= 0)
         self.made: Ints = numpy.flatnonzero(made)
         parts = (self.made, orders, uncrosses)
-        self.is_timed = all((rows.time[these] != clocks.NO_TIME).all() for these in parts)
+        self.is_timed = all((rows.time[these] != time_columns.NO_TIME).all() for these in parts)
         self.at, self.spots = self._by(self.made), numpy.sort(self._by(orders))
 
     def _by(self, these: Ints) -> Ints:
@@ -34,7 +34,7 @@ class Strays:
         """
         stops, spots, at = numpy.sort(self._by(ends)), self.spots, self.at
         count = numpy.searchsorted(stops, at, "right")
-        before = numpy.concatenate([[clocks.NO_TIME], stops])[count]
+        before = numpy.concatenate([[time_columns.NO_TIME], stops])[count]
         after = numpy.concatenate([stops, [numpy.iinfo("i8").max]])[count]
         began = numpy.searchsorted(spots, at) > numpy.searchsorted(spots, before, "right")
         goes_on = numpy.searchsorted(spots, after) > numpy.searchsorted(spots, at, "right")
@@ -69,8 +69,8 @@ class Strays:
             return {}
         count, before, after, began, goes_on = self._around(ends)
         if self.is_timed:
-            began |= before + clocks.SECOND < self.at
-            goes_on |= self.at + clocks.SECOND < after
+            began |= before + time_columns.SECOND < self.at
+            goes_on |= self.at + time_columns.SECOND < after
         is_away = (began | (count == 0)) & (goes_on | (count == len(ends)))
         blocks = [*zip(count.tolist(), numpy.searchsorted(self.spots, self.at).tolist())]
         held = [(number, -1) for number in range(1, 1 + len(ends))]
@@ -88,7 +88,8 @@ class Strays:
         by how many results are before them or are they; results have these names, -1 for none.
         """
         known = {number: due.index(name) for number, name in enumerate(names, 1) if name in due}
-        last_entry = self._by(self.rows.of(Kind.NEW, Kind.REPLACE)).max(initial=clocks.NO_TIME)
+        entries = self._by(self.rows.of(Kind.NEW, Kind.REPLACE))
+        last_entry = entries.max(initial=time_columns.NO_TIME)
         for place, (number, block) in enumerate(held):
             if block < 0 <= names[number - 1]:
                 yield (AUCTIONS[names[number - 1]],)

@@ -4,7 +4,7 @@ from collections.abc import Callable, Iterator
 
 from callauction.verdict.cells import Ints
 from callauction.verdict.day_rows import DayRows
-from callauction.verdict.judged import Moment, Path
+from callauction.verdict.paths import Moment, Path
 from callauction.verdict.phases import BeyondError
 from callauction.verdict.ties import Ties
 from callauction.verdict.uncross_doubts import Mark, UncrossDoubts, marked

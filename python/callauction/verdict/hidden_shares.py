@@ -5,8 +5,8 @@ import dataclasses
 import numpy
 
 from callauction.verdict.cells import Ints
-from callauction.verdict.judged import Judged, Judgement
 from callauction.verdict.judging import Judge
+from callauction.verdict.paths import Judged, Judgement
 from callauction.verdict.phases import recorded_sums
 from callauction.verdict.rows import OWN, Cell, Kind, PriceCode, Rows
 from callauction.verdict.rules import Rules

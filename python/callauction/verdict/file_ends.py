@@ -1,10 +1,10 @@
 """Which instruments, or days, of a file its end can't cut."""
 import numpy
 
-from callauction.verdict import clocks
+from callauction.verdict import time_columns
 from callauction.verdict.cells import Codes, Ints, Mask
 
-FALL = 60 * clocks.SECOND
+FALL = 60 * time_columns.SECOND
 """By how much times fall at least where the rows of another day, or instrument, begin."""
 
 
@@ -16,10 +16,10 @@ def are_over(codes: Codes, count: int, time: Ints | None) -> Mask:
     known = numpy.flatnonzero(codes >= 0)
     own, last = codes[known], numpy.full(count, -1, "i8")
     last[own] = known
-    if time is not None and (time != clocks.NO_TIME).any():
-        lowest = numpy.where(time == clocks.NO_TIME, numpy.iinfo("i8").max, time)
+    if time is not None and (time != time_columns.NO_TIME).any():
+        lowest = numpy.where(time == time_columns.NO_TIME, numpy.iinfo("i8").max, time)
         lowest = numpy.minimum.accumulate(lowest[::-1])[::-1]
-        falls: Mask = lowest[last] < numpy.where(last < 0, clocks.NO_TIME, time[last] - FALL)
+        falls: Mask = lowest[last] < numpy.where(last < 0, time_columns.NO_TIME, time[last] - FALL)
         return falls
     parts = 1 + numpy.count_nonzero(own[1:] != own[:-1])
     is_apart = parts == numpy.count_nonzero(last >= 0)

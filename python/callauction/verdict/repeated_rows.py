@@ -8,15 +8,15 @@ from typing import NamedTuple
 import numpy
 import pandas
 
-from callauction.verdict import clocks
+from callauction.verdict import time_columns
 from callauction.verdict.cells import NO_ROWS, Codes, Ints, Mask, numbered, paired_codes
+from callauction.verdict.column_words import Columns
 from callauction.verdict.columns import is_id, is_trade_id, is_unknown, look_of
-from callauction.verdict.judged import Judgement
+from callauction.verdict.paths import Judgement
 from callauction.verdict.phases import recorded_sums
 from callauction.verdict.rows import (
     OF_ORDERS, SAID, BadRow, Cell, Doubt, Hole, Kind, Rows, StateCode,
 )  # fmt: skip
-from callauction.verdict.worded import Columns
 
 _NO_RESULT = -100
 ROWS_AGAIN = "rows that were sent again, read once"
@@ -74,7 +74,7 @@ def _drop_results(rows: Rows, columns: Columns, lead: Codes) -> None:
     """Leaves out later results that say what the one before of their auction says, with its name
     and its time: all but the sequence is the same.
     """
-    is_named = (rows.kind == Kind.UNCROSS) & (rows.state > 0) & (rows.time != clocks.NO_TIME)
+    is_named = (rows.kind == Kind.UNCROSS) & (rows.state > 0) & (rows.time != time_columns.NO_TIME)
     these = numpy.flatnonzero(is_named)
     if len(these) > 1:
         own = paired_codes(lead[these], columns.content(these, "sequence"))
@@ -138,7 +138,7 @@ def _drop(rows: Rows, again: Ints) -> None:
 def _repeatable(rows: Rows) -> Ints:
     """Rows of which one more changes nothing: at one time, an entry or a named result at any."""
     kind = rows.kind
-    named = (kind == Kind.UNCROSS) & (rows.state > 0) & (rows.time != clocks.NO_TIME)
+    named = (kind == Kind.UNCROSS) & (rows.state > 0) & (rows.time != time_columns.NO_TIME)
     whole = (kind == Kind.REPLACE) | (kind == Kind.UNCROSS) & ~named
     whole |= (kind == Kind.CANCEL) & (rows.quantity <= 0)
     tied = numpy.flatnonzero(whole & (numpy.bincount(rows.group)[rows.group] > 1))

@@ -12,8 +12,8 @@ from callauction.verdict.day_rows import DayRows
 from callauction.verdict.doubts import Doubts
 from callauction.verdict.executions import Executions
 from callauction.verdict.fix import TAGS
-from callauction.verdict.judged import Judged, Judgement, Path
 from callauction.verdict.orders import notes_of
+from callauction.verdict.paths import Judged, Judgement, Path
 from callauction.verdict.rows import Cell, Kind, Rows
 from callauction.words import AUCTIONS
 

@@ -8,12 +8,12 @@ from decimal import Decimal
 
 import numpy
 
-from callauction.verdict import clocks, times
+from callauction.verdict import time_columns, times
 from callauction.verdict.cells import Ints
 from callauction.verdict.comparing import Difference
 from callauction.verdict.events import over_midnight
-from callauction.verdict.judged import Judged, Judgement
 from callauction.verdict.mixed import LONGEST
+from callauction.verdict.paths import Judged, Judgement
 from callauction.verdict.rows import OF_ORDERS, Kind, Rows
 
 EARLY = "trades and fills timed before an order of theirs was entered, by {:f} s at most"
@@ -26,7 +26,7 @@ ENTERED_BEFORE = "An auction executes orders that were entered before it."
 
 def _seconds(gap: int) -> Decimal:
     """Nanoseconds as seconds."""
-    return (Decimal(gap) / clocks.SECOND).normalize()
+    return (Decimal(gap) / time_columns.SECOND).normalize()
 
 
 class Early:
@@ -44,7 +44,7 @@ class Early:
             return False
         orders = self.rows.of(*OF_ORDERS)
         at = self.time[orders[numpy.argsort(self.rows.spots[orders])]]
-        at = at[at != clocks.NO_TIME]
+        at = at[at != time_columns.NO_TIME]
         return bool(10 * (at[1:] < at[:-1]).sum() > len(at))
 
     def step(self, place: int) -> int:
@@ -58,8 +58,8 @@ class Early:
         """By how many nanoseconds each row is timed before the other, as far as its time is
         written; 0 where it isn't.
         """
-        own, due, day = self.time[those], self.time[others], clocks.DAY
-        is_early = (clocks.NO_TIME < own) & (own < due) & ((own < day) == (due < day))
+        own, due, day = self.time[those], self.time[others], time_columns.DAY
+        is_early = (time_columns.NO_TIME < own) & (own < due) & ((own < day) == (due < day))
         found = numpy.zeros(len(those), "i8")
         for at in numpy.flatnonzero(is_early & (others >= 0)).tolist():
             last = int(due[at])
