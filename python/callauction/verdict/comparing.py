@@ -117,7 +117,7 @@ def compared_items(
     rules give no surplus and no side.
     """
     found: dict[str, Difference | None] = {}
-    price, state = int(rows.price[place]), int(rows.state[place])
+    price, state = price_said(rows, place, result), int(rows.state[place])
     is_priced = result.price is not None
     is_same_kind = price == PriceCode.UNSAID or (price == PriceCode.NO_PRICE) != is_priced
     if state > 0:
@@ -139,6 +139,14 @@ def compared_items(
         follows |= item == "surplus" and not is_priced
         found[item] = None if follows else _item(item, number, lawful[item], place)
     return found | _side(rows, place, result, is_same_kind, found.get("surplus"))
+
+
+def price_said(rows: Rows, place: int, result: Result) -> int:
+    """The price that a row publishes: none where the rules give none and the volume is 0, beside
+    which many show the last price.
+    """
+    is_idle = result.price is None and rows.quantity[place] == 0 and rows.price[place] >= 0
+    return PriceCode.NO_PRICE if is_idle else int(rows.price[place])
 
 
 def _item(item: str, recorded: Value, lawful: Value, place: int) -> Difference | None:

@@ -15,7 +15,7 @@ import numpy
 
 from callauction.verdict import time_columns
 from callauction.verdict.busts import Busts
-from callauction.verdict.cells import Ints
+from callauction.verdict.cells import Ints, Mask
 from callauction.verdict.columns import ExtractError
 from callauction.verdict.comparing import Difference, Fill, Trade, keys_of, member_columns
 from callauction.verdict.mixed import is_one_session
@@ -32,6 +32,7 @@ NO_NAMES = "it isn't said which auctions the rows are of: --auctions says it"
 IN_A_PHASE = "is a trade within a call phase: audit-auction judges days with continuous trading"
 MAY_BE_OUTSIDE = "may be a trade outside of the auctions"
 OUTSIDE = f"rows of orders are before it, so it {MAY_BE_OUTSIDE}"
+OF_OTHERS = f"no row enters its orders, and it isn't at the auction's time, so it {MAY_BE_OUTSIDE}"
 
 
 @dataclasses.dataclass(frozen=True)
@@ -320,7 +321,7 @@ class Doubts:
     def outside(self, these: Ints, place: int) -> Ints:
         """Which of these trades and fills may be of no auction, or of one whose row is missing:
         they name none, and rows of orders are between them and the uncross, or around them, or
-        they have another time than it has.
+        they have another time than it has, where a row is missing or none enters their orders.
         """
         rows = self.rows
         orders = self.all_orders
@@ -329,14 +330,31 @@ class Doubts:
         is_other = these > first
         if self.gap is not None:
             is_other |= (these >= self.gap[0]) & (rows.time[these] != rows.time[place])
+        is_other |= self._are_unentered(these) & self._are_apart(these, place)
         is_other = is_other & (rows.state[these] <= 0) | numpy.isin(these, self.within)
         found: Ints = these[is_other | numpy.isin(these, [*self.homes])]
+        return found
+
+    def _are_unentered(self, these: Ints) -> Mask:
+        """Which of these trades and fills are of orders that no row enters."""
+        rows = self.rows
+        keys = (rows.bid[these], rows.ask[these], rows.key[these])
+        are = [(it >= 0) & (self.entered[it] >= 0) for it in keys]
+        found: Mask = ~numpy.any(are, axis=0)
+        return found
+
+    def _are_apart(self, these: Ints, place: int) -> Mask:
+        """Which of these rows are more than a second before or after an uncross."""
+        time, own = self.rows.time[these], self.rows.time[place]
+        is_timed = (time != time_columns.NO_TIME) & (own != time_columns.NO_TIME)
+        found: Mask = is_timed & (numpy.abs(time - own) > time_columns.SECOND)
         return found
 
     def stray(self, each: Difference) -> Difference:
         """An extra trade or fill that may be another auction's, or of none: which, and why."""
         homes = self.homes.get(each.places[0], ())
-        why = OUTSIDE if self.gap is None else self.gap[1]
+        is_of_others = self._are_unentered(numpy.array(each.places, "i8")).all()
+        why = self.gap[1] if self.gap is not None else OF_OTHERS if is_of_others else OUTSIDE
         if homes:
             are = "has no row" if len(homes) == 1 else "have no row"
             why = f"the {' and the '.join(homes)} {are}: --auctions says which are held"
@@ -359,11 +377,30 @@ class Doubts:
 
     def below(self, strays: set[int]) -> str:
         """Why the books below such rows are in doubt: their orders may have traded before."""
-        first = min(strays - {*self.within.tolist()}, default=None)
+        those = numpy.array(sorted(strays - {*self.within.tolist()}), "i8")
+        first = next(iter(those[~self._are_unentered(those)].tolist()), None)
         return "" if first is None else f"row {self.rows.labels[first]} {MAY_BE_OUTSIDE}"
+
+    @functools.cached_property
+    def _lost(self) -> dict[int, object]:
+        """By the key of an order that no row enters the first row that changes or cancels it."""
+        those = [row for row in self.rows.bad if row.is_lost and row.place >= 0][::-1]
+        return {int(self.rows.key[row.place]): row.label for row in those}
+
+    def _of_lost(self, each: Difference) -> str:
+        """Why a trade or a fill may be of an order that is known by another id."""
+        one = each.recorded
+        keys = keys_of(one) if isinstance(one, Trade | Fill) else ()
+        lost = next((key for key in keys if key in self._lost), None)
+        if lost is None:
+            return ""
+        name = self.rows.names.order(lost)
+        return f"row {self._lost[lost]} changes {name}, which none enters: is it another's new id?"
 
     def _of_trade(self, each: Difference, end: str) -> str:
         """Why the difference of a trade or a fill isn't certain."""
+        if lost := self._of_lost(each):
+            return lost
         if each.recorded is None or each.excess < 0:
             found = self.of_missing(each.lawful) or end
             return found or self.busts.why(each) * (each.recorded is not None)

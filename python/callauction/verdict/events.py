@@ -553,8 +553,8 @@ def _is_zero(rows: Rows) -> Mask:
 
 def read_zeros(rows: Rows, said: Iterable[Decimal]) -> None:
     """Makes orders at the price 0 market orders, and refuses them where these have a word; takes
-    the prices of trades where all are 0. Nothing is done where a price that is said is 0, or one is
-    below it.
+    the prices of trades where all are 0; and reads 0 as no price in results without a volume.
+    Nothing is done where a price that is said is 0, or one is below it.
     """
     is_zero = _is_zero(rows)
     below = (rows.price >= 0) & (rows.price < rows.price[is_zero].max(initial=0))
@@ -563,6 +563,8 @@ def read_zeros(rows: Rows, said: Iterable[Decimal]) -> None:
     made = (rows.kind == Kind.TRADE) | (rows.kind == Kind.FILL)
     if is_zero[made].all():
         rows.price[made] = PriceCode.UNSAID
+    idle = is_zero & (rows.kind == Kind.UNCROSS) & (rows.quantity == Cell.MISSING)
+    rows.price[idle] = PriceCode.NO_PRICE
     zero = is_zero & ((rows.kind == Kind.NEW) | (rows.kind == Kind.REPLACE))
     if not rows.has_market:
         rows.price[zero] = PriceCode.MARKET

@@ -14,7 +14,7 @@ from callauction.progress import Progress
 from callauction.verdict.cells import NO_ROWS, Ints
 from callauction.verdict.certain import Certain, with_certain
 from callauction.verdict.comparing import (
-    NAMED, PRIORITY, Difference, compared_items, doubted,
+    NAMED, PRIORITY, Difference, compared_items, doubted, price_said,
 )  # fmt: skip
 from callauction.verdict.day_end import Ending, count_of
 from callauction.verdict.day_rows import DayRows
@@ -309,7 +309,7 @@ class Judge:
         recorded price where there are any, and by the lawful ones; each with these fills. Without a
         recorded price none may be executed.
         """
-        now, published = moment.path.state.reference, int(self.rows.price[moment.place])
+        now, published = moment.path.state.reference, price_said(self.rows, moment.place, result)
         references = [now if result.price is None else result.price]
         if published != PriceCode.UNSAID:
             references.insert(0, now if published == PriceCode.NO_PRICE else published)

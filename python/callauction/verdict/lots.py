@@ -21,10 +21,17 @@ LOTS = (10, 100, 1000)
 """How many shares a lot may have."""
 LEAST = 2
 """In how many items lots have to be seen."""
-KINDS_IN_LOTS = {
-    "results and trades": (Kind.UNCROSS, Kind.TRADE, Kind.FILL), "results": (Kind.UNCROSS,),
-    "trades": (Kind.TRADE, Kind.FILL),
-}  # fmt: skip
+QUANTITIES = ("quantity", "surplus")
+IN_LOTS = {
+    "the quantities of results and trades": ((Kind.UNCROSS, Kind.TRADE, Kind.FILL), QUANTITIES),
+    "the quantities of results": ((Kind.UNCROSS,), QUANTITIES),
+    "the quantities of trades": ((Kind.TRADE, Kind.FILL), QUANTITIES),
+    "the volumes": ((Kind.UNCROSS,), ("quantity",)),
+    "the surpluses": ((Kind.UNCROSS,), ("surplus",)),
+}
+"""Of which rows which quantities may be lots, by what they are called."""
+OF_ONE_ITEM = {"volume": "the volumes", "surplus": "the surpluses"}
+"""What alone may be in lots where nothing but this item is."""
 
 
 def _size(value: object) -> int:
@@ -34,30 +41,36 @@ def _size(value: object) -> int:
     return value if isinstance(value, int) else 0
 
 
-def lot_of(found: Judgement) -> int:
+def lot_of(found: Judgement) -> tuple[int, set[str]]:
     """How many shares a lot may have in which some quantities are, as several that differ are that
-    many times what is lawful, or as small a part of it, and most are; 0 for none.
+    many times what is lawful, or as small a part of it, and most are; and which items these are of.
+    0 for none.
     """
     certain = (it for each in found.uncrosses for it in each.certain)
-    sizes = [(_size(it.recorded), _size(it.lawful)) for it in certain]
-    ratios = [Fraction(max(both), min(both)) for both in sizes if min(both) > 0]
+    both = ((it.item, _size(it.recorded), _size(it.lawful)) for it in certain)
+    ratios = [(item, Fraction(max(it), min(it))) for item, *it in both if min(it) > 0]
     if not ratios:
-        return 0
-    ratio, count = Counter(ratios).most_common(1)[0]
-    return int(ratio) if ratio in LOTS and max(LEAST, len(ratios) / 2) <= count else 0
+        return 0, set()
+    ratio, count = Counter(it for _, it in ratios).most_common(1)[0]
+    if ratio not in LOTS or count < max(LEAST, len(ratios) / 2):
+        return 0, set()
+    return int(ratio), {item for item, it in ratios if it == ratio}
 
 
-def in_shares(rows: Rows, lot: int) -> Iterator[tuple[Rows, str]]:
-    """The rows with a part's quantities in the unit of the others, and why; none for a lot of 0."""
-    for what, kinds in KINDS_IN_LOTS.items() if lot else ():
-        these = numpy.isin(rows.kind, kinds)
-        both = {name: getattr(rows, name) for name in ("quantity", "surplus")}
-        said = {name: these & (it > 0) for name, it in both.items()}
+def in_shares(rows: Rows, lot: int, items: set[str]) -> Iterator[tuple[Rows, str]]:
+    """The rows with some quantities in the unit of the others, and why, by the items that seem to
+    be in lots; none for a lot of 0.
+    """
+    alone = OF_ONE_ITEM.get(min(items)) if len(items) == 1 else None
+    for what in [alone] if alone else [*IN_LOTS][:3] if lot else []:
+        kinds, names = IN_LOTS[what]
+        both = {name: getattr(rows, name) for name in names}
+        said = {name: numpy.isin(rows.kind, kinds) & (it > 0) for name, it in both.items()}
         most = {name: numpy.where(said[name], it * lot, it) for name, it in both.items()}
-        yield dataclasses.replace(rows, **most), f"are the quantities of {what} in lots of {lot}?"
+        yield dataclasses.replace(rows, **most), f"are {what} in lots of {lot}?"
         if all((it[said[name]] % lot == 0).all() for name, it in both.items()):
             least = {name: numpy.where(said[name], it // lot, it) for name, it in both.items()}
-            why = f"are quantities in lots of {lot}, but those of {what}?"
+            why = f"are quantities in lots of {lot}, but {what}?"
             yield dataclasses.replace(rows, **least), why
 
 

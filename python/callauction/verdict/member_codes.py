@@ -20,8 +20,8 @@ _PARTS = (
 def without_codes(rows: Rows) -> tuple[Rows, str] | None:
     """The rows with members as orders have them for codes that only trades and fills have, and why;
     None where no code seems to be a member's other name. Such a code is of one member, or of those
-    alone that have no other, and at two sides of rows at least, or there are more such codes; it is
-    of more orders than one, whose entry may be wrong.
+    alone that have no other, as a firm's of its desks, and at two sides of rows at least, or there
+    are more such codes; it is of more orders than one, whose entry may be wrong.
     """
     said = _said(rows)
     meant = _meant(said)
@@ -88,6 +88,7 @@ def _meant(said: "pandas.DataFrame") -> "pandas.DataFrame":
     whole = said.groupby("owner").size()
     many["is_whole"] = many["many"] == many["owner"].map(whole)
     is_only = many.groupby("code")["owner"].transform("size") == 1
-    good = many[is_only | many["is_whole"] & (many["many"] > 1)]
+    of_whole = many[many["is_whole"]].groupby("code")["many"].transform("sum")
+    good = many[is_only | many["is_whole"] & (of_whole.reindex(many.index, fill_value=0) > 1)]
     found = good.sort_values("many", ascending=False, kind="stable").drop_duplicates("owner")
     return found

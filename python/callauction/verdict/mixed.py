@@ -262,6 +262,38 @@ def with_last(rows: Rows, those: Ints, auction: int) -> Rows:
     )
 
 
+def in_parts(rows: Rows, due: Sequence[int]) -> Ints:
+    """The results with the one next below that may be more of them, where there are more than
+    auctions: no row of an order is between, they name no two auctions, and they don't say the same
+    things, or one has no name.
+    """
+    if not has_more(rows, due):
+        return numpy.zeros(0, "i8")
+    ends, orders = _ends(rows), rows.of(*OF_ORDERS)
+    said = numpy.array([getattr(rows, name)[ends] != Cell.MISSING for name in SAID])
+    state, before = rows.state[ends], numpy.searchsorted(orders, ends)
+    is_named = (state[:-1] <= 0) | (state[1:] <= 0)
+    are_one = is_named | (state[:-1] == state[1:]) & ~(said[:, :-1] & said[:, 1:]).any(axis=0)
+    found: Ints = ends[:-1][are_one & (before[:-1] == before[1:])]
+    return found
+
+
+def with_parts(rows: Rows, those: Ints) -> Rows:
+    """The rows in which each of these results says what the next one below says too, and that is a
+    bad row.
+    """
+    ends, kind, bad = _ends(rows), rows.kind.copy(), [*rows.bad]
+    rows = dataclasses.replace(rows, state=rows.state.copy())
+    for place in those[::-1].tolist():
+        below = int(ends[numpy.searchsorted(ends, place) + 1])
+        rows = rows.with_more_said(place, below)
+        rows.state[place] = max(rows.state[place], rows.state[below])
+        why = f"it is read as more of the result in row {rows.labels[place]}"
+        bad.append(BadRow(below, rows.labels[below], why, Doubt.ITEM, below))
+        kind[below] = Kind.BAD
+    return dataclasses.replace(rows, kind=kind, bad=bad)
+
+
 def stopped_again(rows: Rows) -> Ints:
     """The interruptions with another one next below and no order or trade between, which may
     correct them.

@@ -69,9 +69,22 @@ class Moments:
                 )
                 own = dataclasses.replace(paths[0].judged[-1], place=moment.place)
                 why = self.uncross_doubts.why(moment.path, moment.place)
-                found = doubted([wrong], why or self.early.of_auction(own)[0])
+                why = why or self.early.of_auction(own)[0] or self._of_late(moment, place)
+                found = doubted([wrong], why)
                 return [path.with_last(differences=found) for path in paths]
         return []
+
+    def _of_late(self, moment: Moment, place: int) -> str:
+        """Why a result may have been published late: its trades stand behind its lawful moment,
+        above the next row of an order.
+        """
+        rows, both = self.rows, self.executions.with_named(moment)
+        made = numpy.concatenate([both.traded, both.filled])
+        behind = moment.these[moment.these > place]
+        if not len(made) or not len(behind) or made.max() > behind[0] or made.min() < place:
+            return ""
+        label = rows.labels[made.max()]
+        return f"its trades, up to row {label}, are above: was it published late?"
 
     def _of_cancelled(self, moment: Moment, place: int, above: str) -> Difference | None:
         """The first trade or fill of an order that is cancelled behind the lawful moment of an

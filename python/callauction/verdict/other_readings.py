@@ -12,7 +12,8 @@ from callauction.verdict.judging import Judge
 from callauction.verdict.lots import in_shares, lot_of, members_in_shares, orders_in_shares
 from callauction.verdict.member_codes import without_codes
 from callauction.verdict.mixed import (
-    corrected, doubled, has_more, namings, stopped_again, with_last_stops, with_names,
+    corrected, doubled, has_more, in_parts, namings, stopped_again, with_last_stops, with_names,
+    with_parts,
 )  # fmt: skip
 from callauction.verdict.names import (
     OTHER_IDS, have_other_ids, misentered, renamed, respelled,
@@ -32,6 +33,7 @@ TWICE = "each trade has two rows: is there one for each side?"
 TOTALS = "replaces may say an order's whole quantity, and not what is open: --quantity says which"
 PERCENT = "the range may be a percentage"
 CORRECTED = "an auction has two results: the later one may correct the other"
+IN_PARTS = "more rows of results than auctions: are rows {} and {} of one?"
 STOPPED_AGAIN = "an auction has two interruptions: the later one may correct the other"
 MAY_BE_MISSING = "a result may be missing or correct another, and none says which auction it is of"
 
@@ -53,7 +55,8 @@ class OtherReadings:
     def lists(self) -> list[list[OtherReading]]:
         """The readings by their causes."""
         return [
-            self._one_side(), self._corrections(), self._stopped_again(), self._names(),
+            self._one_side(), self._corrections(), self._in_parts(), self._stopped_again(),
+            self._names(),
             self._copies(), self._amended(), self._cut(), self._spellings(), self._owners(),
             self._codes(), self._unchanged(), self._percent(), self._totals(), self._lacking(),
             self._lots(), self._lots_of_some(),
@@ -69,6 +72,16 @@ class OtherReadings:
         if not _may_correct(self.found, self.rows, self.rules):
             return []
         return [of_rows(functools.partial(corrected, due=self.rules.due), CORRECTED)]
+
+    def _in_parts(self) -> list[OtherReading]:
+        """A result has two rows."""
+        those = in_parts(self.rows, self.rules.due)
+        if not len(those):
+            return []
+        ends = self.rows.of(Kind.UNCROSS)
+        below = ends[numpy.searchsorted(ends, those[0]) + 1]
+        why = IN_PARTS.format(*self.rows.labels[[those[0], below]].tolist())
+        return [of_rows(functools.partial(with_parts, those=those), why)]
 
     def _stopped_again(self) -> list[OtherReading]:
         """A later row of an interruption corrects the one above it."""
@@ -177,7 +190,7 @@ class OtherReadings:
 
     def _lots(self) -> list[OtherReading]:
         """Quantities are lots of shares."""
-        ways = in_shares(self.rows, lot_of(self.found))
+        ways = in_shares(self.rows, *lot_of(self.found))
         lots = ((dict(quantity=it.quantity, surplus=it.surplus), why) for it, why in ways)
         return [of_rows(functools.partial(with_arrays, those), why) for those, why in lots]
 

@@ -367,6 +367,13 @@ class Rows:
             values[place] = Cell.MISSING if other is None else values[other]
         return dataclasses.replace(self, **said)
 
+    def with_more_said(self, place: int, other: int) -> "Rows":
+        """The rows, of which one says what another result says too, which counts where both do."""
+        said = {name: getattr(self, name).copy() for name in SAID}
+        for values in said.values():
+            values[place] = values[place] if values[other] == Cell.MISSING else values[other]
+        return dataclasses.replace(self, **said)
+
     def _parts(self) -> dict[str, Any]:
         fields = (field.name for field in dataclasses.fields(self))
         arrays = {name: getattr(self, name) for name in fields}
