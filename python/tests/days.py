@@ -86,6 +86,7 @@ def auctions() -> strategies.SearchStrategy[RecordedAuction]:
 
 
 def stored(name: str) -> pandas.DataFrame:
+    """The stored books of an example."""
     return table_of(form_of(Path(name), "book"), BOOK)
 
 
@@ -100,5 +101,6 @@ def wide_day() -> Day:
 
 
 def seconds(time: str) -> int:
+    """The seconds of a time such as 08:50:01 since midnight."""
     hour, minute, second = map(int, time.split(":"))
     return 3600 * hour + 60 * minute + second

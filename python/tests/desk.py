@@ -8,8 +8,9 @@ from collections.abc import Callable
 from decimal import Decimal
 from pathlib import Path
 
+import pytest
 from callauction.__main__ import main
-from damage import places, timed_day
+from damage import ORDERS, places, timed_day
 from extracts import Extract, Rows
 
 Change = Callable[[Rows], Rows | None]
@@ -52,14 +53,17 @@ def cells(event: str, column: str, change: Callable[[str], str], most: int = 10*
 
 
 def all_cells(column: str, change: Callable[[str], str]) -> Change:
+    """Changes a column of all rows, where there is a cell."""
     return cells("new|replace|cancel|uncross|trade|fill", column, change)
 
 
 def by_order(rows: Rows) -> Rows:
+    """The rows of each order together, by its id."""
     return sorted(rows, key=lambda row: (row.get("order", "~"), row["time"]))
 
 
 def as_fills(rows: Rows) -> Rows:
+    """The rows with two fills in place of each trade."""
     found: Rows = []
     for row in rows:
         if row["event"] != TRADE:
@@ -92,4 +96,22 @@ uncross,,none,20.45,10,0,opening
 
 
 def base_rows(rows: Rows | None = None) -> Rows:
+    """A copy of the rows of the base day, or of these."""
     return [dict(row) for row in rows or base_day().rows]
+
+
+Printed = pytest.CaptureFixture[str]
+
+
+def split(rows: Rows) -> tuple[Rows, Rows]:
+    """The rows of orders, and those of results."""
+    orders = [row for row in rows if row["event"] in ORDERS]
+    return orders, [row for row in rows if row["event"] not in ORDERS]
+
+
+def refused(rows: Rows, words: list[str], folder: Path, printed: Printed) -> str:
+    """The one line with which an extract is refused."""
+    assert audited(text_of(rows), words, folder) == 1
+    found = printed.readouterr()
+    assert found.err.count("\n") == 1 and not found.out
+    return found.err

@@ -26,3 +26,8 @@ def read_as(shape: str, text: str, extract: Extract, path: Path) -> Verdict:
         path, reference=extract.reference, range=extract.range, tick_size="0.01",
         reading=shapes.reading_of(shape),
     )  # fmt: skip
+
+
+def judged_rows(rows: Rows, terms: dict[str, Any]) -> Verdict:
+    """The verdict on rows with these terms."""
+    return audit_events(frame_of(rows), **terms)

@@ -165,4 +165,5 @@ def kept_for_supervision(extract: Extract) -> str:
 
 
 def lawful_log(has_results: bool = True) -> FixLog:
+    """The base day as a log of FIX messages."""
     return FixLog(base_day(), 1, has_results)

@@ -37,6 +37,7 @@ def small_day() -> Rows:
 
 
 def verdict_of(rows: Rows, **options: Any) -> Verdict:
+    """The verdict on a small day."""
     given: dict[str, Any] = dict(reference="10.00", tick_size="0.01")
     return audit_events(frame_of(rows), **given | options)
 

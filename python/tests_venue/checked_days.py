@@ -20,6 +20,7 @@ def checked(*words: object) -> tuple[int, str, str]:
 
 
 def contents(folder: pathlib.Path) -> dict[str, bytes]:
+    """The files of a folder."""
     return {it.name: it.read_bytes() for it in folder.iterdir()}
 
 

@@ -27,4 +27,5 @@ async def said(venue: Served, *texts: str, headers: dict[str, str] = {}, count: 
 
 
 def hello(token: str) -> str:
+    """The first message of a connection."""
     return json.dumps({"type": "hello", "token": token})
