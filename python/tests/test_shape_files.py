@@ -419,9 +419,9 @@ def test_a_column_for_each_kind_of_row(
     assert main([*words, "--columns", f"{of_trades},{of_results}"]) == 0
     assert main([*words, "--columns", of_trades, "--ignore", "*"]) == 5
     capsys.readouterr()
-    for wrong in ("order.price=Lastprice", "trade.event=Lastprice", "trade.pryce=Lastprice",
-                  "trade.price=Last"):
-        assert main([*words, "--columns", wrong]) == 1
+    for wrong, status in (("order.price=Lastprice", 2), ("trade.event=Lastprice", 2),
+                          ("trade.pryce=Lastprice", 2), ("trade.price=Last", 1)):
+        assert main([*words, "--columns", wrong]) == status
         assert capsys.readouterr().err.count("\n") == 1
 
 
