@@ -181,5 +181,6 @@ def test_times_may_be_of_twelve_hours(tmp_path: Path) -> None:
         row["sequence"] = str(number)
         row["time"] = f"{'12' if row['time'][:2] == '09' else row['time'][:2]}{row['time'][2:]} PM"
     assert audited(text_of(rows[::-1]), ["--sort"], tmp_path) == 0
-    rows[0]["time"] = "13:00:00 PM"
+    for row in rows[: len(rows) // 5]:
+        row["time"] = "13:00:00 PM"
     assert audited(text_of(rows), ["--sort"], tmp_path) == 1
