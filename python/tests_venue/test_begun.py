@@ -128,9 +128,9 @@ def test_members_by_fix_are_no_beginning(tmp_path: pathlib.Path) -> None:
 
 SUM = """
 import pathlib, sys, tomllib
-from callauction.venue import begun, config
+from callauction.venue import config, day_changes
 day = config.DayTerms.of(tomllib.loads(pathlib.Path(sys.argv[1]).read_text()))
-print(begun.kept(day)["parts"])
+print(day_changes.kept(day)["parts"])
 """
 
 
