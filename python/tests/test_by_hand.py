@@ -100,7 +100,7 @@ def test_orders_in_lots_that_only_the_surplus_shows_are_a_doubt(lot: int) -> Non
     verdict = audited(SURPLUS_OF_LOTS.format(500 + 8 * lot))
     assert verdict.word == "incomplete", str(verdict)
     assert [it.item for it in verdict.doubtful] == ["surplus"]
-    assert f"row 4's member in lots of {lot}?" in verdict.doubtful[0].doubt
+    assert f"Dorn's orders in lots of {lot}, as in row 4?" in verdict.doubtful[0].doubt
 
 
 def test_a_surplus_of_another_number_of_lots_is_certain() -> None:

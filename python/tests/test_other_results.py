@@ -3,9 +3,11 @@ firm's desks, and trades outside of the auctions. Each small day was worked out 
 doubt or lawful as it stands, and with another number in it certainly unlawful.
 """
 import io
+import itertools
 
 import pytest
-from callauction.verdict import Reading, audit_events
+from callauction.verdict import Reading, audit_events, shapes
+from callauction.verdict.columns import ExtractError
 
 HEADER = "event,order,member,side,price,quantity,surplus,auction,bid,ask,bid_member,ask_member,time"
 NAMES = HEADER.split(",")
@@ -68,7 +70,35 @@ NEW_ID = [A, "new order=D side=bid price=9.90 quantity=100", B,
           "uncross quantity=0 auction=closing"]  # fmt: skip
 
 
+FROM_NOW_ON = [A.replace("1000", "700"), B, OPENING.replace("400", "100"), FIRST,
+               "new order=C side=bid price=9.99 quantity=9",
+               "new order=D side=ask price=10.00 quantity=6",
+               "uncross side=ask price=10.00 quantity=1 surplus=5 auction=closing",
+               "trade price=10.00 quantity=1 auction=closing bid=A ask=D"]  # fmt: skip
+REPLACES = ["new order=A side=bid price=10.00 quantity=1100",
+            "replace order=A side=bid price=10.00 quantity=12",
+            "new order=D side=bid price=9.90 quantity=1000",
+            "replace order=D side=bid price=9.90 quantity=9", B,
+            OPENING.replace("surplus=400", "surplus=600"), FIRST,
+            "uncross quantity=0 auction=closing"]  # fmt: skip
+BIDS = ["new order=A side=bid price=10.00 quantity=9", "new order=D side=bid price=9.90 quantity=3",
+        B, OPENING.replace("400", "300"), FIRST, C, CLOSING.replace("surplus=200", "surplus=100"),
+        LAST]  # fmt: skip
+OF_MEMBER = ["new order=A member=Adler side=bid price=10.00 quantity=5",
+             "new order=B member=Birk side=ask price=9.98 quantity=500",
+             "uncross side=none price=10.00 quantity=500 surplus=0 auction=opening",
+             "trade price=10.00 quantity=5 auction=opening bid=A ask=B",
+             "new order=C member=Adler side=bid price=10.00 quantity=4",
+             "new order=D member=Birk side=ask price=10.00 quantity=1100",
+             "uncross side=ask price=10.00 quantity=400 surplus=700 auction=closing",
+             "trade price=10.00 quantity=4 auction=closing bid=C ask=D"]  # fmt: skip
+
+
 @pytest.mark.parametrize("rows, said, right, wrong", [
+    (FROM_NOW_ON, "quantities of rows from 6 on in lots of 100", ",1,5,", ",1,4,"),
+    (REPLACES, "quantities of replaces in lots of 100", ",600,600,", ",601,600,"),
+    (BIDS, "quantities of bids in lots of 100", ",200,100,", ",200,99,"),
+    (OF_MEMBER, "quantities of Adler's orders and trades in lots of 100", ",700,", ",701,"),
     (BETWEEN, "a trade outside of the auctions", "09:15:30", "09:00:00"),
     (BEFORE, "a trade outside of the auctions", "08:55:30", "09:00:00"),
     (IN_PARTS, "are rows 4 and 5 of one?", ",400,", ",300,"),
@@ -125,3 +155,58 @@ def test_a_firm_may_stand_for_its_desks() -> None:
     word, doubt = word_of(of_desks("Adler", "Adler"), ["opening"])
     assert word == "incomplete" and "may be renamed" in doubt
     assert word_of(of_desks("Adler-2", "Adler-1"), ["opening"])[0] == "unlawful"
+
+
+def fix_results(*entries: str) -> bytes:
+    """A log of FIX messages: A buys 600 of B's at 10.00, with a message for each of these groups of
+    market data above the trade.
+    """
+    order = "37={0}|17=X{0}|150=0|54={1}|40=2|44=10.00|38={2}|151={2}|59=0"
+    fill = "37={0}|17=Y{0}|150=F|54={1}|31=10.00|32=600|151=0|880=T1|625=2"
+    messages = [("8", order.format("A", 1, 1000)), ("8", order.format("B", 2, 600))]
+    messages += [("W", f"625=2|268=1|{it}") for it in entries]
+    messages += [("8", fill.format("A", 1)), ("8", fill.format("B", 2))]
+    head = "8=FIX.4.4|9=9|35={}|34={}|48=DE1|60=20261127-09:00:0{}|"
+    lines = (head.format(it[0], at, at) + it[1] for at, it in enumerate(messages, 1))
+    return "".join(f"{line}|10=000|\n" for line in lines).encode()
+
+
+PRICE, VOLUME, SURPLUS = "269=Q|270=10.00", "269=B|271=600", "269=A|271=400|277=P"
+
+
+@pytest.mark.parametrize("entries", itertools.permutations((PRICE, VOLUME, SURPLUS)))
+def test_a_result_of_market_data_may_have_a_message_for_each_entry(
+    entries: tuple[str, ...]
+) -> None:
+    wanted = ("prices", "volumes", "surpluses", "sides")
+    for number, word in (("600", "incomplete"), ("700", "unlawful")):
+        log = fix_results(*(it.replace("271=600", f"271={number}") for it in entries))
+        verdict = audit_events(io.BytesIO(log), reference="10.00", tick_size="0.01",
+                               auctions=["opening"], reading=shapes.reading_of("fix"))  # fmt: skip
+        assert verdict.word == word, str(verdict)
+        assert [verdict.coverage[it] for it in wanted] == [(1, 1)] * 4
+
+
+def test_a_session_over_midnight_without_dates_says_what_it_needs() -> None:
+    rows = [timed(A, "23:50:00"), timed(B, "23:51:00"), timed(OPENING, "23:58:00"),
+            timed(FIRST, "23:58:00"), timed(C, "00:05:00"),
+            timed(CLOSING.replace("=200 a", "=201 a"), "00:30:00"),
+            timed(LAST, "00:30:00")]  # fmt: skip
+    with pytest.raises(ExtractError, match="a session over midnight needs dates or a sequence"):
+        word_of(day(*rows))
+
+
+def test_trades_with_ids_of_their_own_are_two() -> None:
+    """T2 is as T1, and no copy of it: 1,200 of 600 shares are executed."""
+    rows = ["event,order,side,price,quantity,surplus,auction,tid", "new,A,bid,10.00,1300,,,",
+            "new,B,ask,10.00,600,,,", "uncross,,bid,10.00,600,700,opening,"]  # fmt: skip
+    made = ["trade,A,bid,10.00,600,,opening,T1", "trade,B,ask,10.00,600,,opening,T1"]
+    words = []
+    for name in ("", "T1", "T2"):
+        more = [it.replace("T1", name) for it in made if name]
+        text = "\n".join([*rows, *made, *more, ""])
+        verdict = audit_events(io.BytesIO(text.encode()), reference="10.00", tick_size="0.01",
+                               auctions=["opening"],
+                               reading=Reading(unrestricted=True, pair="tid"))  # fmt: skip
+        words.append(verdict.word)
+    assert words[2] == "unlawful" and "unlawful" not in words[:2], words

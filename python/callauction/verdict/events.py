@@ -172,7 +172,8 @@ def _read(
     ids, first = _ids(columns, lead)
     member, members = columns.texts("member")
     theirs = tuple(columns.names[name] for name in IDS if name in columns.names)
-    names = Names(columns.source, first, theirs, members, table.names, dates=table.dates)
+    names = Names(columns.source, first, theirs, members, table.names, dates=table.dates,
+                  pair=reading.pair or "")  # fmt: skip
     bid_member, ask_member = (_members(columns, f"{it}_member", members) for it in SIDES[1:])
     rows = Rows(
         columns.source.labels, columns.words("event", KINDS), time, ids["order"],

@@ -164,6 +164,11 @@ def _name(head: str) -> str:
     return name or head.strip()
 
 
+def _fill(found: Message, parts: Message) -> None:
+    """Takes what a result doesn't say of these."""
+    found |= {name: text for name, text in parts.items() if not found.get(name)}
+
+
 @dataclasses.dataclass
 class _Phase:
     """Where an instrument is: its last price in market data, and from which place on trades follow
@@ -176,6 +181,8 @@ class _Phase:
     price: str = ""
     number: str = ""
     done: Message | None = None
+    parts: Message = dataclasses.field(default_factory=dict)
+    """What market data said of an auction, its `session`, before it said a price."""
 
     def is_result(self, found: Message) -> bool:
         """Whether market data is the trades' result: it names an auction, or has their price; where
@@ -335,13 +342,16 @@ class _Log:
         if _session(message)[1] in _AUCTIONS and _number(found.get("LastQty", "")) == 0:
             found.setdefault("LastPx", "")  # a volume of 0 is no price, said or not
         if "LastPx" not in found:
-            self.notes[OTHERS] += 1
+            self._part(message, found)
             return
         time = message.get("TransactTime", "") or message.get("SendingTime", "")
         kept = ("Symbol", "SecurityID", "TradingSessionID", "TradingSessionSubID")
         found |= {name: message[name] for name in kept if name in message}
         found |= {"ExecType": RESULT, "TransactTime": time}
         phase, own = self._phase(message), _session(message)
+        if phase.parts.pop("session", None) == own[1]:
+            _fill(found, phase.parts)
+        phase.parts = {}
         self.empty.pop(own, None)
         is_none = _number(found["LastQty"]) == 0 == _number(found["LastPx"] or "0")
         if own[1] in _AUCTIONS and is_none:
@@ -353,6 +363,18 @@ class _Log:
         self.notes[INDICATIONS] += phase.result is not None
         phase.result = line, found
 
+    def _part(self, message: Message, found: Message) -> None:
+        """Market data of an auction without a price is more of the result that waits for trades, or
+        of the next one; what is of no auction, or below its trades, isn't read.
+        """
+        phase, own = self._phase(message), _session(message)
+        if own[1] not in _AUCTIONS or not found or phase.trades >= 0:
+            self.notes[OTHERS] += 1
+        elif phase.result is not None and _session(phase.result[1]) == own:
+            _fill(phase.result[1], found)
+        else:
+            phase.parts = {**found, **phase.parts, "session": own[1]}
+
     def _result(self, phase: _Phase, line: int, found: Message) -> None:
         """Puts a result above the first of its trades, with the number of that."""
         self._put(phase.trades - 0.5, line, found | {NUMBER: phase.number})
@@ -362,7 +384,7 @@ class _Log:
     def _forget(self, phase: _Phase) -> None:
         """A row of an order parts what is before it from the trades behind it."""
         self.notes[INDICATIONS] += phase.result is not None
-        phase.result, phase.trades, phase.done = None, -1, None
+        phase.result, phase.trades, phase.done, phase.parts = None, -1, None, {}
 
     # ---- the table
 

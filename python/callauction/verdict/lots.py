@@ -1,7 +1,9 @@
-"""Quantities that may be lots in place of shares, as what differs from the lawful says: those of
-results or trades, of some orders, or of the orders of a member.
+"""Quantities that may be lots in place of shares: those of results or trades, and of orders that
+were executed with more than they have, as what differs from the lawful says; and those of a part of
+the rows, where all others are whole lots.
 """
 import dataclasses
+import itertools
 from collections import Counter
 from collections.abc import Iterator
 from fractions import Fraction
@@ -10,9 +12,9 @@ import numpy
 
 from callauction.verdict.cells import Ints, Mask
 from callauction.verdict.comparing import Fill, Trade
-from callauction.verdict.paths import Judged, Judgement
+from callauction.verdict.paths import Judgement
 from callauction.verdict.phases import recorded_sums
-from callauction.verdict.rows import OF_ORDERS, SIDES, Kind, PriceCode, Rows
+from callauction.verdict.rows import OF_ORDERS, SIDES, Kind, Rows
 
 # ---- all quantities of some kinds of rows
 
@@ -128,90 +130,75 @@ def _has_wrong_volume(found: Judgement) -> bool:
     return any(it.item == "volume" for each in found.uncrosses for it in each.certain)
 
 
-# ---- orders of a member of which a result says more than were open
+# ---- a part of the rows, whose quantities alone aren't whole lots
 
 
-SAYS_MORE = (
-    "row {} says {:,} shares of the {} side at its price, and {:,} were open: are the orders of "
-    "row {}'s member in lots of {}?"
-)
+IN_PART = "are the quantities of {} in lots of {}, as in row {}?"
+MOST_PARTS = 24
+"""How many such readings are tried of MANY_ROWS; of more rows fewer."""
+MANY_ROWS = 50_000
+PartOfRows = tuple[Mask, str]
+"""Which rows it is of, and what it is called."""
 
 
-@dataclasses.dataclass(frozen=True)
-class _Side:
-    """A side of a book at the price of a result: the row of that, the shares that it says, those of
-    each open order, and by its place the row that enters each.
+def parts_in_shares(found: Judgement, rows: Rows) -> Iterator[tuple[dict[str, Ints], str]]:
+    """The quantities and surpluses with those of a part of the rows in shares, and why, where all
+    that aren't whole lots are of the part, and others aren't: a member's orders, with its trades
+    too, the bids, the asks, the entries, the replaces, or all rows behind a result and its trades.
+    None where nothing but the trades of one order says that it has more shares.
     """
-
-    place: int
-    side: int
-    said: int
-    shares: Ints
-    entries: Ints
+    if not _has_wrong_volume(found) and len({key for key, *_ in _beyond(found, rows)}) == 1:
+        return
+    most = MOST_PARTS * MANY_ROWS // max(MANY_ROWS, len(rows.kind))
+    yield from itertools.islice(_parts_in_shares(rows), most)
 
 
-def members_in_shares(found: Judgement, rows: Rows) -> Iterator[tuple[Ints, str]]:
-    """The quantities with those of a member's orders in shares, and why: a result that differs says
-    just as many more shares of a side than were open as the orders of the member there have then;
-    and those of the day that aren't whole lots are all of the member's.
-    """
-    member = _members(rows)
-    for side in _sides(found, rows):
-        for first in side.entries[numpy.unique(member[side.entries], return_index=True)[1]]:
-            own: Mask = member == member[first]
-            lot = _lot_of_some(side, own)
-            if lot and _are_odd_lots(rows, own, lot):
-                opened = int(side.shares.sum())
-                why = SAYS_MORE.format(rows.labels[side.place], side.said, SIDES[side.side], opened,
-                                       rows.labels[first], lot)  # fmt: skip
-                yield numpy.where(own & (rows.quantity > 0), lot, 1) * rows.quantity, why
+def _parts_in_shares(rows: Rows) -> Iterator[tuple[dict[str, Ints], str]]:
+    """The same, of any number of rows."""
+    both = {name: getattr(rows, name) for name in QUANTITIES}
+    is_read = (rows.kind >= Kind.NEW) & (rows.kind <= Kind.FILL)
+    said = {name: is_read & (it > 0) for name, it in both.items()}
+    some = said["quantity"] | said["surplus"]
+    for lot in ORDER_LOTS:
+        odd = numpy.any([said[name] & (it % lot != 0) for name, it in both.items()], axis=0)
+        places = numpy.flatnonzero(odd)
+        for which, what in _parts(rows, places) if len(places) else ():
+            is_part = which[places].all() and (some & ~which).any()
+            if is_part and rows.quantity[which].max() * lot <= MOST_OF_ORDER:
+                why = IN_PART.format(what, lot, rows.labels[places[0]])
+                yield {name: numpy.where(said[name] & which, it * lot, it)
+                       for name, it in both.items()}, why  # fmt: skip
 
 
-def _members(rows: Rows) -> Ints:
-    """By its place the member of each row of an order, that of the order's entry; a number of its
-    own for each order without one; -1 for other rows.
-    """
+def _parts(rows: Rows, odd: Ints) -> Iterator[PartOfRows]:
+    """The parts of the rows that may have these."""
     of_orders = numpy.isin(rows.kind, OF_ORDERS) & (rows.key >= 0)
-    entered = rows.entered(len(rows.names.ids) + 1)[numpy.maximum(rows.key, 0)]
-    member = rows.member[entered].astype("i8")
-    known = numpy.where(member >= 0, member, len(rows.names.members) + rows.key)
-    return numpy.where(of_orders & (entered >= 0), known, -1)
-
-
-def _sides(found: Judgement, rows: Rows) -> Iterator[_Side]:
-    """The sides of books of which a result that isn't lawful says more shares than were open."""
     entered = rows.entered(len(rows.names.ids) + 1)
-    for judged in found.uncrosses:
-        place, book = judged.place, judged.book
-        volume, surplus = int(rows.quantity[place]), int(rows.surplus[place])
-        if not judged.certain or min(volume, surplus, int(rows.price[place])) < 0:
-            continue
-        for side in (1, 2):
-            those = numpy.flatnonzero(_executable(judged, rows, side))
-            said = volume + surplus * (rows.side[place] == side)
-            if said > book.quantity[those].sum():
-                yield _Side(place, side, said, book.quantity[those], entered[book.key[those]])
+    entry = numpy.where(of_orders, entered[numpy.maximum(rows.key, 0)], -1)
+    first = next((int(entry[it]) for it in odd.tolist() if entry[it] >= 0), -1)
+    member = int(rows.member[first]) if first >= 0 else -1
+    if member >= 0:
+        own: Mask = (entry >= 0) & (rows.member[entry] == member)
+        name = rows.names.member(member)
+        yield own, f"{name}'s orders"
+        yield own | _trades_of(rows, entered, member), f"{name}'s orders and trades"
+    elif first >= 0:
+        yield entry == first, f"the order of row {rows.labels[first]}"
+    yield rows.kind == Kind.REPLACE, "replaces"
+    yield rows.kind == Kind.NEW, "entries"
+    for side in (1, 2):
+        yield (entry >= 0) & (rows.side[entry] == side), f"{SIDES[side]}s"
+    ends = rows.of(Kind.UNCROSS)
+    orders = numpy.flatnonzero(of_orders)
+    later = orders[orders > ends[ends < odd[0]].max(initial=-1)]
+    if len(later) and later[0] > orders[0]:
+        yield numpy.arange(len(rows.kind)) >= later[0], f"rows from {rows.labels[later[0]]} on"
 
 
-def _executable(judged: Judged, rows: Rows, side: int) -> Mask:
-    """Which orders of a side can be executed at the price of a result."""
-    book, price = judged.book, rows.price[judged.place]
-    is_within = book.price >= price if SIDES[side] == "bid" else book.price <= price
-    found: Mask = (book.side == side) & (is_within | (book.price == PriceCode.MARKET))
-    return found & book.counted(judged.auction)
-
-
-def _lot_of_some(side: _Side, own: Mask) -> int:
-    """How many shares a lot of these orders has, so that a side has as many as a result says; 0
-    where none does.
-    """
-    gap, shares = side.said - int(side.shares.sum()), int(side.shares[own[side.entries]].sum())
-    return next((lot for lot in ORDER_LOTS if shares * (lot - 1) == gap), 0)
-
-
-def _are_odd_lots(rows: Rows, own: Mask, lot: int) -> bool:
-    """Whether all quantities of orders but some of these are whole lots."""
-    said = numpy.isin(rows.kind, OF_ORDERS) & (rows.quantity > 0)
-    is_odd = said & (rows.quantity % lot != 0)
-    is_held = int(rows.quantity[own & said].max()) * lot <= MOST_OF_ORDER
-    return is_held and bool(is_odd.any()) and not bool((is_odd & ~own).any())
+def _trades_of(rows: Rows, entered: Ints, member: int) -> Mask:
+    """Which trades and fills are of a member's orders."""
+    made = (rows.kind == Kind.TRADE) | (rows.kind == Kind.FILL)
+    keys = (rows.bid, rows.ask, rows.key)
+    own = [(it >= 0) & (rows.member[entered[numpy.maximum(it, 0)]] == member) for it in keys]
+    found: Mask = made & numpy.any(own, axis=0)
+    return found

@@ -146,8 +146,11 @@ def refuse_parts(rows: Rows, due: Sequence[int]) -> None:
     is_timed = len(timed) > 0 and len(ends) > 0 and (rows.time[ends] != time_columns.NO_TIME).all()
     falls = numpy.flatnonzero(rows.time[ends[1:]] < rows.time[ends[:-1]])
     if is_timed and len(falls):
-        one, other = rows.labels[ends[falls[0] : falls[0] + 2]]
-        raise ExtractError(f"the times of results, rows {one} and {other}, fall: say --sort")
+        both = ends[falls[0] : falls[0] + 2]
+        one, other = rows.labels[both]
+        is_next_day = rows.time[both[0]] - rows.time[both[1]] > LONGEST
+        how = "a session over midnight needs dates or a sequence" if is_next_day else "say --sort"
+        raise ExtractError(f"the times of results, rows {one} and {other}, fall: {how}")
     is_apart = len(orders) > 0 and len(ends) > 1
     is_above = is_apart and orders[-1] < ends[0] and (rows.quantity[ends[1:]] > 0).any()
     wrong = orders if is_above or is_apart and orders[0] > ends[-1] else orders[:0]
@@ -208,16 +211,17 @@ def doubled(rows: Rows, due: Sequence[int]) -> dict[int, Ints]:
 
 
 def with_late_results(rows: Rows, due: Sequence[int]) -> Rows | None:
-    """The rows with the results below all orders that are of an earlier time than one above, or
-    that without a name say one other thing alone than a result above the last one, where that time
-    is, or with that result; None where there are none.
+    """The rows with the results below all orders that are of an earlier time than one above, but
+    the next day's, or that without a name say one other thing alone than a result above the last
+    one, where that time is, or with that result; None where there are none.
     """
     results, key = _results(rows), numpy.arange(len(rows.kind), dtype="f8")
     rows = dataclasses.replace(rows, time=rows.time.copy(), group=rows.group.copy())
     is_more, last = has_more(rows, due), rows.of(*OF_ORDERS).max(initial=-1)
     for place in results[results > last].tolist():
         above, time = results[results < place], rows.time[place]
-        if time_columns.NO_TIME < time < rows.time[above].max(initial=time_columns.NO_TIME):
+        latest = rows.time[above].max(initial=time_columns.NO_TIME)
+        if time_columns.NO_TIME < time < latest <= time + LONGEST:
             key[place] = numpy.flatnonzero(rows.time > time)[0] - 0.5
         elif is_more and rows.state[place] <= 0 and time not in rows.time[above]:
             own = above[:-1][others_said(rows, above[:-1], place) == 1]

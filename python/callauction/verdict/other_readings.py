@@ -9,7 +9,7 @@ from callauction.verdict.cells import Ints
 from callauction.verdict.coverage import PRICE_ITEMS
 from callauction.verdict.hidden_shares import lacking, with_rests
 from callauction.verdict.judging import Judge
-from callauction.verdict.lots import in_shares, lot_of, members_in_shares, orders_in_shares
+from callauction.verdict.lots import in_shares, lot_of, orders_in_shares, parts_in_shares
 from callauction.verdict.member_codes import without_codes
 from callauction.verdict.mixed import (
     corrected, doubled, has_more, in_parts, namings, stopped_again, with_last_stops, with_names,
@@ -195,16 +195,17 @@ class OtherReadings:
         return [of_rows(functools.partial(with_arrays, those), why) for those, why in lots]
 
     def _lots_of_some(self) -> list[OtherReading]:
-        """Quantities of some orders are lots: of those of which no order is executed with all such
-        as make the day lawful; of none that were executed where hidden shares may be lacking.
+        """Quantities of some orders, or of a part of the rows, are lots: of those of which no order
+        is executed with all such as make the day lawful; of none that were executed where hidden
+        shares may be lacking.
         """
         ways = [*orders_in_shares(self.found, self.rows)] if self.rows.has_peaks else []
-        ways += [(many, why, False) for many, why in members_in_shares(self.found, self.rows)]
-        changes = (
-            (of_rows(functools.partial(with_arrays, dict(quantity=many)), why), is_sure)
-            for many, why, is_sure in ways
-        )
+        made = [(dict(quantity=many), why, is_sure) for many, why, is_sure in ways]
+        parts = parts_in_shares(self.found, self.rows)
+        made += [(those, why, False) for those, why in parts]
         day = self.rows, self.rules
+        changes = ((of_rows(functools.partial(with_arrays, those), why), is_sure)
+                   for those, why, is_sure in made)  # fmt: skip
         return [
             it for it, is_sure in changes
             if is_sure or not Judge(*it.apply(day)).judge().unlawful

@@ -182,7 +182,7 @@ def copies(rows: Rows, judgement: Judgement) -> Ints:
              "bid_member", "ask_member")  # fmt: skip
     frame = pandas.DataFrame({name: getattr(rows, name)[made] for name in names})
     content, unsure = frame.copy(), numpy.zeros(len(made), bool)
-    for name in filter(is_trade_id, rows.names.unread):
+    for name in (it for it in rows.names.unread if is_trade_id(it) or it == rows.names.pair):
         frame[f"unread {name}"] = rows.names.codes(made, name)
         unsure |= unsure_ids(rows, made, name)
     last = numpy.argsort(unsure, kind="stable")

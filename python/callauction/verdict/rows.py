@@ -193,6 +193,8 @@ class Names:
     """Where rows are in the table, where some are there twice or in another order."""
     dates: str = ""
     """What dates with strokes are (times.STROKES)."""
+    pair: str = ""
+    """The table's column that pairs the rows of a trade, whose id it is then."""
 
     def moved(self, places: Ints) -> "Names":
         """The names of rows that are at other places."""
