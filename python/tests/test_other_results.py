@@ -187,6 +187,61 @@ def test_a_result_of_market_data_may_have_a_message_for_each_entry(
         assert [verdict.coverage[it] for it in wanted] == [(1, 1)] * 4
 
 
+def sorted_day(*rows: str) -> tuple[str, str]:
+    """The verdict on the opening of rows that are sorted by their times, and its first doubt."""
+    reading = Reading(unrestricted=True, sort=True)
+    verdict = audit_events(io.BytesIO(day(*rows).encode()), reference="10.00", tick_size="0.01",
+                           auctions=["opening"], reading=reading)  # fmt: skip
+    return verdict.word, next((it.doubt for it in verdict.doubtful), "")
+
+
+@pytest.mark.parametrize("of_last, of_first", [("07:02:42", "08:00:37"), ("08:02:42", "17:00:00")])
+def test_a_clock_of_one_member_is_a_doubt_where_rows_are_sorted(
+    of_last: str, of_first: str
+) -> None:
+    """E's row is last, and an hour earlier by its time; or A's is first, with a time of the day
+    before. Neither is, where each row is above those of later times.
+    """
+    rows = [timed("new order=A side=bid price=10.00 quantity=300", of_first),
+            timed("new order=D side=bid price=9.99 quantity=400", "08:01:28"),
+            timed("new order=B side=ask price=10.00 quantity=100", "08:02:02"),
+            timed("new order=E side=bid price=10.00 quantity=500", of_last),
+            timed("uncross side=bid price=10.00 quantity=100 surplus=700 auction=opening",
+                  "08:03:42"),
+            timed("trade price=10.00 quantity=100 auction=opening bid=A ask=B",
+                  "08:03:42")]  # fmt: skip
+    word, doubt = sorted_day(*rows)
+    assert word == "incomplete" and "are sorted by times, and which came first decides" in doubt
+    wrong = [it.replace("bid=A", "bid=D") for it in rows]
+    assert sorted_day(*wrong)[0] == "unlawful"
+
+
+def test_a_trade_long_before_an_auction_is_of_continuous_trading() -> None:
+    """C sells to A hours before the closing, or at it, where a price is due."""
+    rows = [timed(A, "08:50:00"), timed(C, "10:00:00"),
+            timed("trade price=10.00 quantity=100 bid=A ask=C", "10:00:01"),
+            timed("uncross side=none quantity=0 auction=closing", "17:30:00")]  # fmt: skip
+    word, doubt = word_of(day(*rows), ["closing"])
+    assert word == "incomplete" and "row 4 is a trade within a call phase" in doubt
+    at_end = [*rows[:2], rows[2].replace("10:00:01", "17:30:00"), rows[3]]
+    assert word_of(day(*at_end), ["closing"])[0] == "unlawful"
+
+
+def test_a_finding_beside_a_trade_too_many_has_its_own_lawful_value() -> None:
+    """A has 300 shares, and 400 are executed, as hidden ones may be missing; the surplus of 400 is
+    that of 300 either way.
+    """
+    rows = ["new order=A side=bid price=10.00 quantity=300",
+            "new order=B side=ask price=10.00 quantity=700",
+            "uncross side=ask price=10.00 quantity=300 surplus=700 auction=opening",
+            "trade price=10.00 quantity=400 auction=opening bid=A ask=B"]  # fmt: skip
+    verdict = audit_events(io.BytesIO(day(*rows).encode()), reference="10.00", tick_size="0.01",
+                           auctions=["opening"], reading=Reading(unrestricted=True))  # fmt: skip
+    assert [(it.item, it.recorded, it.lawful) for it in verdict.findings] == [
+        ("surplus", "700", "400"),
+    ]  # fmt: skip
+
+
 def test_a_session_over_midnight_without_dates_says_what_it_needs() -> None:
     rows = [timed(A, "23:50:00"), timed(B, "23:51:00"), timed(OPENING, "23:58:00"),
             timed(FIRST, "23:58:00"), timed(C, "00:05:00"),

@@ -186,7 +186,8 @@ class OtherReadings:
             return []
         more, why = shown[0].quantity - self.rows.quantity, shown[1]
         whole = of_rows(lambda it: with_arrays({"quantity": it.quantity + more}, it), why)
-        return [whole, OtherReading(lambda day: with_rests(whole.apply(day)), why)]
+        rests = OtherReading(lambda day: with_rests(whole.apply(day)), why)
+        return [dataclasses.replace(it, keeps_values=True) for it in (whole, rests)]
 
     def _lots(self) -> list[OtherReading]:
         """Quantities are lots of shares."""

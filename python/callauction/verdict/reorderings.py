@@ -97,13 +97,22 @@ def _across(rows: Rows) -> str:
 
 def _by_table(rows: Rows, found: Judgement) -> tuple[Callable[[Rows], Rows], str]:
     """What puts sorted rows in their order in the table, and why: by it an uncross is below an
-    order that by its time is later. Empty where none is.
+    order that by its time is later, or few rows are in another order. Empty where none is.
     """
     early, orders = Early(rows), rows.of(*OF_ORDERS)
     told = (*map(early.of_auction, found.uncrosses),
             *(early.of_uncross(each.place, orders) for each in found.uncrosses))  # fmt: skip
     why = next((why for why, *_ in told if why and rows.is_sorted), "")
-    return lambda it: it.ordered(numpy.argsort(it.spots, kind="stable")), why
+    return lambda it: it.ordered(numpy.argsort(it.spots, kind="stable")), why or _moved_few(rows)
+
+
+def _moved_few(rows: Rows) -> str:
+    """That few rows are in another order in the table, and where first; empty where none is."""
+    falls = numpy.flatnonzero(numpy.diff(rows.spots) < 0)
+    if not 0 < len(falls) <= max(MOST_FALLS, len(rows.spots) // 10):
+        return ""
+    one, other = rows.labels[falls[0] : falls[0] + 2]
+    return f"rows {other} and {one} are sorted by times, and which came first decides"
 
 
 def _order_of_times(rows: Rows, has_late: bool = False) -> tuple[Ints, Ints, Ints]:

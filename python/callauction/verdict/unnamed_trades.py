@@ -9,6 +9,9 @@ from callauction.verdict.cells import Ints, Mask
 from callauction.verdict.rows import Kind, Rows, StateCode
 from callauction.words import AUCTIONS
 
+LONGEST_CALL = 1800 * time_columns.SECOND
+"""How long before its result, in nanoseconds, a trade may be of that auction."""
+
 
 class Strays:
     """Where such trades and fills are, by times where all have one, else by places. `orders` are
@@ -41,12 +44,15 @@ class Strays:
         return count, before, after, began, goes_on
 
     def within(self) -> Ints:
-        """Those within a call phase: rows of orders are before and after them."""
+        """Those within a call phase, or of continuous trading before one: rows of orders are before
+        them and after them, or the next result is later by more than LONGEST_CALL.
+        """
         count, before, after, began, goes_on = self._around(self.uncrosses)
         if self.is_timed and len(self.orders):
             above, below, is_own = self._beside()
             began |= above & (self.at > before)
             goes_on |= (below | is_own) & (self.at < after)
+            goes_on |= self.at + LONGEST_CALL < after
         return self.made[began & goes_on & (count < len(self.uncrosses))]
 
     def _beside(self) -> tuple[Mask, Mask, Mask]:
