@@ -125,6 +125,13 @@ def _beyond(found: Judgement, rows: Rows) -> Iterator[tuple[int, int, int]]:
         yield from ((key, own, made[key]) for key, own in over)
 
 
+def _differ_in_shares(found: Judgement) -> bool:
+    """Whether a volume, a surplus, or the shares of a trade or of an order aren't lawful."""
+    certain = (it for each in found.uncrosses for it in each.certain)
+    those = (it for it in certain if it.item not in ("price", "auction", "side", "count"))
+    return any(_size(it.recorded) != _size(it.lawful) for it in those)
+
+
 def _has_wrong_volume(found: Judgement) -> bool:
     """Whether a volume that was published isn't lawful."""
     return any(it.item == "volume" for each in found.uncrosses for it in each.certain)
@@ -145,9 +152,10 @@ def parts_in_shares(found: Judgement, rows: Rows) -> Iterator[tuple[dict[str, In
     """The quantities and surpluses with those of a part of the rows in shares, and why, where all
     that aren't whole lots are of the part, and others aren't: a member's orders, with its trades
     too, the bids, the asks, the entries, the replaces, or all rows behind a result and its trades.
-    None where nothing but the trades of one order says that it has more shares.
+    None where no shares differ, or nothing but the trades of one order says that it has more.
     """
-    if not _has_wrong_volume(found) and len({key for key, *_ in _beyond(found, rows)}) == 1:
+    is_alone = not _has_wrong_volume(found) and len({it[0] for it in _beyond(found, rows)}) == 1
+    if is_alone or not _differ_in_shares(found):
         return
     most = MOST_PARTS * MANY_ROWS // max(MANY_ROWS, len(rows.kind))
     yield from itertools.islice(_parts_in_shares(rows), most)

@@ -268,17 +268,19 @@ def with_last(rows: Rows, those: Ints, auction: int) -> Rows:
 
 def in_parts(rows: Rows, due: Sequence[int]) -> Ints:
     """The results with the one next below that may be more of them, where there are more than
-    auctions: no row of an order is between, they name no two auctions, and they don't say the same
-    things, or one has no name.
+    auctions: no row of an order is between, nor more than a second, they name no two auctions, and
+    they don't say the same things, or one has no name.
     """
     if not has_more(rows, due):
         return numpy.zeros(0, "i8")
     ends, orders = _ends(rows), rows.of(*OF_ORDERS)
     said = numpy.array([getattr(rows, name)[ends] != Cell.MISSING for name in SAID])
-    state, before = rows.state[ends], numpy.searchsorted(orders, ends)
-    is_named = (state[:-1] <= 0) | (state[1:] <= 0)
-    are_one = is_named | (state[:-1] == state[1:]) & ~(said[:, :-1] & said[:, 1:]).any(axis=0)
-    found: Ints = ends[:-1][are_one & (before[:-1] == before[1:])]
+    state, before, time = rows.state[ends], numpy.searchsorted(orders, ends), rows.time[ends]
+    is_named = (state[:-1] > 0) & (state[1:] > 0)
+    are_parts = (state[:-1] == state[1:]) & ~(said[:, :-1] & said[:, 1:]).any(axis=0)
+    is_near = (before[:-1] == before[1:]) & (numpy.abs(numpy.diff(time)) <= time_columns.SECOND)
+    are_one = is_near & said[:, 1:].any(axis=0) & (are_parts | ~is_named)
+    found: Ints = ends[:-1][are_one]
     return found
 
 

@@ -55,8 +55,8 @@ class OtherReadings:
     def lists(self) -> list[list[OtherReading]]:
         """The readings by their causes."""
         return [
-            self._one_side(), self._corrections(), self._in_parts(), self._stopped_again(),
-            self._names(),
+            self._one_side(), self._corrections(), self._stopped_again(),
+            [*self._names(), *self._in_parts()],
             self._copies(), self._amended(), self._cut(), self._spellings(), self._owners(),
             self._codes(), self._unchanged(), self._percent(), self._totals(), self._lacking(),
             self._lots(), self._lots_of_some(),
@@ -196,21 +196,25 @@ class OtherReadings:
         return [of_rows(functools.partial(with_arrays, those), why) for those, why in lots]
 
     def _lots_of_some(self) -> list[OtherReading]:
-        """Quantities of some orders, or of a part of the rows, are lots: of those of which no order
-        is executed with all such as make the day lawful; of none that were executed where hidden
-        shares may be lacking.
+        """Quantities of some orders are lots: of those of which no order is executed with all such
+        as make the day lawful; of none that were executed where hidden shares may be lacking. Or
+        those of a part of the rows are, if nothing differs so.
         """
         ways = [*orders_in_shares(self.found, self.rows)] if self.rows.has_peaks else []
-        made = [(dict(quantity=many), why, is_sure) for many, why, is_sure in ways]
-        parts = parts_in_shares(self.found, self.rows)
-        made += [(those, why, False) for those, why in parts]
-        day = self.rows, self.rules
-        changes = ((of_rows(functools.partial(with_arrays, those), why), is_sure)
-                   for those, why, is_sure in made)  # fmt: skip
+        made = (
+            (of_rows(functools.partial(with_arrays, dict(quantity=many)), why), is_sure)
+            for many, why, is_sure in ways
+        )
+        parts = (of_rows(functools.partial(with_arrays, those), why)
+                 for those, why in parts_in_shares(self.found, self.rows))  # fmt: skip
         return [
-            it for it, is_sure in changes
-            if is_sure or not Judge(*it.apply(day)).judge().unlawful
-        ]  # fmt: skip
+            *(it for it, is_sure in made if is_sure or not self._judged_so(it).unlawful),
+            *(it for it in parts if not any(self._judged_so(it).by_place.values())),
+        ]
+
+    def _judged_so(self, reading: OtherReading) -> Judgement:
+        """The judgement of the day in a reading."""
+        return Judge(*reading.apply((self.rows, self.rules))).judge()
 
     def _units(self) -> list[OtherReading]:
         """Prices are in two units."""
