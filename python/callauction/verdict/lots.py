@@ -150,9 +150,9 @@ PartOfRows = tuple[Mask, str]
 
 def parts_in_shares(found: Judgement, rows: Rows) -> Iterator[tuple[dict[str, Ints], str]]:
     """The quantities and surpluses with those of a part of the rows in shares, and why, where all
-    that aren't whole lots are of the part, and others aren't: a member's orders, with its trades
-    too, the bids, the asks, the entries, the replaces, or all rows behind a result and its trades.
-    None where no shares differ, or nothing but the trades of one order says that it has more.
+    that aren't whole lots are of the part, and most of it: a member's orders, with its trades too,
+    the bids, the asks, the entries, the replaces, or all rows behind a result and its trades. None
+    where no shares differ, or nothing but the trades of one order says that it has more.
     """
     is_alone = not _has_wrong_volume(found) and len({it[0] for it in _beyond(found, rows)}) == 1
     if is_alone or not _differ_in_shares(found):
@@ -172,6 +172,7 @@ def _parts_in_shares(rows: Rows) -> Iterator[tuple[dict[str, Ints], str]]:
         places = numpy.flatnonzero(odd)
         for which, what in _parts(rows, places) if len(places) else ():
             is_part = which[places].all() and (some & ~which).any()
+            is_part &= 2 * len(places) > (some & which).sum()
             if is_part and rows.quantity[which].max() * lot <= MOST_OF_ORDER:
                 why = IN_PART.format(what, lot, rows.labels[places[0]])
                 yield {name: numpy.where(said[name] & which, it * lot, it)

@@ -20,11 +20,12 @@ _PARTS = (
 def without_codes(rows: Rows) -> tuple[Rows, str] | None:
     """The rows with members as orders have them for codes that only trades and fills have, and why;
     None where no code seems to be a member's other name. Such a code is of one member, or of those
-    alone that have no other, as a firm's of its desks, and at two sides of rows at least, or there
-    are more such codes; it is of more orders than one, whose entry may be wrong.
+    alone that have no other, and at two sides of rows at least, or there are more such codes, or it
+    begins their names, as a firm's those of its desks; it is of more orders than one, whose entry
+    may be wrong.
     """
     said = _said(rows)
-    meant = _meant(said)
+    meant = _meant(said, rows)
     own = said[said["code"] != ""].merge(meant, on=["owner", "code"])
     is_sure = (meant["many"] > 1).any() or own.loc[own["is_whole"], "place"].nunique() > 1
     if not is_sure or own["order"].nunique() < 2:
@@ -79,16 +80,18 @@ def _texts(rows: Rows, these: Ints, column: str) -> list[str]:
     return [words[code] if code >= 0 else text for code, text in zip(codes.tolist(), texts)]
 
 
-def _meant(said: "pandas.DataFrame") -> "pandas.DataFrame":
-    """Members of orders with the code of their trades: of how many sides of these, and whether of
-    all.
+def _meant(said: "pandas.DataFrame", rows: Rows) -> "pandas.DataFrame":
+    """Members of orders with the code of their trades: of how many sides of these, whether of all,
+    and whether it begins their names.
     """
     new = said[said["code"] != ""]
     many = new.groupby(["owner", "code"]).size().reset_index(name="many")
     whole = said.groupby("owner").size()
     many["is_whole"] = many["many"] == many["owner"].map(whole)
+    names = (rows.names.member(owner).casefold() for owner in many["owner"])
+    codes = many["code"].str.casefold()
+    many["is_desk"] = [name.startswith(code) for name, code in zip(names, codes)]
     is_only = many.groupby("code")["owner"].transform("size") == 1
-    of_whole = many[many["is_whole"]].groupby("code")["many"].transform("sum")
-    good = many[is_only | many["is_whole"] & (of_whole.reindex(many.index, fill_value=0) > 1)]
+    good = many[is_only | many["is_whole"] & ((many["many"] > 1) | many["is_desk"])]
     found = good.sort_values("many", ascending=False, kind="stable").drop_duplicates("owner")
     return found
