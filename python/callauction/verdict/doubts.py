@@ -383,8 +383,12 @@ class Doubts:
 
     @functools.cached_property
     def _lost(self) -> dict[int, object]:
-        """By the key of an order that no row enters the first row that changes or cancels it."""
-        those = [row for row in self.rows.bad if row.is_lost and row.place >= 0][::-1]
+        """By the key of an order that no row enters the first row that changes or cancels it; none
+        where a row that isn't read may enter it.
+        """
+        those = [row for row in self.rows.bad if row.is_order][::-1]
+        if not all(row.is_lost and row.place >= 0 for row in those):
+            return {}
         return {int(self.rows.key[row.place]): row.label for row in those}
 
     def _of_lost(self, each: Difference) -> str:
