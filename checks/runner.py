@@ -161,43 +161,30 @@ def jobs_of(text: str) -> int:
     return int(text)
 
 
+FLAGS = {
+    "--list": "print the parts, and run none",
+    "--show": "print all that the parts print",
+    "--keep-seconds": "make checks/part_seconds.txt of how long parts took here, for new clones, "
+    "and run none",
+    "--resume": "leave out what passed on the same sources",
+    "--short": "before a commit: the crates that changed, and one case of each kind of the parts",
+}
+SINCE = "with --short: changed since then (since this branch left origin's main, or HEAD)"
+PREFIX = "the parts that need no toolchain, on a package that is installed there"
+JOBS = "how many parts run at once, where memory allows (one for each core)"
+
+
 def words() -> argparse.Namespace:
     """What is asked for."""
     parser = argparse.ArgumentParser(prog="check", description="The test command.")
-    parser.add_argument(
-        "parts", nargs="*", metavar="PART", help="the parts to run (all, where none is named)"
-    )
-    parser.add_argument("--list", action="store_true", help="print the parts, and run none")
-    parser.add_argument("--show", action="store_true", help="print all that the parts print")
-    text = "make checks/part_seconds.txt of how long parts took here, for new clones, and run none"
-    parser.add_argument("--keep-seconds", action="store_true", help=text)
-    parser.add_argument(
-        "-j",
-        "--jobs",
-        type=jobs_of,
-        default=machine.cores(),
-        metavar="N",
-        help="how many parts run at once, where memory allows (one for each core)",
-    )
-    parser.add_argument(
-        "--resume", action="store_true", help="leave out what passed on the same sources"
-    )
-    parser.add_argument(
-        "--short",
-        action="store_true",
-        help="before a commit: the crates that changed, and one case of each kind of the parts",
-    )
-    parser.add_argument(
-        "--since",
-        metavar="COMMIT",
-        help="with --short: changed since then (since this branch left origin's main, or HEAD)",
-    )
-    parser.add_argument(
-        "--installed",
-        type=pathlib.Path,
-        metavar="PREFIX",
-        help="the parts that need no toolchain, on a package that is installed there",
-    )
+    parts = "the parts to run (all, where none is named)"
+    parser.add_argument("parts", nargs="*", metavar="PART", help=parts)
+    for name, text in FLAGS.items():
+        parser.add_argument(name, action="store_true", help=text)
+    many = {"type": jobs_of, "default": machine.cores(), "metavar": "N"}
+    parser.add_argument("-j", "--jobs", help=JOBS, **many)
+    parser.add_argument("--since", metavar="COMMIT", help=SINCE)
+    parser.add_argument("--installed", type=pathlib.Path, metavar="PREFIX", help=PREFIX)
     asked = parser.parse_args()
     if asked.installed and (asked.short or asked.resume) or asked.since and not asked.short:
         parser.error("--since goes with --short, and --installed without --short and --resume")

@@ -83,9 +83,9 @@ def commands(
     The words of files and frames are taken too: `enter`, `change`, `delete`, `status`, `ask`,
     `trade`, `uncross`; `bid`, `ask`; `opening`, `closing` and an empty word, as in a column `only`;
     `market` as a limit, and digits in a column that has it. An empty cell is missing. Columns of
-    several numbers have one length. An order without a limit (None,
-    or `<NA>`) is a market order, one without a peak no iceberg order.
-    READ_TRADE has its number as `id`. An order's `client` is any number of your own, 0 to 2^64 - 1.
+    several numbers have one length. An order without a limit (None, or `<NA>`) is a market order,
+    one without a peak no iceberg order. READ_TRADE has its number as `id`. An order's `client` is
+    any number of your own, 0 to 2^64 - 1.
 
     Nothing is cut or rounded: raises TypeError for what is no number or is a bool, and ValueError
     for a fraction, NaN, a number that its field can't hold or a masked one, a number that a command
@@ -94,9 +94,12 @@ def commands(
     values = (tag, member, side, quantity, limit, peak, id, restriction, client)
     keywords = zip(NAMES, values)
     given = _given(frame, {name: column for name, column in keywords if column is not None})
-    columns = {name: _Column(name, value) for name, value in (DEFAULTS | given).items()}
-    count = _length(columns)
-    found = numpy.zeros(count, COMMAND)
+    return _array_of({name: _Column(name, value) for name, value in (DEFAULTS | given).items()})
+
+
+def _array_of(columns: "dict[str, _Column]") -> Structs:
+    """The columns as an array of COMMAND. Raises ValueError as commands does."""
+    found = numpy.zeros(_length(columns), COMMAND)
     for name, column in columns.items():
         found[name] = column.values
         if name in FLAGGED:
