@@ -225,7 +225,7 @@ class Audience:
     # ---- what the operator lets them see
 
     def show_on_beamer(self, what: str) -> None:
-        """What the beamer shows. Raises MessageError."""
+        """What the screen shows. Raises MessageError."""
         self.screen.choose(what)
         self._log.note(kind="beamer", shows=what)
         for watcher in self.watchers:

@@ -254,7 +254,7 @@ class Site:
         return answered({"name": member.title, "token": token, "again": again})
 
     async def _socket(self, request: web.Request) -> web.StreamResponse:
-        """A connection of a member, of the operator or of the beamer."""
+        """A connection of a member, of the operator or of the screen."""
         return await connect(request, self._venue, self._gates)
 
     # ---- looks
@@ -345,7 +345,7 @@ class Site:
         )
 
     async def _replay(self, request: web.Request) -> web.Response:
-        """An auction that ended, book by book, for the operator and the beamer."""
+        """An auction that ended, book by book, for the operator and the screen."""
         _, member = self._venue.role_of(token_of(request))
         if member is not None:
             raise MessageError("not_allowed")

@@ -8,7 +8,7 @@ from callauction.venue.messages import MessageError
 from callauction.venue.rounds import Rounds
 
 SHOWN = ("indication", "all")
-"""What the beamer shows of a call: the indication alone, or also the book."""
+"""What the screen shows of a call phase: the indication alone, or also the book."""
 
 
 class Screen:
