@@ -50,6 +50,14 @@ def program() -> str:
 
 
 @pytest.fixture
+def seed() -> int:
+    """Of random cases: the same in each run, or VENUE_SEED. A test that fails prints it."""
+    found = int(os.environ.get("VENUE_SEED", "0"))
+    print("VENUE_SEED", found)
+    return found
+
+
+@pytest.fixture
 def venue(tmp_path: pathlib.Path) -> Iterator[served.Served]:
     """A venue with one instrument, before its first call."""
     with served.served(tmp_path, FAST) as found:

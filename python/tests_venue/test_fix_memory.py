@@ -1,6 +1,5 @@
 """The module of QuickFIX under the sanitizers of addresses and of undefined behaviour."""
 import pathlib
-import random
 import subprocess
 import sys
 
@@ -23,11 +22,9 @@ def libraries() -> str:
     return " ".join(subprocess.check_output(it, text=True).strip() for it in words)
 
 
-def test_no_memory_is_misused(tmp_path: pathlib.Path) -> None:
+def test_no_memory_is_misused(tmp_path: pathlib.Path, seed: int) -> None:
     build = [sys.executable, "-P", "-m", "callauction.fix.build", "--sanitized"]
     subprocess.run(build, env=environment(), check=True, stdout=subprocess.DEVNULL)
-    seed = random.randrange(1 << 32)
-    print("seed", seed)
     words = [sys.executable, str(served.HERE / "hammer.py"), str(tmp_path), str(seed)]
     more = {"LD_PRELOAD": libraries(), "ASAN_OPTIONS": "detect_leaks=0"} | MALLOC
     ran = subprocess.run(

@@ -97,9 +97,7 @@ async def play(keeper: Keeper, url: str, robots: list[Robot], chance: random.Ran
         )
 
 
-def test_kills(tmp_path: pathlib.Path) -> None:
-    seed = random.randrange(1 << 32)
-    print("seed", seed)
+def test_kills(tmp_path: pathlib.Path, seed: int) -> None:
     chance = random.Random(seed)
     port = served.free_port()
     keeper = Keeper(tmp_path, port)

@@ -115,9 +115,7 @@ def key_of(name: str, number: int) -> str:
     return name if number == 1 else f"{name}.round{number}"
 
 
-def test_rounds_under_kills(tmp_path: pathlib.Path) -> None:
-    seed = random.randrange(1 << 32)
-    print("seed", seed)
+def test_rounds_under_kills(tmp_path: pathlib.Path, seed: int) -> None:
     lesson = Lesson(tmp_path)
     number = 0
     try:
