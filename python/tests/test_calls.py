@@ -38,7 +38,7 @@ from callauction import (
 BID, ASK = Side.BID, Side.ASK
 
 
-def test_a_day() -> None:
+def test_each_method_gives_its_reply_over_a_day() -> None:
     with Auction() as auction:
         assert auction.enter(1, BID, 500, limit=200) == Entered(1)
         assert auction.indicate(3) == NoPrice(200, None)
@@ -76,7 +76,7 @@ def test_a_market_order_and_an_iceberg_order() -> None:
         assert auction.market_orders() == MarketOrders(bids=0, asks=70)
 
 
-def test_an_interruption() -> None:
+def test_an_interrupted_uncross_executes_at_the_next() -> None:
     with Auction(range=5) as auction:
         auction.enter(1, BID, 10, 206)
         auction.enter(1, ASK, 10, 206)
@@ -195,7 +195,7 @@ def test_the_display_counts_no_call_and_works_after_the_day() -> None:
         assert auction.calls == 3
 
 
-def test_the_ladder() -> None:
+def test_a_ladder_has_the_orders_that_count() -> None:
     with Auction(low=10, high=13, reference=11) as auction:
         auction.enter(1, BID, 5, 10)
         auction.enter(1, BID, 6, 12)
@@ -210,7 +210,7 @@ def test_the_ladder() -> None:
 
 
 @pytest.mark.parametrize("count", [0, 1, 1023, 1024, 1025, 2048, 3000])
-def test_trades(count: int) -> None:
+def test_trades_are_listed_whatever_their_number(count: int) -> None:
     with Auction() as auction:
         for _ in range(count):
             auction.enter(1, BID, 1)
@@ -224,7 +224,7 @@ def test_trades(count: int) -> None:
         assert len(auction.trades(count)) == len(auction.trades(2**63 - 1)) == 0
 
 
-def test_the_config() -> None:
+def test_a_config_is_what_was_given_or_the_default() -> None:
     with Auction(2, 9, 5, 3, 4, 1) as auction:
         assert auction.config == Config(2, 9, 5, 3, 4, 1)
     with Auction() as auction:
@@ -324,7 +324,7 @@ def test_an_auction_isnt_pickled() -> None:
         pickle.dumps(Auction())
 
 
-def test_a_reset() -> None:
+def test_a_reset_gives_the_opening_again() -> None:
     with Auction(max_calls=3, reference=50) as auction:
         auction.enter(1, BID, 5)
         auction.enter(1, ASK, 5, 70)

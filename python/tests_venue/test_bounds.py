@@ -59,7 +59,7 @@ def refused(bound: Bound, record: str, calls: int = 3) -> str:
         (OF_LITTLE, "change,1,10,201", "a value of 0.01 in orders"),
     ],
 )
-def test_a_bound(bound: Bound, record: str, text: str) -> None:
+def test_a_command_beyond_a_bound_is_refused(bound: Bound, record: str, text: str) -> None:
     found = refused(bound, record)
     assert found == (f"a member has at most {text} of an instrument" if text else "")
 

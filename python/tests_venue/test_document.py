@@ -31,7 +31,7 @@ def test_the_day_with_all_keys(tmp_path: pathlib.Path) -> None:
     assert DayTerms.read(tmp_path / "day.toml").instruments[0].range == 50
 
 
-def test_the_robot(venue: Served) -> None:
+def test_the_robot_of_the_document_trades_over_a_day(venue: Served) -> None:
     [command] = [block for block in blocks() if "robot.py" in block]
     path = DOCUMENT.parents[1] / command.split()[2]
     assert len(path.read_text("utf-8").splitlines()) <= 20

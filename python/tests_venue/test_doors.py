@@ -260,7 +260,7 @@ def test_insecure_says_what_it_means(tmp_path: pathlib.Path) -> None:
         assert "can read tokens and speak for others" in venue.child.stdout.readline()
 
 
-def test_tls(tmp_path: pathlib.Path) -> None:
+def test_a_client_joins_over_tls_if_it_trusts_the_certificate(tmp_path: pathlib.Path) -> None:
     cert, key = tmp_path / "cert.pem", tmp_path / "key.pem"
     words = "openssl req -x509 -newkey ec -pkeyopt ec_paramgen_curve:prime256v1 -nodes -days 30"
     files = ["-subj", "/CN=venue", "-keyout", str(key), "-out", str(cert)]

@@ -434,7 +434,7 @@ def is_on(process: psutil.Process, port: int, peer: socket.socket) -> bool:
     )
 
 
-def test_tls(tmp_path: pathlib.Path) -> None:
+def test_members_by_fix_need_tls_where_it_is_on(tmp_path: pathlib.Path) -> None:
     port, words = served.free_port(), certificate(tmp_path, "first")
     context = ssl.create_default_context(cafile=words[1])
     context.check_hostname = False

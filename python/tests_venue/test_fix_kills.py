@@ -176,7 +176,7 @@ def play(keeper: Keeper, first: served.Served, robots: list[Robot], chance: rand
     print(dict(counts), sum(len(it.asked) for it in robots), "requests")
 
 
-def test_kills(tmp_path: pathlib.Path, seed: int) -> None:
+def test_members_are_told_all_of_the_journal_once(tmp_path: pathlib.Path, seed: int) -> None:
     port, chance = served.free_port(), random.Random(seed)
     keeper = Keeper(tmp_path, served.free_port())
     (tmp_path / "day.toml").write_text(fixing.day_of(port, *MEMBERS, sync="true"))

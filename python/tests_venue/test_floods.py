@@ -426,7 +426,7 @@ async def test_who_guesses_most_gives_way(monkeypatch: pytest.MonkeyPatch) -> No
     assert sorted(await asyncio.gather(*waiting)) == [False, True, True]
 
 
-def test_networks() -> None:
+def test_an_address_is_counted_with_its_networks() -> None:
     assert rates.network_of("10.0.0.1") == "10.0.0.1"
     assert rates.network_of("2001:db8::1:2%eth0") == rates.network_of("2001:db8::9")
     assert rates.network_of("2001:db8::9") == "2001:db8::/64"

@@ -28,7 +28,7 @@ def test_the_most_gain_is_that_of_shares_in_their_order(values: list[Value]) -> 
     assert most_gain(values) == sum(bid - ask for bid, ask in pairs)
 
 
-def test_a_gain() -> None:
+def test_a_share_gains_the_difference_of_its_value_and_its_price() -> None:
     bid, ask = Value("bid", 600, 100), Value("ask", 400, 100)
     high = Uncovered(0, 1000)
     assert gain_in_ticks(bid, [("bid", 60, 540), ("bid", 40, 500)], high) == 60 * 60 + 40 * 100

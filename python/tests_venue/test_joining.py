@@ -30,7 +30,8 @@ def test_a_class_joins_at_once_from_one_address(tmp_path: pathlib.Path) -> None:
         assert joins(venue, "late") == ""
 
 
-def test_the_door(venue: Served, tmp_path: pathlib.Path) -> None:
+def test_a_closed_door_takes_own_codes_alone(venue: Served, tmp_path: pathlib.Path) -> None:
+    """Also after a restart."""
     anna = venue.join("Anna")
     venue.do("door", open=False)
     assert joins(venue, "Bert") == "joining_closed"

@@ -97,7 +97,7 @@ async def play(keeper: Keeper, url: str, robots: list[Robot], chance: random.Ran
         )
 
 
-def test_kills(tmp_path: pathlib.Path, seed: int) -> None:
+def test_no_answered_order_is_lost_or_done_twice(tmp_path: pathlib.Path, seed: int) -> None:
     chance = random.Random(seed)
     port = served.free_port()
     keeper = Keeper(tmp_path, port)

@@ -188,7 +188,7 @@ async def test_the_sweep_of_connections(
     assert has_said(caplog)
 
 
-async def test_the_door(
+async def test_a_connection_that_cant_be_taken_keeps_out_no_other(
     monkeypatch: pytest.MonkeyPatch, caplog: pytest.LogCaptureFixture
 ) -> None:
     """A connection that can't be taken keeps no other from being taken."""

@@ -186,7 +186,7 @@ def test_wrong_tokens_of_the_operator_are_said_to_people(tmp_path: pathlib.Path)
     assert all(found) and sum(1 + int(it[1] or 0) for it in found if it) == 5, error
 
 
-def test_times() -> None:
+def test_an_answer_is_counted_in_each_bucket_that_holds_it() -> None:
     times = Times()
     for seconds in (0.0005, 0.001, 0.0011, 0.2, 99.0):
         times.add(seconds)

@@ -37,7 +37,7 @@ def replied(error: NotAppliedError) -> Structs:
     return error.replies
 
 
-def test_many() -> None:
+def test_each_command_of_an_array_has_its_reply() -> None:
     with Auction() as auction:
         commands = some(3)
         replies = auction.apply_many(commands)
@@ -62,14 +62,14 @@ def test_commands_that_may_not_be_written_are_read() -> None:
     assert commands.tobytes() == before
 
 
-def test_none() -> None:
+def test_an_empty_array_is_no_call() -> None:
     with Auction() as auction:
         assert len(auction.apply_many(numpy.zeros(0, COMMAND))) == 0
         assert len(auction.apply_many(numpy.zeros(0, COMMAND), numpy.zeros(0, REPLY))) == 0
         assert auction.calls == 0
 
 
-def test_a_part_of_an_array() -> None:
+def test_a_part_of_an_array_is_applied_alone() -> None:
     with Auction() as auction:
         replies = numpy.zeros(10, REPLY)
         auction.apply_many(some(10)[3:5], replies[7:9])
@@ -165,7 +165,7 @@ def test_arrays_that_share_memory(begin: int) -> None:
 
 
 @pytest.mark.parametrize("record", [None, 5, bytes(64), some(1)[0], numpy.zeros(1, REPLY)])
-def test_no_reply(record: object) -> None:
+def test_what_is_no_reply_is_refused(record: object) -> None:
     with pytest.raises(TypeError, match="^record must be"):
         reply_of(record)  # type: ignore[arg-type]
 
