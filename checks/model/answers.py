@@ -45,8 +45,8 @@ def answer(text: str, options: Options, form: str) -> Answer:
         if form != "audit":
             return 0, printed(text, options, form), ""
         copy = journal_copy(text)
-        is_lawful, found = audit_text(copy.given, copy.behind)
-        return (INCOMPLETE if copy.behind else 0) if is_lawful else UNLAWFUL, found, ""
+        is_legal, found = audit_text(copy.given, copy.behind)
+        return (INCOMPLETE if copy.behind else 0) if is_legal else UNLAWFUL, found, ""
     except FileFault as fault:
         return 1, "", f"{fault}\n{likely_cause(str(fault), text, options)}"
     except OpenFault as fault:

@@ -75,9 +75,9 @@ def _audit(day: Day) -> list[Part]:
         return []
     found = audit_of(day)
     counts = found.attrs
-    verdict = "lawful" if counts["is_lawful"] else "not lawful"
+    verdict = "legal" if counts["is_legal"] else "not legal"
     text = (
-        f'<p class="{"good" if counts["is_lawful"] else "bad"}">The record is <strong>{verdict}'
+        f'<p class="{"good" if counts["is_legal"] else "bad"}">The record is <strong>{verdict}'
         f"</strong>: of {counts['entries']:,} entries {counts['compared']:,} have a recorded reply,"
         f" and {counts['unlawful']:,} of these differ from the lawful one.</p>"
     )

@@ -223,8 +223,8 @@ def _recorded(day: Day, count: int) -> list[str]:
 
 def audit_of(day: Day) -> pandas.DataFrame:
     """The recorded replies of a journal that aren't the lawful ones, with the columns of AUDIT. In
-    its `attrs` are the counts `entries`, `compared` and `unlawful`, `is_lawful`, and for a file
-    that was cut within a line `is_cut`. Raises ProgramError, also for an order file.
+    its `attrs` are the counts `entries`, `compared` and `unlawful`, `is_legal`, and for a file that
+    was cut within a line `is_cut`. Raises ProgramError, also for an order file.
     """
     lines = day.audited().splitlines()
     is_cut = lines[-1].startswith("incomplete: ")
@@ -235,7 +235,7 @@ def audit_of(day: Day) -> pandas.DataFrame:
     for line in lines[-4:-1]:
         name, count = line.split()
         frame.attrs[name] = int(count)
-    frame.attrs["is_lawful"] = lines[-1] == "audit legal"
+    frame.attrs["is_legal"] = lines[-1] == "audit legal"
     if is_cut:
         frame.attrs["is_cut"] = True
     return frame
@@ -269,6 +269,6 @@ def read_journal(path: str | os.PathLike[str], **options: int | None) -> pandas.
 
 def audit(path: str | os.PathLike[str]) -> pandas.DataFrame:
     """Which recorded replies of a journal aren't lawful (AUDIT); `attrs` has `entries`, `compared`,
-    `unlawful` and `is_lawful`. Raises OSError and ProgramError.
+    `unlawful` and `is_legal`. Raises OSError and ProgramError.
     """
     return audit_of(Day.read(path))

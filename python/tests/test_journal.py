@@ -50,7 +50,7 @@ def test_the_record_of_the_docs_becomes_its_journal() -> None:
     journal = converted(ADLER_AND_BIRK, low="10.00", high="30.00")
     assert entries_of(journal) == stored[1:]
     assert journal.text.splitlines()[0] == "day,1000,3000,1990,64,65536,1048576,"
-    assert journal.audit().attrs == dict(entries=8, compared=4, unlawful=0, is_lawful=True)
+    assert journal.audit().attrs == dict(entries=8, compared=4, unlawful=0, is_legal=True)
 
 
 def test_tables_are_in_the_names_from_there() -> None:
@@ -79,7 +79,7 @@ def test_an_audit_names_what_is_unlawful_as_it_is_named_there() -> None:
         [8, 6, "9:00:00", "trade", None, "trade A17 B4 140 at 20.02", "trade A17 B4 150 at 20.02"],
     ]
     assert found["member"].tolist() == ["Adler", None, None]
-    assert found.attrs == dict(entries=8, compared=4, unlawful=3, is_lawful=False)
+    assert found.attrs == dict(entries=8, compared=4, unlawful=3, is_legal=False)
 
 
 def test_replies_are_translated_to_the_ids_and_prices_of_the_frame() -> None:
@@ -172,7 +172,7 @@ def test_more_members_than_numbers_share_them_and_orders_tell_whose_they_are() -
     assert len(trades) == 64
     for side in ("bid", "ask"):
         assert (trades[f"{side}_member"] == "member " + trades[side].str[1:]).all()
-    assert journal.audit().attrs["is_lawful"]
+    assert journal.audit().attrs["is_legal"]
     with pytest.raises(FrameError, match="^row 131: member 'member 66' isn't 'member 3', who "):
         rows[-1] = dict(event="cancel", order="o3", member="member 66")
         converted(pandas.DataFrame(rows))
@@ -391,7 +391,7 @@ def test_random_days_come_back(
     span = None if config.range is None else cents(config.range)
     journal = from_frame(frame, "0.01", reference=cents(config.reference), range=span,
                          low=cents(config.low), high=cents(config.high))
-    assert journal.audit().attrs["is_lawful"]
+    assert journal.audit().attrs["is_legal"]
     assert journal.audit().attrs["compared"] == (journal_of(journal.day())["reply"] != "").sum()
     found = journal.trades()
     for side in ("bid", "ask"):

@@ -39,7 +39,7 @@ def test_an_example_has_its_tables(file: Path) -> None:
         assert csv_of(auction.trades()) == form_of(file, "trades")
         assert csv_of(auction.books()) == form_of(file, "book")
         assert auction.journal()["reply"].tolist() == auction.journal()["lawful"].tolist()
-        assert auction.audit().attrs["is_lawful"]
+        assert auction.audit().attrs["is_legal"]
 
 
 def filled(auction: RecordedAuction) -> RecordedAuction:
@@ -65,7 +65,7 @@ def test_a_saved_day_is_gone_on_with(tmp_path: Path) -> None:
                 assert each.delete(2, 3, check=True) == words.Deleted()
                 assert each.enter(3, Side.ASK, 7, 199) == words.Entered(4)
                 assert isinstance(each.uncross(), words.Uncrossed)
-            assert again.day() == auction.day() and again.audit().attrs["is_lawful"]
+            assert again.day() == auction.day() and again.audit().attrs["is_legal"]
             assert again.outcomes().equals(auction.outcomes())
             again.save(tmp_path / "day.csv")
             assert (tmp_path / "day.csv").read_bytes() == auction.day().content
@@ -195,7 +195,7 @@ def test_what_a_journal_cannot_say_is_refused_before_it_is_applied() -> None:
             auction.apply_many(many)
         assert auction.calls == 0
         assert auction.enter(1, Side.BID, MOST_NUMBER) == words.Refused(words.Refusal.BAD_QUANTITY)
-        assert auction.audit().attrs["is_lawful"]
+        assert auction.audit().attrs["is_legal"]
 
 
 def test_many_commands_are_kept_up_to_an_error() -> None:
@@ -226,7 +226,7 @@ def test_a_call_that_is_the_operators_is_not_recorded() -> None:
         auction.uncross()
         auction.uncross()
         audit = auction.audit()
-        assert audit.attrs["is_lawful"] and len(auction.journal()) == 5
+        assert audit.attrs["is_legal"] and len(auction.journal()) == 5
 
 
 def test_a_refused_command_is_kept_and_raised() -> None:
@@ -298,7 +298,7 @@ def test_threads_wait_for_one_another() -> None:
             thread.start()
         for thread in threads:
             thread.join()
-        assert auction.audit().attrs == dict(entries=800, compared=800, unlawful=0, is_lawful=True)
+        assert auction.audit().attrs == dict(entries=800, compared=800, unlawful=0, is_legal=True)
 
 
 def test_numbers_of_other_types_are_written_as_numbers() -> None:
@@ -353,7 +353,7 @@ def test_changed_replies_are_found_alike(
     status, text, _ = by_the_rules(day, "audit")
     assert day.audited() == text
     found = audit_of(day)
-    assert found.attrs["is_lawful"] == (status == 0)
+    assert found.attrs["is_legal"] == (status == 0)
     assert len(found) == found.attrs["unlawful"]
 
 

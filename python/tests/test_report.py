@@ -43,7 +43,7 @@ def test_the_audit_of_a_journal_comes_first() -> None:
     text = report.html_of(Day.read(CHANGED))
     assert sections(text)[:2] == ["Audit", "Result"]
     assert "<span>4 replies that aren&#x27;t lawful<" in text
-    assert "<strong>not lawful</strong>: of 8 entries 8 have a recorded reply, and 4 of" in text
+    assert "<strong>not legal</strong>: of 8 entries 8 have a recorded reply, and 4 of" in text
     assert "entered 66" in text
 
 

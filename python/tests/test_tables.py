@@ -87,7 +87,7 @@ def test_an_audit_tells_what_the_program_prints(file: Path) -> None:
     lines += [f"{name} {frame.attrs[name]}" for name in ("entries", "compared", "unlawful")]
     printed = file.with_suffix(".txt").read_text(encoding="utf-8").splitlines()
     assert lines == printed[:-1]
-    assert frame.attrs["is_lawful"] == (printed[-1] == "audit legal")
+    assert frame.attrs["is_legal"] == (printed[-1] == "audit legal")
 
 
 def test_a_recorded_text_may_look_like_a_finding(tmp_path: Path) -> None:

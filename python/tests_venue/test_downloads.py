@@ -187,7 +187,7 @@ def test_the_report(tmp_path: pathlib.Path) -> None:
     heads = re.findall(r"<h2[^>]*>([^<]+)</h2>", text)
     assert heads == ["Result", "Round 1 · Try it · practice", "Round 2"]
     assert "Opening: price 2.50 EUR, 10 shares" in text
-    assert text.count("The record of 3 entries is lawful.") == 2
+    assert text.count("The record of 3 entries is legal.") == 2
     assert text.count("Efficiency: 100 % of the greatest possible gain, 15.00 EUR") == 2
     assert text.count("<img ") == 2
     for cell in ("&#x27;=Anna", "Bert", "25.00", "7.50"):

@@ -38,9 +38,9 @@ TEXTS = {
         "result": "Result",
         "paid": "What members gained in all rounds and are paid, {}",
         "record": "The record of {} entries is {}.",
-        "lawful": "lawful",
-        "not_lawful": "not lawful",
-        "lawful_part": "lawful as far as it is whole",
+        "legal": "legal",
+        "not_legal": "not legal",
+        "legal_part": "legal as far as it is whole",
         "efficiency": "Efficiency: {} of the greatest possible gain, {}",
         "members": "Members: quantities in shares, money in {}",
         "trades": "Trades: quantities in shares, money in {}",
@@ -57,9 +57,9 @@ TEXTS = {
         "result": "Ergebnis",
         "paid": "Was Mitglieder in allen Runden gewannen und ausgezahlt bekommen, {}",
         "record": "Die Aufzeichnung von {} Einträgen ist {}.",
-        "lawful": "regelgemäß",
-        "not_lawful": "nicht regelgemäß",
-        "lawful_part": "regelgemäß, soweit sie ganz ist",
+        "legal": "regelgemäß",
+        "not_legal": "nicht regelgemäß",
+        "legal_part": "regelgemäß, soweit sie ganz ist",
         "efficiency": "Effizienz: {} des größten möglichen Gewinns, {}",
         "members": "Mitglieder: Mengen in Stück, Geld in {}",
         "trades": "Abschlüsse: Mengen in Stück, Geld in {}",
@@ -141,10 +141,10 @@ def board_part(asked: Json, board: Json) -> list[Part]:
 def audited(asked: Json, day: Day) -> str:
     """Whether all replies of a journal are lawful."""
     counts = audit_of(day).attrs
-    verdict = "lawful" if counts["is_lawful"] else "not_lawful"
-    if counts["is_lawful"] and counts.get("is_cut"):
-        verdict = "lawful_part"
-    look = "good" if counts["is_lawful"] else "bad"
+    verdict = "legal" if counts["is_legal"] else "not_legal"
+    if counts["is_legal"] and counts.get("is_cut"):
+        verdict = "legal_part"
+    look = "good" if counts["is_legal"] else "bad"
     words = said(asked, "record", f"{counts['entries']:,}", said(asked, verdict))
     return f'<p class="{look}">{words}</p>'
 
