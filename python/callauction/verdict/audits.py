@@ -25,7 +25,7 @@ from callauction.verdict.judging import Judge
 from callauction.verdict.mixed import (
     corrected, has_more, refuse_days, refuse_sums, with_late_results,
 )  # fmt: skip
-from callauction.verdict.otherwise import judged_day
+from callauction.verdict.otherwise import judged_beside_others
 from callauction.verdict.reading import Reading
 from callauction.verdict.reorderings import all_times
 from callauction.verdict.rows import BadRow, Doubt, Kind, Rows
@@ -75,18 +75,20 @@ def audit_events(
         second_range,
     )  # fmt: skip
     table = source if isinstance(source, Table) else read_table(source, reading)
-    return judge(table, reading, rules, watch)
+    return verdict_on_table(table, reading, rules, watch)
 
 
-def judge(table: Table, reading: Reading, rules: Rules, watch: Progress = iter) -> Verdict:
+def verdict_on_table(
+    table: Table, reading: Reading, rules: Rules, watch: Progress = iter
+) -> Verdict:
     """The verdict on a table. Raises ExtractError and ProgramError."""
     rows = rows_of(table, reading, rules.prices)
     rows.bad += short_rows(table, rows, reading)
     rows.notes.update(table.notes)
-    return judge_rows(rows, rules, watch)
+    return verdict_on_rows(rows, rules, watch)
 
 
-def judge_rows(rows: Rows, rules: Rules, watch: Progress = iter) -> Verdict:
+def verdict_on_rows(rows: Rows, rules: Rules, watch: Progress = iter) -> Verdict:
     """The verdict on the rows of a day. Raises ExtractError and ProgramError."""
     rows, rules = without_noise(with_results(rows), rules)
     whole = rows
@@ -99,7 +101,7 @@ def judge_rows(rows: Rows, rules: Rules, watch: Progress = iter) -> Verdict:
     other = with_late_results(rows, rules.due)
     if other is not None and Judge(rows, rules).judge().unlawful:
         rows = whole = other
-    found = judged_day(rows, rules, whole, watch)
+    found = judged_beside_others(rows, rules, whole, watch)
     early = Early(rows)
     found.notes.update(early.note())
     if found.unlawful:

@@ -9,7 +9,7 @@ import pandas
 
 from callauction.prices import argument
 from callauction.progress import Progress
-from callauction.verdict.audits import judge, rules_of
+from callauction.verdict.audits import rules_of, verdict_on_table
 from callauction.verdict.cells import Short
 from callauction.verdict.columns import EVENT_COLUMNS, ColumnError, ExtractError, refuse_unknown
 from callauction.verdict.events import orders_in_time, rows_of, said_in
@@ -167,7 +167,7 @@ def audit_auction(
     rules = rules_of(
         reference, tick_size, range, low, high, auctions, "open", second_reference, second_range
     )
-    return judge(table, read, rules)
+    return verdict_on_table(table, read, rules)
 
 
 def _held(rows: Rows, said: str | None) -> str:

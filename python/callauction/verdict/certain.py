@@ -103,7 +103,7 @@ class Certain:
                 return
             sides = [filled[rows.side[owners] == side] for side in (1, 2)]
         end = self.doubts.lost(place, traded, filled, volume)
-        excused = bool(self.doubts.of_missing(None) or rows.dropped or end)
+        excused = bool(self.doubts.why_missing(None) or rows.dropped or end)
         for those in sides:
             added = int(rows.quantity[those].sum())
             least = added - self.busts.most(those)

@@ -192,7 +192,7 @@ class Doubts:
         reasons = [it for it in found if it is not None]
         return next((it for it in reasons if not it.lacks_orders), next(iter(reasons), None))
 
-    def of_name(self, place: int) -> str:
+    def why_name(self, place: int) -> str:
         """Why an uncross may be another auction's than the due one, or late: that is no matter of
         books, but rows of results may be missing, do what isn't known, or have no place.
         """
@@ -248,7 +248,7 @@ class Doubts:
 
     # ---- items, trades and fills
 
-    def of_items(
+    def doubted_items(
         self, differences: list[Difference], result: Result, tick_size: Decimal | None
     ) -> list[Difference]:
         """The differences, that of a price which is a reference beside the ticks in doubt."""
@@ -263,7 +263,7 @@ class Doubts:
             for each in differences
         ]
 
-    def of_trades(
+    def doubted_trades(
         self, found: list[Difference], by_order: list[Difference], book: Book, auction: int,
         result: Result, traded: Ints, filled: Ints, place: int,
     ) -> list[Difference]:  # fmt: skip
@@ -276,7 +276,7 @@ class Doubts:
         why, strays = why or self.ties.of_shares(book, auction, result, *own), {*outside.tolist()}
         end = "" if why else self.lost(place, traded, filled, result.volume)
         of_orders = [
-            self.stray(it).doubt if _is_extra(it, strays) else self._of_trade(it, end)
+            self.stray(it).doubt if _is_extra(it, strays) else self._why_trade(it, end)
             for it in by_order if not why
         ]  # fmt: skip
         chosen = of_orders[0] if all(of_orders) and of_orders else ""
@@ -285,14 +285,14 @@ class Doubts:
             if why and not has_lawful_orders(it):
                 return why
             is_pairing = it.recorded is not None and not has_lawful_orders(it)
-            return self._of_naming(it) or self._of_trade(it, end) or chosen * is_pairing
+            return self._why_naming(it) or self._why_trade(it, end) or chosen * is_pairing
 
         return [
             self.stray(it) if _is_extra(it, strays)
             else dataclasses.replace(it, doubt=doubt_of(it)) for it in found
         ]  # fmt: skip
 
-    def _of_naming(self, each: Difference) -> str:
+    def _why_naming(self, each: Difference) -> str:
         """Why the members of a trade or fill that is lawful else may be right: placeholders."""
         one, other, rows = each.recorded, each.lawful, self.rows
         if not isinstance(one, Trade | Fill) or one != other:
@@ -391,7 +391,7 @@ class Doubts:
             return {}
         return {int(self.rows.key[row.place]): row.label for row in those}
 
-    def _of_lost(self, each: Difference) -> str:
+    def _why_lost(self, each: Difference) -> str:
         """Why a trade or a fill may be of an order that is known by another id."""
         one = each.recorded
         keys = keys_of(one) if isinstance(one, Trade | Fill) else ()
@@ -401,12 +401,12 @@ class Doubts:
         name = self.rows.names.order(lost)
         return f"row {self._lost[lost]} changes {name}, which none enters: is it another's new id?"
 
-    def _of_trade(self, each: Difference, end: str) -> str:
+    def _why_trade(self, each: Difference, end: str) -> str:
         """Why the difference of a trade or a fill isn't certain."""
-        if lost := self._of_lost(each):
+        if lost := self._why_lost(each):
             return lost
         if each.recorded is None or each.excess < 0:
-            found = self.of_missing(each.lawful) or end
+            found = self.why_missing(each.lawful) or end
             return found or self.busts.why(each) * (each.recorded is not None)
         return self.busts.why(each)
 
@@ -419,9 +419,9 @@ class Doubts:
         for hole in self.rows.holes:
             if hole.is_trade and above <= hole.since < later:
                 return f"a trade may be missing: {hole}"
-        return self.of_end(place, traded, filled, volume)
+        return self.why_end(place, traded, filled, volume)
 
-    def of_end(self, place: int, traded: Ints, filled: Ints, volume: int) -> str:
+    def why_end(self, place: int, traded: Ints, filled: Ints, volume: int) -> str:
         """Why trades or fills of an auction may be missing below the file's end: it ends with them,
         or with the uncross, no row of a later moment is below, and they don't add up to the volume.
         """
@@ -447,7 +447,7 @@ class Doubts:
         near = "" if end.label == own else f", less than a second {side} row {own}"
         return f"the file ends with row {end.label}{near}, and may be cut there"
 
-    def of_missing(self, lawful: object) -> str:
+    def why_missing(self, lawful: object) -> str:
         """Why a trade or a fill may be missing among the rows alone, and which is that."""
         unread = next((row for row in self.rows.bad if row.is_trade), None)
         if unread is not None:
@@ -457,7 +457,7 @@ class Doubts:
         if isinstance(lawful, Trade | Fill) and self.rows.dropped:
             if {*map(self.rows.names.order, keys_of(lawful))} & self.rows.dropped:
                 return "a trade of such an order doesn't meet --where"
-        return self._of_busted(lawful)
+        return self._why_busted(lawful)
 
     def _half(self, lawful: object) -> str:
         """Why a fill may be missing: a trade of its price has no row of its order's side."""
@@ -471,7 +471,7 @@ class Doubts:
             return ""
         return f"the trade of row {rows.labels[halves[0]]} has no row of its other side"
 
-    def _of_busted(self, lawful: object) -> str:
+    def _why_busted(self, lawful: object) -> str:
         """Why a trade or a fill may be missing: a bust takes such a one out, which may have no row
         itself.
         """

@@ -79,7 +79,7 @@ class Executions:
             found = self._fills(filled, result, allowed)
         found = [*made.differences, *found]
         if found:
-            found = self.doubts.of_trades(
+            found = self.doubts.doubted_trades(
                 found, made.by_order, book, moment.auction, result, traded, filled, place
             )
             found = self._without_outside(found, moment, result, allowed)

@@ -14,7 +14,7 @@ from callauction.prices import number_of
 from callauction.program import ProgramError
 from callauction.progress import Progress
 from callauction.verdict import time_columns
-from callauction.verdict.audits import before, judge_rows, rules_of, short_rows
+from callauction.verdict.audits import before, rules_of, short_rows, verdict_on_rows
 from callauction.verdict.cells import Codes, Ints, Mask, Source
 from callauction.verdict.column_words import Columns
 from callauction.verdict.columns import (
@@ -294,7 +294,7 @@ class Market:
             gaps = gaps_of(rows.number, *([] if own is None else [own]))
             rows.notes.update(remark_of(gaps))
         find_holes(rows, gaps)
-        return judge_rows(rows, rules)
+        return verdict_on_rows(rows, rules)
 
     def _rules(self, number: int) -> Rules | str:
         return self.rules.get(self.names[number], "it isn't among the days")

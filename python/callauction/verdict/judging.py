@@ -68,13 +68,13 @@ class Judge:
 
     def judge(self, watch: Progress = iter) -> Judgement:
         """All uncrosses of the day, which `watch` is given. Raises ProgramError."""
-        found = self._judged_day(watch)
+        found = self._on_best_path(watch)
         ended = sum(each.is_ended or bool(each.beyond) for each in found.uncrosses)
         if found.unlawful and ended < len(self.due) and self.doubts.doubt_all_unnamed():
-            found = self._judged_day()
+            found = self._on_best_path()
         return found
 
-    def _judged_day(self, watch: Progress = iter) -> Judgement:
+    def _on_best_path(self, watch: Progress = iter) -> Judgement:
         paths = self._begun()
         for number, place in enumerate(watch(self.uncrosses.tolist())):
             paths = self._longer(number, place, paths, Search.MOMENTS)
@@ -129,7 +129,7 @@ class Judge:
         if ended >= len(self.due):
             word = STATES[max(0, self.rows.state[place])] or "uncross"
             late = Difference("auction", word, "day over", (place,))
-            found = doubted([late], self.uncross_doubts.of_auction(path, place))
+            found = doubted([late], self.uncross_doubts.why_auction(path, place))
             yield path.longer(Judged(place, Cell.MISSING, found, traded=traded, filled=filled))
             return
         these = self.orders[path.taken : int(numpy.searchsorted(self.orders, place))]
@@ -182,7 +182,7 @@ class Judge:
         book = state.book.take(~numpy.isin(state.book.only, [it for it in over if it > 0]))
         state = dataclasses.replace(state, book=book, ended=ended, is_extended=False)
         path = dataclasses.replace(moment.path, state=state)
-        skipped = doubted([skip], self.uncross_doubts.of_auction(moment.path, moment.place))
+        skipped = doubted([skip], self.uncross_doubts.why_auction(moment.path, moment.place))
         moved = dataclasses.replace(moment, path=path, auction=self.due[ended])
         for longer in self._variants(moved):
             yield longer.with_last(differences=(*skipped, *longer.judged[-1].differences))
@@ -250,7 +250,7 @@ class Judge:
             self.uncross_doubts.doubt_stop(items)
         is_wrong = items.get("price") is not None
         found, pairs = self.executions.compared(moment, taken.book, result, is_wrong)
-        found = self.uncross_doubts.of_stopped(place, found)
+        found = self.uncross_doubts.doubted_stop(place, found)
         strays = self.doubts.strays_in(found)
         trades = len(moment.traded) - len(strays)
         self.uncross_doubts.doubt_count(place, items, found, result, trades)
@@ -266,10 +266,10 @@ class Judge:
     ) -> Judged:
         """The uncross with its differences and their doubts."""
         of_items = [each for each in items.values() if each is not None]
-        of_items = self.doubts.of_items(of_items, result, self.rules.tick_size)
+        of_items = self.doubts.doubted_items(of_items, result, self.rules.tick_size)
         differences = (*of_items, *found, *self._priorities(taken))
         if differences:
-            differences = self.uncross_doubts.of_books(differences, items, moment, taken)
+            differences = self.uncross_doubts.doubted_books(differences, items, moment, taken)
         if any(each.doubt for each in differences):
             certain = self.contradictions.of(
                 moment.place, moment.auction, moment.traded, moment.filled

@@ -25,7 +25,9 @@ MOST_READINGS = 64
 """How many readings are tried."""
 
 
-def judged_day(rows: Rows, rules: Rules, whole: Rows, watch: Progress = iter) -> Judgement:
+def judged_beside_others(
+    rows: Rows, rules: Rules, whole: Rows, watch: Progress = iter
+) -> Judgement:
     """The judgement of a day; `whole` has the results that others correct too. What differs is in
     doubt where another reading, or several together, haven't it and bring no other certain
     difference; so is a lawful day whose rows are in another order than their times. What is certain

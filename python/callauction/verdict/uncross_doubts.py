@@ -43,7 +43,7 @@ class UncrossDoubts:
         reason = self.doubts.above(place, path.refused)
         return path.doubt or ("" if reason is None or reason.lacks_orders else reason.text)
 
-    def of_books(
+    def doubted_books(
         self, differences: tuple[Difference, ...], items: Items, moment: Moment, taken: Taken
     ) -> tuple[Difference, ...]:
         """The differences of an uncross in doubt where its book is."""
@@ -107,25 +107,25 @@ class UncrossDoubts:
 
     # ---- the name of an auction
 
-    def of_auction(self, path: Path, place: int) -> str:
+    def why_auction(self, path: Path, place: int) -> str:
         """Why it is in doubt of which auction an uncross behind a path is."""
-        return self._of_name(path.judged, place, self.why(path, place))
+        return self._why_name(path.judged, place, self.why(path, place))
 
-    def _of_name(self, above: tuple[Judged, ...], place: int, why: str) -> str:
+    def _why_name(self, above: tuple[Judged, ...], place: int, why: str) -> str:
         """Why the name of an auction is in doubt, of which books decide nothing where all above it
         have theirs: else one above may be interrupted by a book.
         """
         names = [it for each in above for it in each.differences if it.item == "auction"]
-        of_books = why or next(filter(None, (it.doubt for it in names)), "")
-        return self.doubts.of_name(place) or (of_books if names else "")
+        why_books = why or next(filter(None, (it.doubt for it in names)), "")
+        return self.doubts.why_name(place) or (why_books if names else "")
 
     def _doubted(
         self, differences: tuple[Difference, ...], why: str, place: int, above: tuple[Judged, ...]
     ) -> tuple[Difference, ...]:
         """These differences in doubt; the name of an auction for a reason of its own alone."""
-        of_name = self._of_name(above, place, why)
+        why_name = self._why_name(above, place, why)
         both = ((it, {it.recorded, it.lawful} <= {*AUCTIONS}) for it in differences)
-        return tuple(doubted([it], of_name if is_name else why)[0] for it, is_name in both)
+        return tuple(doubted([it], why_name if is_name else why)[0] for it, is_name in both)
 
     # ---- interruptions and counts
 
@@ -142,7 +142,7 @@ class UncrossDoubts:
         if wrong is not None:
             items["auction"] = dataclasses.replace(wrong, doubt=why)
 
-    def of_stopped(self, place: int, found: list[Difference]) -> list[Difference]:
+    def doubted_stop(self, place: int, found: list[Difference]) -> list[Difference]:
         """The trades and fills of an uncross that is recorded as interrupted, which are in doubt
         without a range.
         """
