@@ -24,8 +24,8 @@ MOST_POINTS = 600
 TICK = 0.1
 """Seconds between two looks at the clock."""
 GRACE_SECONDS = 30
-"""How long a call goes on at least, after which it is uncrossed by itself, once nobody could change
-an order; a shorter one as long as it is.
+"""How long a call phase goes on at least, after which it is uncrossed by itself, once nobody could
+change an order; a shorter one as long as it is.
 """
 
 
@@ -58,9 +58,9 @@ class Point:
 
 
 class Auctions:
-    """The phase of the auction that goes on, the course of its call, and what came of those before.
-    `on_change` is called with each change of the phase, and `on_late` where a call had ended before
-    its members could do anything.
+    """The phase of the auction that goes on, the course of its call phase, and what came of those
+    before. `on_change` is called with each change, and `on_late` where a call phase had ended
+    before its members could do anything.
     """
 
     def __init__(self, plan: config.Plan, engine: Engine, book: Book) -> None:
@@ -106,7 +106,9 @@ class Auctions:
         self.uncrossed(entry)
 
     def set_back(self, seconds: float) -> None:
-        """The clock was set back before an earlier run, or this one: a call goes on as it was."""
+        """The clock was set back before an earlier run, or this one: a call phase goes on as it
+        was.
+        """
         self.state = self.state.set_back(seconds)
         self.began = None if self.began is None else self.began - seconds
         self.course = [dataclasses.replace(it, time=it.time - seconds) for it in self.course]
@@ -128,7 +130,7 @@ class Auctions:
     # ---- the operator
 
     def start_call(self) -> None:
-        """Begins a call. Raises PhaseError."""
+        """Begins a call phase. Raises PhaseError."""
         if not self._book.is_known:
             raise PhaseError("the last uncross isn't seen yet")
         now = clock.now()
@@ -137,18 +139,18 @@ class Auctions:
         self._enter(started)
 
     def join_call(self, other: State) -> None:
-        """Begins a call that ends as this one of another group. Raises MessageError."""
+        """Begins a call phase that ends as this one of another group. Raises MessageError."""
         self._engine.check_known()
         self.began, self.course, self.has_begun = clock.now(), [], True
         self._enter(dataclasses.replace(other, phase=Phase.CALL, auction=self.state.auction))
 
     def end_call(self) -> None:
-        """Ends the call. Raises PhaseError."""
+        """Ends the call phase. Raises PhaseError."""
         self._check_free()
         self._enter(self.state.ended())
 
     def extend(self, seconds: int) -> None:
-        """The call ends later. Raises PhaseError."""
+        """The call phase ends later. Raises PhaseError."""
         self._check_free()
         self._enter(self.state.extended_by(clock.now(), seconds))
 
@@ -162,7 +164,9 @@ class Auctions:
         self._enter(self.state.thawed(clock.now()))
 
     async def uncross(self) -> str:
-        """Ends the call and uncrosses: the program's reply. Raises PhaseError and MessageError."""
+        """Ends the call phase and uncrosses: the program's reply. Raises PhaseError and
+        MessageError.
+        """
         if self._engine.halted is not None:
             raise self._engine.refusal
         self._check_free()
@@ -214,7 +218,7 @@ class Auctions:
             self.on_late()
 
     async def run(self) -> None:
-        """Ends calls when they are due, and uncrosses them where the plan says so."""
+        """Ends call phases when they are due, and uncrosses them where the plan says so."""
         while True:
             await asyncio.sleep(TICK)
             with going_on(f"{self._engine.name}: the clock of its calls"):
@@ -252,15 +256,15 @@ class Auctions:
 
     @property
     def grace(self) -> int:
-        """How many seconds a call goes on at least, once nobody could change an order."""
+        """How many seconds a call phase goes on at least, once nobody could change an order."""
         is_extended = self.state.phase is Phase.EXTENDED
         length = self.plan.extension if is_extended else self.plan.call
         return min(GRACE_SECONDS, length or GRACE_SECONDS)
 
     @property
     def _stands_still(self) -> bool:
-        """Whether its clock does nothing now: it has halted, or the venue has, where a call would
-        be uncrossed by itself.
+        """Whether its clock does nothing now: it has halted, or the venue has, where a call phase
+        would be uncrossed by itself.
         """
         has_halted = self._engine.halted is not None
         return has_halted or (self.plan.is_automatic and self.has_venue_halted())

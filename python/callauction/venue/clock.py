@@ -1,5 +1,6 @@
-"""The clock by which calls begin and end: the time of the epoch as it was when this process began,
-and how long it has run, asleep too. So a call keeps its length where the machine's clock is set.
+"""The clock by which call phases begin and end: the time of the epoch as it was when this process
+began, and how long it has run, asleep too. So a call phase keeps its length where the machine's
+clock is set.
 """
 import contextlib
 import pathlib

@@ -115,8 +115,8 @@ class InstrumentTerms:
 
 @dataclasses.dataclass(frozen=True)
 class Plan:
-    """The lengths of phases in seconds. A call of 0 ends when the operator ends it; a random end
-    adds up to that many seconds; where `is_automatic` an uncross follows the end of its call.
+    """The lengths of phases in seconds. A call phase of 0 ends when the operator ends it; a random
+    end adds up to that many seconds; where `is_automatic` an uncross follows the end of each.
     """
 
     call: int = 180

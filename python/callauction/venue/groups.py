@@ -27,7 +27,8 @@ class Groups:
 
     async def place(self, newcomers: list[Member]) -> None:
         """Puts new members into the smallest groups that have room; opens one more where none has,
-        and before the first call of a round deals all members again then. Says who has few others.
+        and before the first call phase of a round deals all members again then. Says who has
+        few others.
         """
         async with self._changing:
             before = self._rounds.now.groups
@@ -135,7 +136,8 @@ class Groups:
             self._join_call(board)
 
     def _join_call(self, board: InstrumentBoard) -> None:
-        """A new board has the call that goes on in the other groups of its market, until its end.
+        """A new board has the call phase that goes on in the other groups of its market, until its
+        end.
         """
         others = self._rounds.now.of_instrument(board.identity.instrument)
         states = [it.auctions.state for it in others if it is not board]

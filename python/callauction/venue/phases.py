@@ -14,8 +14,8 @@ UNCROSSED = re.compile(r"(opening|intraday|closing) (?:price|no price)")
 
 
 class Phase(enum.StrEnum):
-    """What goes on: no call yet, a call, an extended call after an interruption, a call that has
-    ended and isn't uncrossed, the end of the day.
+    """What goes on: no call phase yet, a call phase, an extended one after an interruption, one
+    that has ended and isn't uncrossed, the end of the day.
     """
 
     WAITING = "waiting"
@@ -48,17 +48,17 @@ class State:
         return self.phase in (Phase.CALL, Phase.EXTENDED) and self.frozen is None
 
     def is_due(self, now: float) -> bool:
-        """Whether the call has come to its end by the clock."""
+        """Whether the call phase has come to its end by the clock."""
         return self.takes_orders() and self.real is not None and now >= self.real
 
     def started(self, now: float, plan: Plan, drawn: float) -> Self:
-        """A call, with an end that is drawn by a number from 0 to 1. Raises PhaseError."""
+        """A call phase, with an end that is drawn by a number from 0 to 1. Raises PhaseError."""
         if self.phase is not Phase.WAITING:
             raise PhaseError(f"no call can start in the phase {self.phase}")
         return self._with_end(Phase.CALL, now, plan.call, plan.random_end, drawn)
 
     def ended(self) -> Self:
-        """The end of the call. Raises PhaseError."""
+        """The end of the call phase. Raises PhaseError."""
         if self.phase not in (Phase.CALL, Phase.EXTENDED):
             raise PhaseError(f"no call can end in the phase {self.phase}")
         return dataclasses.replace(
@@ -66,7 +66,7 @@ class State:
         )
 
     def extended_by(self, now: float, seconds: int) -> Self:
-        """A call that ends later, or goes on. Raises PhaseError."""
+        """A call phase that ends later, or goes on. Raises PhaseError."""
         if self.phase is Phase.ENDED:
             return self._with_end(Phase.EXTENDED, now, seconds, 0, 0.0)
         if self.phase not in (Phase.CALL, Phase.EXTENDED):
@@ -74,20 +74,22 @@ class State:
         return self._later(seconds)
 
     def held(self, now: float) -> Self:
-        """A call in which no order is taken for a while. Raises PhaseError."""
+        """A call phase in which no order is taken for a while. Raises PhaseError."""
         if not self.takes_orders():
             raise PhaseError(f"nothing can be frozen in the phase {self.phase}")
         return dataclasses.replace(self, frozen=now)
 
     def thawed(self, now: float) -> Self:
-        """A call that goes on after a freeze, as much later as it lasted. Raises PhaseError."""
+        """A call phase that goes on after a freeze, as much later as that lasted. Raises
+        PhaseError.
+        """
         if self.frozen is None:
             raise PhaseError("nothing is frozen")
         later = max(0.0, now - self.frozen)
         return dataclasses.replace(self, frozen=None)._later(later)
 
     def goes_on(self, now: float, seconds: int) -> Self:
-        """A call whose end has passed, and that goes on for as many seconds, at least one."""
+        """A call phase whose end has passed, and that goes on for as many seconds, at least one."""
         return self._with_end(self.phase, now, seconds, 0, 0.0)
 
     def set_back(self, seconds: float) -> Self:
@@ -109,14 +111,14 @@ class State:
         return in_auction and self.frozen is None
 
     def timed(self, now: float, seconds: int) -> Self:
-        """An extended call without an end yet, which is given one."""
+        """An extended call phase without an end yet, which is given one."""
         if self.phase is not Phase.EXTENDED or self.ends is not None:
             return self
         return self._with_end(Phase.EXTENDED, now, seconds, 0, 0.0)
 
     def replied(self, reply: str) -> Self:
         """The state after the program's reply to an uncross: an interruption goes on as an
-        extended call without an end yet, a refusal changes nothing.
+        extended call phase without an end yet, a refusal changes nothing.
         """
         if reply.startswith("interrupted"):
             return type(self)(Phase.EXTENDED, self.auction)
@@ -129,7 +131,7 @@ class State:
     def _with_end(
         self, phase: Phase, now: float, seconds: int, random_end: int, drawn: float
     ) -> Self:
-        """A call of `seconds` seconds, and at most `random_end` more."""
+        """A call phase of `seconds` seconds, and at most `random_end` more."""
         if not seconds:
             return type(self)(phase, self.auction)
         ends = now + seconds

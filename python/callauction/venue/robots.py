@@ -1,5 +1,5 @@
-"""Robots that fill in for members: each enters one order a call, for what is left of its value, at
-a time by chance from when it has one.
+"""Robots that fill in for members: each enters one order a call phase, for what is left of its
+value, at a time by chance from when it has one.
 """
 import asyncio
 from collections.abc import Callable, Iterator
@@ -22,7 +22,9 @@ price within a quarter of the reference, and the others do nothing.
 """
 TURN_SECONDS = 0.2
 ENTRY_SECONDS = 10.0
-"""Seconds after the begin of a call until all robots have entered, and at most this share of it."""
+"""Seconds after the begin of a call phase until all robots have entered, and at most this share of
+it.
+"""
 MOST_SHARE = 0.7
 MOST_ROBOTS = 200
 QUANTITIES = range(10, 101, 10)

@@ -1,4 +1,4 @@
-"""What is shown of the round of a venue, and to the operator of others and of late calls."""
+"""What is shown of the round of a venue, and to the operator of others and of late call phases."""
 from callauction.venue import config, shown
 from callauction.venue.json_types import Json
 from callauction.venue.rounds import Rounds
@@ -20,7 +20,9 @@ class Standing:
             self.offer(watcher)
 
     def show_to_operator(self) -> None:
-        """Shows the operator which round it is, and what is said of others and of late calls."""
+        """Shows the operator which round it is, and what is said of others and of late call
+        phases.
+        """
         for watcher in self._watchers:
             if watcher.role == "operator":
                 self.offer(watcher)

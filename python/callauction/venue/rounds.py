@@ -38,7 +38,7 @@ class Round:
 
     @property
     def has_begun(self) -> bool:
-        """Whether a call was started."""
+        """Whether a call phase was started."""
         return any(it.auctions.has_begun for it in self.boards.values())
 
     @property
@@ -142,8 +142,8 @@ class Rounds:
         self._log.note(kind="round", round=round_.number, groups=round_.groups, treatment=kept)
 
     def treat(self, treatment: Treatment) -> None:
-        """Makes this round another one, with the same reference. Raises PhaseError once a call was
-        started.
+        """Makes this round another one, with the same reference. Raises PhaseError once a call
+        phase was started.
         """
         if self.now.has_begun:
             raise PhaseError("the round has begun")

@@ -12,7 +12,9 @@ SHOWN = ("indication", "all")
 
 
 class Screen:
-    """The screen of a venue, by what it `shows` of a call; `urls` are where members join."""
+    """The screen of a venue, by what it `shows` of a call phase; `urls` are where members
+    join.
+    """
 
     def __init__(self, members: Members, rounds: Rounds) -> None:
         self._members, self._rounds = members, rounds

@@ -1,5 +1,5 @@
 """The time of a venue: by how much the machine's clock was set, before its start and since, and
-which calls ended while those who take part were away.
+which call phases ended while those who take part were away.
 """
 import math
 from collections.abc import Iterable
@@ -23,13 +23,13 @@ ENDED_BY_CLOCK = (
 )
 ENDED_SINCE = "the log's last line is {} s old, and the call of {} has ended since"
 ENDED_WHILE_HALTED = "the call of {} has ended while it had halted"
-"""What is said of a call whose end has passed before those who were away could do anything: at a
-start, where the machine was off in between and its clock may be wrong, and where it has run on; and
-at a board that goes on later.
+"""What is said of a call phase whose end has passed before those who were away could do anything:
+at a start, where the machine was off in between and its clock may be wrong, and where it has run
+on; and at a board that goes on later.
 """
 WHAT_COMES = "`extend` lets it go on", "it goes on for {} s, then it is uncrossed"
-"""What comes of such a call: of one that the operator uncrosses, and of one that is uncrossed by
-itself.
+"""What comes of such a call phase: of one that the operator uncrosses, and of one that is uncrossed
+by itself.
 """
 
 
@@ -44,8 +44,8 @@ class Timekeeper:
         self._is_same_boot = self.has_opened = False
 
     def learn(self, lines: list[Line]) -> Line:
-        """Where the clock is behind the log's last line it was set back: each call has left what
-        it had then. Where it was set otherwise since the last start, which is known while the
+        """Where the clock is behind the log's last line it was set back: each call phase has left
+        what it had then. Where it was set otherwise since the last start, which is known while the
         machine runs, each has left what it would have. The log says so, and `lines` from now on.
         The log's line of this start, which is to be written where the clock wasn't set. Raises
         LogError.
@@ -63,8 +63,8 @@ class Timekeeper:
         return line
 
     def say_late(self, board: InstrumentBoard) -> tuple[str, str]:
-        """Says of a call of this round that its end has passed before those who were away could do
-        anything, and what comes of it: both.
+        """Says of a call phase of this round that its end has passed before those who were away
+        could do anything, and what comes of it: both.
         """
         name, ahead = board.identity.name, round(clock.now() - self._last, 1)
         why = (ENDED_SINCE if self._is_same_boot else ENDED_BY_CLOCK).format(ahead, name)
@@ -84,8 +84,8 @@ class Timekeeper:
             self._log.note(kind="clock_set", ahead=ahead)
 
     def note(self, boards: Iterable[InstrumentBoard]) -> None:
-        """Writes the time while a call has an end: what is left of it is known from then, where the
-        machine's clock is set back before the next start.
+        """Writes the time while a call phase has an end: what is left of it is known from then,
+        where the machine's clock is set back before the next start.
         """
         if not self._log.waiting and any(it.auctions.state.ends for it in boards):
             self._log.note(kind="time")

@@ -37,8 +37,8 @@ class Limits:
 @dataclasses.dataclass(frozen=True)
 class Treatment:
     """A round: its title; whether it counts; whether members see the book; how values are handed
-    out; another first reference price, and a message to all; another length of a call; what is
-    refused (Limits). Prices and money are decimal texts, empty for none.
+    out; another first reference price, and a message to all; another length of a call phase;
+    what is refused (Limits). Prices and money are decimal texts, empty for none.
     """
 
     title: str = ""
