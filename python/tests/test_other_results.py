@@ -94,7 +94,15 @@ OF_MEMBER = ["new order=A member=Adler side=bid price=10.00 quantity=5",
              "trade price=10.00 quantity=4 auction=closing bid=C ask=D"]  # fmt: skip
 
 
+TRADES = [A.replace("1000", "600"), B, OPENING.replace("bid", "none").replace("400", "0"),
+          FIRST.replace("600", "6"), "new order=C side=bid price=10.00 quantity=500",
+          "new order=D side=ask price=10.00 quantity=500",
+          "uncross side=none price=10.00 quantity=500 surplus=0 auction=closing",
+          "trade price=10.00 quantity=5 auction=closing bid=C ask=D"]  # fmt: skip
+
+
 @pytest.mark.parametrize("rows, said, right, wrong", [
+    (TRADES, "quantities of trades in lots of 100", "10.00,6,", "10.00,7,"),
     (FROM_NOW_ON, "quantities of rows from 6 on in lots of 100", ",1,5,", ",1,4,"),
     (REPLACES, "quantities of replaces in lots of 100", ",600,600,", ",601,600,"),
     (BIDS, "quantities of bids in lots of 100", ",200,100,", ",200,99,"),

@@ -48,8 +48,8 @@ def lot_of(found: Judgement) -> tuple[int, set[str]]:
     many times what is lawful, or as small a part of it, and most are; and which items these are of.
     0 for none.
     """
-    certain = (it for each in found.uncrosses for it in each.certain)
-    both = ((it.item, _size(it.recorded), _size(it.lawful)) for it in certain)
+    differing = (it for each in found.uncrosses for it in each.differences)
+    both = ((it.item, _size(it.recorded), _size(it.lawful)) for it in differing)
     ratios = [(item, Fraction(max(it), min(it))) for item, *it in both if min(it) > 0]
     if not ratios:
         return 0, set()
