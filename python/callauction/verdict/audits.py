@@ -9,17 +9,14 @@ from typing import BinaryIO
 import numpy
 import pandas
 
-from callauction.prices import argument, tick_size_of
 from callauction.program import Day
 from callauction.progress import Progress
 from callauction.verdict import restricted
 from callauction.verdict.coverage import Coverage
 from callauction.verdict.early_rows import Early, doubt_times
-from callauction.verdict.events import read_zeros, refuse_limits, rows_of
+from callauction.verdict.events import rows_of
 from callauction.verdict.extract import read_table
-from callauction.verdict.findings import (
-    INCOMPLETE, LAWFUL, STATUSES, UNLAWFUL, Verdict, verdict_of,
-)  # fmt: skip
+from callauction.verdict.findings import INCOMPLETE, LAWFUL, STATUSES, UNLAWFUL, Verdict, verdict_of
 from callauction.verdict.joining import with_results
 from callauction.verdict.judging import Judge
 from callauction.verdict.mixed import (
@@ -29,9 +26,10 @@ from callauction.verdict.otherwise import judged_beside_others
 from callauction.verdict.reading import Reading
 from callauction.verdict.reorderings import all_times
 from callauction.verdict.rows import BadRow, Doubt, Kind, Rows
-from callauction.verdict.rules import Rules, range_of
+from callauction.verdict.rules import Rules, SaidTerms
 from callauction.verdict.table import Table
 from callauction.verdict.units import without_noise
+from callauction.verdict.unread_rows import read_zeros, refuse_limits
 from callauction.words import AUCTIONS
 
 UNRESTRICTED = "orders of which no column restriction says whether they are for one auction alone"
@@ -70,10 +68,10 @@ def audit_events(
     judged. `watch` is given the uncrosses, such as tqdm.tqdm. Raises ColumnError and ExtractError
     for a table of another form, ValueError for the other arguments, OSError, and ProgramError.
     """
-    rules = rules_of(
-        reference, tick_size, range, low, high, auctions, reading.quantity, second_reference,
-        second_range,
-    )  # fmt: skip
+    said = SaidTerms(
+        reference, tick_size, range, low, high, auctions, second_reference, second_range
+    )
+    rules = said.rules(reading.quantity)
     table = source if isinstance(source, Table) else read_table(source, reading)
     return verdict_on_table(table, reading, rules, watch)
 
@@ -140,32 +138,6 @@ def before(line: object, rows: Rows, reading: Reading) -> int:
     if reading.sort or not isinstance(line, int) or rows.labels.dtype.kind != "i":
         return -1
     return int(numpy.searchsorted(rows.labels, line)) - 1
-
-
-def rules_of(
-    reference: object, tick_size: object, range: object, low: object, high: object,
-    auctions: Sequence[str], quantity: str = "", second_reference: object = None,
-    second_range: object = None,
-) -> Rules:  # fmt: skip
-    """The rules of a day from the arguments of an audit. Raises ValueError."""
-    strange = [name for name in auctions if name not in AUCTIONS]
-    if strange or not auctions:
-        raise ValueError(f"auctions {', '.join(auctions)!r} must be of {', '.join(AUCTIONS)}")
-    given = {"low": low, "high": high, "second_reference": second_reference}
-    numbers = {name: None if it is None else argument(name, it) for name, it in given.items()}
-    first, (bottom, top, second) = argument("reference", reference), numbers.values()
-    if bottom is not None and first < bottom:
-        raise ValueError(f"reference {first} is below low {bottom}")
-    if top is not None and first > top:
-        raise ValueError(f"reference {first} is above high {top}")
-    spans = range_of("range", range), range_of("second_range", second_range)
-    if (second is None) != (spans[1] is None):
-        raise ValueError("second_reference and second_range: one needs the other")
-    size = None if tick_size is None else tick_size_of(tick_size)
-    return Rules(
-        first, size, spans[0], bottom, top, tuple(auctions), quantity == "total", not quantity,
-        spans[1], second,
-    )  # fmt: skip
 
 
 # ---- journals

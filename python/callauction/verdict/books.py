@@ -9,7 +9,7 @@ import pandas
 
 from callauction.prices import argument
 from callauction.progress import Progress
-from callauction.verdict.audits import rules_of, verdict_on_table
+from callauction.verdict.audits import verdict_on_table
 from callauction.verdict.cells import Short
 from callauction.verdict.columns import EVENT_COLUMNS, ColumnError, ExtractError, refuse_unknown
 from callauction.verdict.events import orders_in_time, rows_of, said_in
@@ -19,7 +19,7 @@ from callauction.verdict.findings import Verdict
 from callauction.verdict.instruments import TERMS, Audited, Market, days_of, market_of, terms_of
 from callauction.verdict.reading import Reading
 from callauction.verdict.rows import Kind, Rows
-from callauction.verdict.rules import Rules
+from callauction.verdict.rules import Rules, SaidTerms
 from callauction.verdict.table import Table
 from callauction.words import AUCTIONS
 
@@ -32,7 +32,8 @@ def verdicts_on_books(
     reading = dataclasses.replace(reading, format="csv", sort=False)
     terms = {name: vars(asked)[name] for name in TERMS}
     if asked.by is None:
-        codes, rules = numpy.zeros(len(table.source), "i4"), rules_of(**terms_of(terms, reading))
+        codes = numpy.zeros(len(table.source), "i4")
+        rules = SaidTerms(**terms_of(terms, reading)).rules()
         market = Market(table, reading, "", codes, ("",), {"": rules})
     else:
         days = days_of(asked.days, asked.by)
@@ -91,13 +92,13 @@ def _with_events(frame: pandas.DataFrame, reading: Reading, event: str) -> panda
 
 def _rules(market: Market, is_named: bool) -> dict[str, Rules | str]:
     """What each auction, which its result names or else is said, was opened with, or its fault."""
-    kinds, states, only = said_in(market.table, market.reading)
+    kinds, auctions, restrictions = said_in(market.table, market.reading)
     found: dict[str, Rules | str] = {}
     uncrosses = numpy.flatnonzero((kinds == Kind.UNCROSS) & (market.codes >= 0))
     named: dict[str, list[int]] = {}
     for place in uncrosses.tolist():
-        named.setdefault(market.names[market.codes[place]], []).append(int(states[place]))
-    owners = numpy.unique(market.codes[(only > 0) & (market.codes >= 0)])
+        named.setdefault(market.names[market.codes[place]], []).append(int(auctions[place]))
+    owners = numpy.unique(market.codes[(restrictions > 0) & (market.codes >= 0)])
     restricted = {market.names[code] for code in owners.tolist()}
     for name, rules in market.rules.items():
         if isinstance(rules, str) or name not in market.names:
@@ -163,30 +164,31 @@ def audit_auction(
     table = table.take(numpy.concatenate(orders_in_time(table, read)))
     table = dataclasses.replace(table, is_whole=False)
     rows = rows_of(table, read, [argument("reference", reference)])
-    auctions = (_held(rows, auction),)
-    rules = rules_of(
-        reference, tick_size, range, low, high, auctions, "open", second_reference, second_range
-    )
-    return verdict_on_table(table, read, rules)
+    said = SaidTerms(
+        reference, tick_size, range, low, high, (_held(rows, auction),), second_reference,
+        second_range,
+    )  # fmt: skip
+    return verdict_on_table(table, read, said.rules("open"))
 
 
 def _held(rows: Rows, said: str | None) -> str:
     """Which auction the rows are of. Raises ValueError."""
-    states, only = rows.state[rows.of(Kind.UNCROSS)].tolist(), rows.only[rows.of(Kind.NEW)]
-    if len(states) != 1:
-        raise ValueError(f"published has {len(states)} uncrosses, and not one")
-    return auction_of(states, said, bool((only > 0).any()))
+    named = rows.auction[rows.of(Kind.UNCROSS)].tolist()
+    if len(named) != 1:
+        raise ValueError(f"published has {len(named)} uncrosses, and not one")
+    is_restricted = bool((rows.restriction[rows.of(Kind.NEW)] > 0).any())
+    return auction_of(named, said, is_restricted)
 
 
-def auction_of(states: list[int], said: str | None, is_restricted: bool) -> str:
+def auction_of(named: list[int], said: str | None, is_restricted: bool) -> str:
     """The auction that is said or that the one result names; else any, where no order is for one
     alone, as it decides nothing. Raises ValueError.
     """
-    if len(states) != 1:
-        how = "" if states else ": --published FILE says what was published of it"
-        raise ValueError(f"it has {len(states)} rows uncross, and not one{how}")
-    if said is not None or 0 < states[0] <= len(AUCTIONS):
-        return said or AUCTIONS[states[0] - 1]
+    if len(named) != 1:
+        how = "" if named else ": --published FILE says what was published of it"
+        raise ValueError(f"it has {len(named)} rows uncross, and not one{how}")
+    if said is not None or 0 < named[0] <= len(AUCTIONS):
+        return said or AUCTIONS[named[0] - 1]
     if is_restricted:
         raise ValueError(NOT_NAMED)
     return AUCTIONS[0]

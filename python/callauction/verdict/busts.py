@@ -7,7 +7,7 @@ from collections.abc import Iterable, Sequence
 import numpy
 
 from callauction.verdict.cells import Ints, Mask
-from callauction.verdict.comparing import Difference, Fill, Trade, keys_of
+from callauction.verdict.comparing import Difference, KeyedFill, KeyedTrade, keys_of
 from callauction.verdict.rows import BadRow, Cell, Doubt, Kind, Rows
 
 UNREAD = "a row that isn't read may take it out: {}"
@@ -128,6 +128,6 @@ class Busts:
 def _is_its_own(each: Difference) -> bool:
     """Whether a bust may leave nothing but a trade of its own orders missing."""
     one, other = each.recorded, each.lawful
-    if isinstance(one, Trade | Fill) and isinstance(other, Trade | Fill):
+    if isinstance(one, KeyedTrade | KeyedFill) and isinstance(other, KeyedTrade | KeyedFill):
         return each.excess > 0 or keys_of(one) == keys_of(other)
     return each.excess > 0 or isinstance(one, str)

@@ -6,9 +6,9 @@ from collections.abc import Iterator
 import numpy
 
 from callauction.verdict.cells import Ints, Mask
-from callauction.verdict.comparing import Difference, Trade
+from callauction.verdict.comparing import Difference, KeyedTrade
 from callauction.verdict.doubts import Doubts
-from callauction.verdict.rows import INTERRUPTED, Cell, Kind, PriceCode, Rows, StateCode
+from callauction.verdict.rows import INTERRUPTED, AuctionCode, Cell, Kind, PriceCode, Rows
 from callauction.words import AUCTIONS
 
 ONE_PRICE = "All trades of an auction are at its one price."
@@ -41,7 +41,7 @@ class Certain:
     def __init__(self, rows: Rows, doubts: Doubts, due: int, entered: Ints) -> None:
         self.rows, self.doubts, self.entered = rows, doubts, entered
         self.busts = doubts.busts
-        held = (rows.state[doubts.uncrosses] != StateCode.INTERRUPTED).sum()
+        held = (rows.auction[doubts.uncrosses] != AuctionCode.INTERRUPTED).sum()
         of_books = (row.place for row in rows.bad if row.is_blank)
         self.is_blank = any(place < 0 or rows.key[place] < 0 for place in of_books)
         """Whether it isn't known of some row which order it is of, if of any."""
@@ -55,7 +55,7 @@ class Certain:
 
     def of(self, place: int, auction: int, traded: Ints, filled: Ints) -> list[Difference]:
         """The contradictions of an auction's uncross at a place with its trades and fills."""
-        if self.rows.state[place] == StateCode.INTERRUPTED:
+        if self.rows.auction[place] == AuctionCode.INTERRUPTED:
             if self.rows.price[place] != PriceCode.NO_PRICE and self.rows.count[place] <= 0:
                 return []
             # an interruption without a price, or with trades
@@ -63,7 +63,7 @@ class Certain:
             return [Difference("auction", *names, (place,), rule=STOPS)]
         these = numpy.concatenate([traded, filled])
         own = these[~numpy.isin(these, self.doubts.outside(these, place))]
-        state = self.rows.state
+        state = self.rows.auction
         if not self.has_all or 0 < state[place] != 1 + auction:
             own = own[(state[own] > 0) & (state[own] == state[place])]
         found = [*self._limits(place, traded[~self.busts.taken(traded)])]
@@ -127,7 +127,7 @@ class Certain:
             for at in numpy.flatnonzero(beyond).tolist():
                 row = int(traded[at])
                 pair = int(rows.bid[row]), int(rows.ask[row])
-                one = Trade(*pair, int(rows.quantity[row]), int(price[at]))
+                one = KeyedTrade(*pair, int(rows.quantity[row]), int(price[at]))
                 yield Difference("trade", one, None, (row,), (int(key[at]),), rule=LIMIT_RULE)
 
     def _worst(self, side: int) -> tuple[Ints, Mask]:

@@ -11,8 +11,14 @@ from callauction.verdict import times
 from callauction.verdict.cells import Cells, Codes, Ints, Mask, Source, paired_codes
 from callauction.verdict.columns import EMPTY, ExtractError, is_unknown
 from callauction.verdict.reading import Reading
-from callauction.verdict.rows import Cell, Int8s, PriceCode
+from callauction.verdict.rows import CONTINUOUS, RESTRICTIONS, SAID_AUCTIONS, Cell, Int8s, PriceCode
 
+SIDE_NUMBERS = {"bid": 1, "buy": 1, "ask": 2, "sell": 2}
+"""By the words of a column the number of each, here of `side` in rows of orders and trades."""
+SURPLUS_SIDE_NUMBERS = {**SIDE_NUMBERS, "none": 0}
+RESTRICTION_NUMBERS = {word: 1 + place for place, word in enumerate(RESTRICTIONS)}
+AUCTION_NUMBERS = {word: place for place, word in enumerate((*SAID_AUCTIONS, CONTINUOUS)) if word}
+KEPT_NUMBERS = {"true": 1, "false": 0, "1": 1, "0": 0, "yes": 1, "no": 0, "y": 1, "n": 0}
 _NO_PRICE = ("none", "no price")
 _WORDED = ("event", "price", "bid_member", "ask_member")
 """Columns whose words for an empty cell mean something else in some rows."""

@@ -26,9 +26,7 @@ from callauction.progress import Progress
 from callauction.statuses import DONE
 from callauction.verdict import books, shapes
 from callauction.verdict.audits import audit_events, audit_journal, short_rows
-from callauction.verdict.columns import (
-    EVENTS, EVENT_COLUMNS, ColumnError, ExtractError, likely,
-)  # fmt: skip
+from callauction.verdict.columns import EVENT_COLUMNS, EVENTS, ColumnError, ExtractError, likely
 from callauction.verdict.coverage import Coverage
 from callauction.verdict.events import plain_frame, rows_of
 from callauction.verdict.extract import read_table

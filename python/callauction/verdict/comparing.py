@@ -7,7 +7,7 @@ import pandas
 
 from callauction.verdict.cells import Codes, Ints, Mask
 from callauction.verdict.phases import Result, Sums, sums
-from callauction.verdict.rows import SIDES, STATES, Cell, PriceCode, Rows, StateCode
+from callauction.verdict.rows import SAID_AUCTIONS, SIDES, AuctionCode, Cell, PriceCode, Rows
 from callauction.words import AUCTIONS
 
 FILL_ITEM = "fill"
@@ -21,7 +21,7 @@ number of the uncross nearest in time, or Cell.MISSING.
 
 
 @dataclasses.dataclass(frozen=True, slots=True)
-class Trade:
+class KeyedTrade:
     """Shares of a bid and an ask, by their keys, and the number of their price."""
 
     bid: int
@@ -31,7 +31,7 @@ class Trade:
 
 
 @dataclasses.dataclass(frozen=True, slots=True)
-class Fill:
+class KeyedFill:
     """The shares of an order, by its key, and the number of their price."""
 
     order: int
@@ -39,17 +39,17 @@ class Fill:
     price: int = PriceCode.UNSAID
 
 
-Value = Trade | Fill | int | str | None
+Value = KeyedTrade | KeyedFill | int | str | None
 
 
-def keys_of(made: Trade | Fill) -> tuple[int, ...]:
+def keys_of(made: KeyedTrade | KeyedFill) -> tuple[int, ...]:
     """The keys of the orders of a trade or a fill."""
-    return (made.bid, made.ask) if isinstance(made, Trade) else (made.order,)
+    return (made.bid, made.ask) if isinstance(made, KeyedTrade) else (made.order,)
 
 
-def member_columns(made: Trade | Fill) -> tuple[str, ...]:
+def member_columns(made: KeyedTrade | KeyedFill) -> tuple[str, ...]:
     """The columns with their members, in the order of keys_of."""
-    return ("bid_member", "ask_member") if isinstance(made, Trade) else ("member",)
+    return ("bid_member", "ask_member") if isinstance(made, KeyedTrade) else ("member",)
 
 
 @dataclasses.dataclass(frozen=True)
@@ -78,17 +78,17 @@ class Difference:
     @property
     def is_of_shares(self) -> bool:
         """Whether it is of a trade or a fill, by what is recorded, or else by what is lawful."""
-        return isinstance(self.recorded or self.lawful, Trade | Fill)
+        return isinstance(self.recorded or self.lawful, KeyedTrade | KeyedFill)
 
     @property
     def is_of_shares_alone(self) -> bool:
         """Whether it is of a trade or a fill, and not of which auction that is."""
         values = (self.recorded, self.lawful)
-        return all(it is None or isinstance(it, Trade | Fill) for it in values)
+        return all(it is None or isinstance(it, KeyedTrade | KeyedFill) for it in values)
 
 
 def _shares(value: Value) -> int:
-    return value.quantity if isinstance(value, Trade | Fill) else 0
+    return value.quantity if isinstance(value, KeyedTrade | KeyedFill) else 0
 
 
 def doubted(differences: Iterable[Difference], why: str) -> tuple[Difference, ...]:
@@ -117,11 +117,11 @@ def compared_items(
     rules give no surplus and no side.
     """
     found: dict[str, Difference | None] = {}
-    price, state = price_said(rows, place, result), int(rows.state[place])
+    price, state = price_said(rows, place, result), int(rows.auction[place])
     is_priced = result.price is not None
     is_same_kind = price == PriceCode.UNSAID or (price == PriceCode.NO_PRICE) != is_priced
     if state > 0:
-        found["auction"] = _item("auction", STATES[state], STATES[word], place)
+        found["auction"] = _item("auction", SAID_AUCTIONS[state], SAID_AUCTIONS[word], place)
     if price != PriceCode.UNSAID:
         due = PriceCode.NO_PRICE if result.price is None else result.price
         found["price"] = _item("price", price, due, place)
@@ -129,7 +129,7 @@ def compared_items(
     arrays = {"volume": rows.quantity, "surplus": rows.surplus, "count": rows.count}
     for item, array in arrays.items():
         number = int(array[place])
-        if item == "count" and StateCode.INTERRUPTED in (state, word):
+        if item == "count" and AuctionCode.INTERRUPTED in (state, word):
             if state == word and number > 0:
                 found[item] = Difference(item, number, 0, (place,))
             continue
@@ -285,7 +285,7 @@ class _Trades:
         lawful: tuple[int, int] | None = None,
     ) -> Difference:  # fmt: skip
         bid, ask = divmod(pair, self.many)
-        one, due = (None if it is None else Trade(bid, ask, *it) for it in (recorded, lawful))
+        one, due = (None if it is None else KeyedTrade(bid, ask, *it) for it in (recorded, lawful))
         stamp = int(self.stamps[places[0]]) if places else None
         return Difference("trade", one, due, places, (bid, ask), stamp)
 
@@ -317,7 +317,7 @@ def compared_fills(
     for key, place in at.items():
         if key not in named:
             shares = int(rows.quantity[place])
-            one, due = Fill(key, shares, int(rows.price[place])), Fill(key, shares, price)
+            one, due = KeyedFill(key, shares, int(rows.price[place])), KeyedFill(key, shares, price)
             found.append(Difference(FILL_ITEM, one, due, (place,), (key,)))
     return paired(stamped(found, stamps))
 
@@ -347,8 +347,8 @@ def compared_shares(
         if due.get(each) != done.get(each):
             key, spots = each % many, tuple(places.get(each, ()))
             at = _recorded_price(rows, spots, price)
-            one = Fill(key, done[each], at) if each in done else None
-            other = Fill(key, due[each], price) if each in due else None
+            one = KeyedFill(key, done[each], at) if each in done else None
+            other = KeyedFill(key, due[each], price) if each in due else None
             found.append(Difference(FILL_ITEM, one, other, spots, (key,)))
     return found
 
@@ -385,9 +385,9 @@ def paired(differences: Iterable[Difference]) -> list[Difference]:
 
 def _marks(value: Value) -> tuple[object, ...]:
     """By what a missing trade or fill is found to be the other of an extra one."""
-    if isinstance(value, Fill):
+    if isinstance(value, KeyedFill):
         return ((FILL_ITEM, value.quantity),)
-    if isinstance(value, Trade):
+    if isinstance(value, KeyedTrade):
         both = (*sorted((value.bid, value.ask)), value.quantity)
         return (both, ("bid", value.bid, value.quantity), ("ask", value.ask, value.quantity))
     return ()
@@ -408,7 +408,7 @@ def reconciled_uncrosses(
     found = [list(those) for those in uncrosses]
     for number, those in enumerate(uncrosses):
         for each in those:
-            if not isinstance(each.recorded, Trade | Fill) or each.lawful is not None:
+            if not isinstance(each.recorded, KeyedTrade | KeyedFill) or each.lawful is not None:
                 continue
             other, gap = missing.pop(_pair(each.recorded), (number, None))
             if gap is None:
@@ -424,6 +424,6 @@ def reconciled_uncrosses(
 
 def _pair(value: Value) -> object:
     """What a trade or a fill is, but for its price."""
-    if isinstance(value, Trade):
+    if isinstance(value, KeyedTrade):
         return value.bid, value.ask, value.quantity
-    return (value.order, value.quantity) if isinstance(value, Fill) else None
+    return (value.order, value.quantity) if isinstance(value, KeyedFill) else None

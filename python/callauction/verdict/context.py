@@ -14,8 +14,8 @@ from callauction.program import Day
 from callauction.tables import BOOK, table_of
 from callauction.verdict.cells import Ints
 from callauction.verdict.paths import Judged
-from callauction.verdict.phases import Result, Uncross, recorded_sums
-from callauction.verdict.rows import OWN, SIDES, Kind, PriceCode, Rows
+from callauction.verdict.phases import Result, UncrossCommands, recorded_sums
+from callauction.verdict.rows import RESTRICTION_OF, SIDES, Kind, PriceCode, Rows
 from callauction.verdict.rules import Range, Rules
 from callauction.words import AUCTIONS
 
@@ -157,8 +157,10 @@ class Context:
 
     def lapsed(self, key: int) -> str:
         """The auction before this one that ended an order that was for it alone; empty for none."""
-        only = int(self.rows.only[self.entered[key]])
-        own = OWN.index(only) if only > 0 else len(OWN)
+        restriction = int(self.rows.restriction[self.entered[key]])
+        own = len(RESTRICTION_OF)
+        if restriction > 0:
+            own = RESTRICTION_OF.index(restriction)
         last = self.closed_by(key)
         if own >= self.judged.auction or last is not None and self.rows.kind[last] == Kind.CANCEL:
             return ""
@@ -259,10 +261,10 @@ class Context:
     # ---- the book as the program shows it
 
     @functools.cached_property
-    def uncross(self) -> Uncross:
+    def uncross(self) -> UncrossCommands:
         """The commands that uncross the book."""
         judged = self.judged
-        return Uncross.of(judged.book, judged.auction, judged.reference)
+        return UncrossCommands.of(judged.book, judged.auction, judged.reference)
 
     def named(self, tick: int) -> Decimal:
         """The price of a tick that the program names."""

@@ -1,9 +1,9 @@
 """How much of what the rules give was published and compared: see Coverage."""
 import dataclasses
 
-from callauction.verdict.comparing import FILL_ITEM, Fill, Trade
+from callauction.verdict.comparing import FILL_ITEM, KeyedFill, KeyedTrade
 from callauction.verdict.paths import Judged, Judgement
-from callauction.verdict.rows import Rows, StateCode
+from callauction.verdict.rows import AuctionCode, Rows
 
 ITEMS = ("price", "volume", "surplus", "side", "auction", "count")
 PLURALS = {it: f"{it}{'es' if it == 'surplus' else 's'}" for it in (*ITEMS, "trade", FILL_ITEM)}
@@ -56,7 +56,7 @@ def coverage_of(judgement: Judgement, rows: Rows) -> Coverage:
         compared = sum(item in each.items for each in due)
         counts[PLURALS[item]] = compared, len(due) + missing
     executed = [each for each in judged if not each.is_interrupted]
-    recorded = [each for each in executed if rows.state[each.place] != StateCode.INTERRUPTED]
+    recorded = [each for each in executed if rows.auction[each.place] != AuctionCode.INTERRUPTED]
     trades = sum(map(_trades, recorded)) if judgement.has_trades else 0
     counts[PLURALS["trade"]] = trades, sum(map(_trades, executed))
     if judgement.has_fills:
@@ -77,7 +77,7 @@ def _is_due(item: str, judged: Judged) -> bool:
 
 def _is_paired_otherwise(judged: Judged) -> bool:
     """Whether an auction's trades pair orders otherwise, each with its lawful shares."""
-    differs = any(isinstance(it, Trade | Fill) for each in judged.differences
+    differs = any(isinstance(it, KeyedTrade | KeyedFill) for each in judged.differences
                   for it in (each.recorded, each.lawful))  # fmt: skip
     return not differs and len(judged.traded) > 0 and judged.pairs < _trades(judged)
 

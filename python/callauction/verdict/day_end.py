@@ -115,7 +115,7 @@ class Ending:
         """Auctions without a row uncross whose trades, which name them, are at two prices; one of
         another name is none of theirs.
         """
-        made, state = self.rows.of(Kind.TRADE, Kind.FILL), self.rows.state
+        made, state = self.rows.of(Kind.TRADE, Kind.FILL), self.rows.auction
         held = {
             it.auction for it in judged
             if state[it.place] in (*NO_AUCTION_NAMED, 1 + it.auction)

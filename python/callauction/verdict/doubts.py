@@ -17,11 +17,12 @@ from callauction.verdict import time_columns
 from callauction.verdict.busts import Busts
 from callauction.verdict.cells import Ints, Mask
 from callauction.verdict.columns import ExtractError
-from callauction.verdict.comparing import Difference, Fill, Trade, keys_of, member_columns
+from callauction.verdict.comparing import Difference, KeyedFill, KeyedTrade, keys_of, member_columns
 from callauction.verdict.mixed import is_one_session
 from callauction.verdict.names import is_placeholder, respelled
-from callauction.verdict.phases import Book, Result
-from callauction.verdict.rows import BadRow, Cell, Doubt, Kind, Rows, StateCode
+from callauction.verdict.paths import Moment
+from callauction.verdict.phases import Result, StandingBook
+from callauction.verdict.rows import AuctionCode, BadRow, Cell, Doubt, Kind, Rows
 from callauction.verdict.ties import Ties
 from callauction.verdict.unnamed_trades import Strays
 from callauction.words import AUCTIONS
@@ -158,9 +159,9 @@ class Doubts:
         """From which place on a row of an uncross may be missing, and why: the names of the
         auctions leave one out, or there are fewer rows than auctions, and no names.
         """
-        state = self.rows.state[self.uncrosses]
-        places = self.uncrosses[state != StateCode.INTERRUPTED]
-        names = (self.rows.state[places] - 1).tolist()
+        state = self.rows.auction[self.uncrosses]
+        places = self.uncrosses[state != AuctionCode.INTERRUPTED]
+        names = (self.rows.auction[places] - 1).tolist()
         first = next((at for at, (name, it) in enumerate(zip(names, due)) if name != it), None)
         if first is None or len(names) >= len(due):
             return None
@@ -176,7 +177,7 @@ class Doubts:
         """Where no row says of which auction it is, one that is missing, as some are of an uncross
         that was interrupted, is a gap from the day's begin on: whether that is so only now.
         """
-        is_new = self.gap is None and bool((self.rows.state[self.uncrosses] <= 0).all())
+        is_new = self.gap is None and bool((self.rows.auction[self.uncrosses] <= 0).all())
         self.gap = (0, NO_NAMES) if is_new else self.gap
         return is_new
 
@@ -264,17 +265,19 @@ class Doubts:
         ]
 
     def doubted_trades(
-        self, found: list[Difference], by_order: list[Difference], book: Book, auction: int,
-        result: Result, traded: Ints, filled: Ints, place: int,
+        self, found: list[Difference], by_order: list[Difference], moment: Moment,
+        book: StandingBook, result: Result,
     ) -> list[Difference]:  # fmt: skip
         """The differences of an auction's trades and fills, with their doubts. Who traded with whom
         is in doubt where all that differs by order is.
         """
-        outside = self.outside(numpy.concatenate([traded, filled]), place)
-        own = (these[~numpy.isin(these, outside)] for these in (traded, filled))
-        why = self.ties.of_shares(book, auction, result, traded, filled)
-        why, strays = why or self.ties.of_shares(book, auction, result, *own), {*outside.tolist()}
-        end = "" if why else self.lost(place, traded, filled, result.volume)
+        made = moment.traded, moment.filled
+        outside = self.outside(numpy.concatenate(made), moment.place)
+        own = (these[~numpy.isin(these, outside)] for these in made)
+        why = self.ties.of_shares(book, moment.auction, result, *made)
+        why = why or self.ties.of_shares(book, moment.auction, result, *own)
+        strays = {*outside.tolist()}
+        end = "" if why else self.lost(moment.place, *made, result.volume)
         of_orders = [
             self.stray(it).doubt if _is_extra(it, strays) else self._why_trade(it, end)
             for it in by_order if not why
@@ -295,7 +298,7 @@ class Doubts:
     def _why_naming(self, each: Difference) -> str:
         """Why the members of a trade or fill that is lawful else may be right: placeholders."""
         one, other, rows = each.recorded, each.lawful, self.rows
-        if not isinstance(one, Trade | Fill) or one != other:
+        if not isinstance(one, KeyedTrade | KeyedFill) or one != other:
             return ""
         names = [
             rows.names.recorded(place, column, int(getattr(rows, column)[place]))
@@ -331,7 +334,7 @@ class Doubts:
         if self.gap is not None:
             is_other |= (these >= self.gap[0]) & (rows.time[these] != rows.time[place])
         is_other |= self._are_unentered(these) & self._are_apart(these, place)
-        is_other = is_other & (rows.state[these] <= 0) | numpy.isin(these, self.within)
+        is_other = is_other & (rows.auction[these] <= 0) | numpy.isin(these, self.within)
         found: Ints = these[is_other | numpy.isin(these, [*self.homes])]
         return found
 
@@ -362,7 +365,7 @@ class Doubts:
 
     def filed(self, each: Difference) -> Difference:
         """The difference of a doubtful trade or fill, with the auction that it may be of."""
-        is_made = each.doubt and isinstance(each.recorded, Trade | Fill)
+        is_made = each.doubt and isinstance(each.recorded, KeyedTrade | KeyedFill)
         homes = {self.homes.get(place) for place in each.places if is_made}
         home = homes.pop() if len(homes) == 1 else None
         return dataclasses.replace(each, auction=" or ".join(home)) if home else each
@@ -394,7 +397,7 @@ class Doubts:
     def _why_lost(self, each: Difference) -> str:
         """Why a trade or a fill may be of an order that is known by another id."""
         one = each.recorded
-        keys = keys_of(one) if isinstance(one, Trade | Fill) else ()
+        keys = keys_of(one) if isinstance(one, KeyedTrade | KeyedFill) else ()
         lost = next((key for key in keys if key in self._lost), None)
         if lost is None:
             return ""
@@ -454,7 +457,7 @@ class Doubts:
             return f"a trade isn't read: {unread}"
         if half := self._half(lawful):
             return half
-        if isinstance(lawful, Trade | Fill) and self.rows.dropped:
+        if isinstance(lawful, KeyedTrade | KeyedFill) and self.rows.dropped:
             if {*map(self.rows.names.order, keys_of(lawful))} & self.rows.dropped:
                 return "a trade of such an order doesn't meet --where"
         return self._why_busted(lawful)
@@ -463,7 +466,7 @@ class Doubts:
         """Why a fill may be missing: a trade of its price has no row of its order's side."""
         rows = self.rows
         halves = numpy.flatnonzero(rows.is_half & (rows.kind == Kind.FILL))
-        if isinstance(lawful, Fill):
+        if isinstance(lawful, KeyedFill):
             halves = halves[rows.side[halves] != rows.side[self.entered[lawful.order]]]
             is_own = (rows.price[halves] == lawful.price) | (rows.price[halves] < 0)
             halves = halves[is_own | (lawful.price < 0)]
@@ -478,13 +481,13 @@ class Doubts:
         rows = self.rows
         lost = [it.place for it in rows.bad if it.doubt is Doubt.BUST and it.place >= 0]
         taken = numpy.union1d(rows.of(Kind.TAKEN), numpy.array(lost, "i8"))
-        if isinstance(lawful, Trade | Fill):
+        if isinstance(lawful, KeyedTrade | KeyedFill):
             shares = rows.quantity[taken]
             is_read = rows.kind[taken] != Kind.BAD
             taken = taken[is_read | (shares < 0) | (shares == lawful.quantity)]
-        if isinstance(lawful, Trade):
+        if isinstance(lawful, KeyedTrade):
             taken = taken[(rows.bid[taken] == lawful.bid) & (rows.ask[taken] == lawful.ask)]
-        elif isinstance(lawful, Fill):
+        elif isinstance(lawful, KeyedFill):
             keys = (rows.bid[taken], rows.ask[taken], rows.key[taken])
             taken = taken[numpy.any([it == lawful.order for it in keys], axis=0)]
         if not len(taken):
@@ -505,8 +508,8 @@ def _is_extra(each: Difference, strays: set[int]) -> bool:
 def has_lawful_orders(each: Difference) -> bool:
     """Whether a trade or a fill is lawful but for its price or its members."""
     one, other = each.recorded, each.lawful
-    if isinstance(one, Trade) and isinstance(other, Trade):
+    if isinstance(one, KeyedTrade) and isinstance(other, KeyedTrade):
         return (one.bid, one.ask, one.quantity) == (other.bid, other.ask, other.quantity)
-    if isinstance(one, Fill) and isinstance(other, Fill):
+    if isinstance(one, KeyedFill) and isinstance(other, KeyedFill):
         return (one.order, one.quantity) == (other.order, other.quantity)
     return isinstance(one, str)

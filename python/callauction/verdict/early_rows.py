@@ -11,9 +11,9 @@ import numpy
 from callauction.verdict import time_columns, times
 from callauction.verdict.cells import Ints
 from callauction.verdict.comparing import Difference
-from callauction.verdict.events import over_midnight
 from callauction.verdict.mixed import LONGEST
 from callauction.verdict.paths import Judged, Judgement
+from callauction.verdict.row_order import over_midnight
 from callauction.verdict.rows import OF_ORDERS, Kind, Rows
 
 EARLY = "trades and fills timed before an order of theirs was entered, by {:f} s at most"

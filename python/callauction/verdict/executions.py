@@ -11,8 +11,8 @@ from callauction.verdict.comparing import (
 from callauction.verdict.day_rows import DayRows
 from callauction.verdict.doubts import Doubts
 from callauction.verdict.paths import Moment
-from callauction.verdict.phases import NOTHING, Book, Result
-from callauction.verdict.rows import Cell, PriceCode, StateCode
+from callauction.verdict.phases import NOTHING, Result, StandingBook
+from callauction.verdict.rows import AuctionCode, Cell, PriceCode
 
 
 class Executions:
@@ -30,8 +30,8 @@ class Executions:
         none.
         """
         rows, uncrosses, due = self.rows, self.day.uncrosses, self.day.due
-        done = numpy.flatnonzero(rows.state[uncrosses] != StateCode.INTERRUPTED)
-        named = rows.state[these].astype("i8") - 1
+        done = numpy.flatnonzero(rows.auction[uncrosses] != AuctionCode.INTERRUPTED)
+        named = rows.auction[these].astype("i8") - 1
         by = numpy.full(len(these), Cell.MISSING, "i8")
         at = rows.time[uncrosses]
         if len(done):
@@ -64,7 +64,7 @@ class Executions:
         return [*made.differences, *self._fills(filled, NOTHING, PriceCode.UNSAID)]
 
     def compared(
-        self, moment: Moment, book: Book, result: Result, is_wrong: bool
+        self, moment: Moment, book: StandingBook, result: Result, is_wrong: bool
     ) -> tuple[list[Difference], int]:
         """How an auction's trades and fills differ, and how many lawful pairs are recorded;
         `is_wrong` says that its price isn't lawful.
@@ -79,9 +79,7 @@ class Executions:
             found = self._fills(filled, result, allowed)
         found = [*made.differences, *found]
         if found:
-            found = self.doubts.doubted_trades(
-                found, made.by_order, book, moment.auction, result, traded, filled, place
-            )
+            found = self.doubts.doubted_trades(found, made.by_order, moment, book, result)
             found = self._without_outside(found, moment, result, allowed)
         return found, made.pairs
 

@@ -4,9 +4,11 @@ and in the extract's ids, members, times and prices. The first sentence says mos
 from collections.abc import Iterator
 
 from callauction.reasons import explain as explain_book
-from callauction.verdict.comparing import FILL_ITEM, PRIORITY, Difference, Fill, Trade, keys_of
+from callauction.verdict.comparing import (
+    FILL_ITEM, PRIORITY, Difference, KeyedFill, KeyedTrade, keys_of,
+)  # fmt: skip
 from callauction.verdict.context import Context, RestingOrder
-from callauction.verdict.rows import INTERRUPTED, OWN, RESTRICTIONS, SIDES, Cell, Kind
+from callauction.verdict.rows import INTERRUPTED, RESTRICTION_OF, RESTRICTIONS, SIDES, Cell, Kind
 
 KEPT = (
     "A replace keeps the place in time where the limit is the same and the quantity isn't greater, "
@@ -152,30 +154,30 @@ def _of_trade(context: Context, difference: Difference) -> Iterator[str]:
     if context.judged.result is None:
         yield "The auctions of the day were over, or the book is more than the program holds."
         return
-    if isinstance(lawful, str) and isinstance(recorded, Trade | Fill):
+    if isinstance(lawful, str) and isinstance(recorded, KeyedTrade | KeyedFill):
         yield f"Its orders trade in the {lawful}, and not in the {context.auction}."
         return
-    if isinstance(recorded, Trade | Fill):
+    if isinstance(recorded, KeyedTrade | KeyedFill):
         sides = " ".join(_of_sides(context, recorded))
         yield from [sides] * bool(sides)
         for key in sorted(keys_of(recorded), key=context.at.__contains__):
             yield from _of_closed(context, key)
-        if isinstance(lawful, Trade | Fill):
+        if isinstance(lawful, KeyedTrade | KeyedFill):
             yield from _of_members(context, difference, recorded, lawful)
         yield from _of_trade_price(context, recorded)
         yield from _of_open(context, recorded)
     yield from _of_queue(context, difference)
-    if len(difference.places) > 1 and isinstance(recorded, Trade | Fill):
+    if len(difference.places) > 1 and isinstance(recorded, KeyedTrade | KeyedFill):
         labels = (str(context.rows.labels[place]) for place in difference.places)
         yield f"Rows {', '.join(labels)} record it together."
-    if isinstance(lawful, Trade) and (lawful.bid, lawful.ask) in context.begins:
+    if isinstance(lawful, KeyedTrade) and (lawful.bid, lawful.ask) in context.begins:
         yield _of_spans(context, lawful)
     price = context.lawful_price
     if isinstance(recorded, str) and price is not None:
         yield f"All trades of an auction are at its price, {context.price(price)}."
 
 
-def _of_open(context: Context, recorded: Trade | Fill) -> Iterator[str]:
+def _of_open(context: Context, recorded: KeyedTrade | KeyedFill) -> Iterator[str]:
     """Which order of a trade or a fill has fewer shares open than were recorded of it."""
     hint = "" if context.rows.has_peaks else " (are hidden shares missing?)"
     for key in keys_of(recorded):
@@ -227,9 +229,9 @@ def _closing(context: Context, key: int) -> str:
     return f"{word} in row {context.rows.labels[place]}{f', {time}' if time else ''}"
 
 
-def _of_sides(context: Context, recorded: Trade | Fill) -> Iterator[str]:
+def _of_sides(context: Context, recorded: KeyedTrade | KeyedFill) -> Iterator[str]:
     """Which order is of the other side than a trade has it on."""
-    keys = keys_of(recorded) if isinstance(recorded, Trade) else ()
+    keys = keys_of(recorded) if isinstance(recorded, KeyedTrade) else ()
     for key, side in zip(keys, ("bid", "ask")):
         place = context.entered.get(key)
         own = SIDES[context.rows.side[place]] if place is not None else side
@@ -240,9 +242,9 @@ def _of_sides(context: Context, recorded: Trade | Fill) -> Iterator[str]:
 def _of_excluded(context: Context, order: RestingOrder) -> Iterator[str]:
     """Why an open order can't trade in the auction, where it can't."""
     price = context.lawful_price
-    only = int(context.judged.book.only[context.at[order.key]])
-    if only > 0 and only != OWN[context.judged.auction]:
-        yield f"{order.order} is for the {RESTRICTIONS[only - 1]} alone."
+    restriction = int(context.judged.book.restriction[context.at[order.key]])
+    if restriction > 0 and restriction != RESTRICTION_OF[context.judged.auction]:
+        yield f"{order.order} is for the {RESTRICTIONS[restriction - 1]} alone."
     elif price is None:
         yield "The auction has no price, so nothing is executed."
     elif order.price is not None:
@@ -261,9 +263,9 @@ def _a(side: str) -> str:
 def recorded_members(context: Context, difference: Difference) -> tuple[str, ...]:
     """The members that rows of a trade have of bid and ask, or a fill's; empty for none."""
     made = difference.recorded
-    if not isinstance(made, Trade | Fill):
+    if not isinstance(made, KeyedTrade | KeyedFill):
         return "", ""
-    columns = ("bid", "ask") if isinstance(made, Trade) else ("",)
+    columns = ("bid", "ask") if isinstance(made, KeyedTrade) else ("",)
     both = zip(keys_of(made), columns)
     return tuple(_recorded_member(context, difference.places, key, side) for key, side in both)
 
@@ -284,7 +286,8 @@ def _recorded_member(context: Context, places: tuple[int, ...], key: int, side: 
 
 
 def _of_members(
-    context: Context, difference: Difference, recorded: Trade | Fill, lawful: Trade | Fill
+    context: Context, difference: Difference, recorded: KeyedTrade | KeyedFill,
+    lawful: KeyedTrade | KeyedFill,
 ) -> Iterator[str]:
     """Whose the orders are, where another member was recorded."""
     names = recorded_members(context, difference)
@@ -294,7 +297,7 @@ def _of_members(
             yield f"{context.order(key)} is an order of {owner}, not of {name}."
 
 
-def _of_trade_price(context: Context, recorded: Trade | Fill) -> Iterator[str]:
+def _of_trade_price(context: Context, recorded: KeyedTrade | KeyedFill) -> Iterator[str]:
     price, published = context.lawful_price, int(context.rows.price[context.judged.place])
     if recorded.price >= 0 and price is not None and recorded.price != context.result.price:
         if recorded.price != published:
@@ -315,7 +318,7 @@ def _of_queue(context: Context, difference: Difference) -> Iterator[str]:
                 orders = (context.open_order(context.at[key]) for key in (early, late))
                 yield _before(context, *orders)
     told = difference.recorded
-    told_shares = told.quantity if isinstance(told, Trade | Fill) else 0
+    told_shares = told.quantity if isinstance(told, KeyedTrade | KeyedFill) else 0
     for _, key in sorted(shares, key=lambda it: it[0]):
         yield _share(context, context.open_order(context.at[key]), told_shares)
 
@@ -350,7 +353,7 @@ def _share(context: Context, order: RestingOrder, told: int) -> str:
     )
 
 
-def _of_spans(context: Context, lawful: Trade) -> str:
+def _of_spans(context: Context, lawful: KeyedTrade) -> str:
     """Which shares of the volume a trade is of."""
     begin = context.begins[lawful.bid, lawful.ask]
     bid, ask = context.order(lawful.bid), context.order(lawful.ask)

@@ -9,7 +9,7 @@ import pandas
 from callauction import statuses
 from callauction.reasons import Explanation
 from callauction.verdict import joint_differences
-from callauction.verdict.comparing import Difference, Fill, Trade, Value
+from callauction.verdict.comparing import Difference, KeyedFill, KeyedTrade, Value
 from callauction.verdict.context import AROUND, Context, queue_of
 from callauction.verdict.coverage import Coverage, coverage_of
 from callauction.verdict.explain import (
@@ -282,7 +282,8 @@ def _finding(number: int, context: Context, those: Sequence[Difference]) -> Find
 
 def _is_elsewhere(difference: Difference) -> bool:
     """Whether a trade or a fill is another auction's, which is what is lawful then."""
-    return isinstance(difference.lawful, str) and isinstance(difference.recorded, Trade | Fill)
+    made = isinstance(difference.recorded, KeyedTrade | KeyedFill)
+    return made and isinstance(difference.lawful, str)
 
 
 def _auction(context: Context, difference: Difference) -> str:
@@ -304,9 +305,9 @@ def _shown(context: Context, difference: Difference, value: Value) -> str:
     """A recorded or a lawful value of an item."""
     if value is None:
         return NO_SUCH.get(difference.item, "none")
-    if isinstance(value, Trade):
+    if isinstance(value, KeyedTrade):
         return _trade(context, value, difference)
-    if isinstance(value, Fill):
+    if isinstance(value, KeyedFill):
         return _fill(context, value, difference)
     if isinstance(value, str):
         return value
@@ -321,7 +322,7 @@ def _at(context: Context, price: int) -> str:
     return f" at {context.price(context.rows.prices[price])}" if price >= 0 else ""
 
 
-def _fill(context: Context, fill: Fill, difference: Difference) -> str:
+def _fill(context: Context, fill: KeyedFill, difference: Difference) -> str:
     """A fill in the extract's names, with its member where another one was recorded."""
     member, owner = recorded_members(context, difference)[0], context.member(fill.order)
     name = owner if fill is difference.lawful else member
@@ -329,7 +330,7 @@ def _fill(context: Context, fill: Fill, difference: Difference) -> str:
     return f"{context.order(fill.order)}{shown} {fill.quantity:,}{_at(context, fill.price)}"
 
 
-def _trade(context: Context, trade: Trade, difference: Difference) -> str:
+def _trade(context: Context, trade: KeyedTrade, difference: Difference) -> str:
     """A trade in the extract's names, with its members where these were recorded."""
     members = recorded_members(context, difference)
     if trade is difference.lawful and any(members):

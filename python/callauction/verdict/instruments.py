@@ -14,12 +14,10 @@ from callauction.prices import number_of
 from callauction.program import ProgramError
 from callauction.progress import Progress
 from callauction.verdict import time_columns
-from callauction.verdict.audits import before, rules_of, short_rows, verdict_on_rows
+from callauction.verdict.audits import before, short_rows, verdict_on_rows
 from callauction.verdict.cells import Codes, Ints, Mask, Source
 from callauction.verdict.column_words import Columns
-from callauction.verdict.columns import (
-    KINDS, ColumnError, ExtractError, hint_of, refuse_unknown,
-)  # fmt: skip
+from callauction.verdict.columns import KINDS, ColumnError, ExtractError, hint_of, refuse_unknown
 from callauction.verdict.coverage import PLURALS, Coverage
 from callauction.verdict.events import dropped_numbers, gaps_in, rows_of
 from callauction.verdict.extract import columns_of, read_table
@@ -28,7 +26,7 @@ from callauction.verdict.findings import INCOMPLETE, STATUSES, Finding, Verdict
 from callauction.verdict.reading import Reading
 from callauction.verdict.repeated_rows import Gap, find_holes, gaps_of, remark_of
 from callauction.verdict.rows import BadRow, Doubt, Kind, Rows
-from callauction.verdict.rules import Rules
+from callauction.verdict.rules import Rules, SaidTerms
 from callauction.verdict.table import Table
 from callauction.words import AUCTIONS
 
@@ -371,7 +369,7 @@ def market_of(
         text = ",".join(name)
         try:
             of_day = terms_of({**terms, **own}, reading)
-            rules[text] = rules_of(**of_day, quantity=reading.quantity)
+            rules[text] = SaidTerms(**of_day).rules(reading.quantity)
         except ValueError as fault:
             rules[text] = str(fault)
     return Market(table, reading, by, codes, tuple(map(",".join, names)), rules)

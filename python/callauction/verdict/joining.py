@@ -4,7 +4,9 @@ import functools
 import numpy
 
 from callauction.verdict.cells import Codes, Ints, paired_codes
-from callauction.verdict.rows import OF_ORDERS, SIDES, Cell, Doubt, Kind, PriceCode, Rows, StateCode
+from callauction.verdict.rows import (
+    OF_ORDERS, SIDES, AuctionCode, Cell, Doubt, Kind, PriceCode, Rows,
+)  # fmt: skip
 
 ONE_SIDED = "trades without the row of their other side, read as fills of their orders"
 BUSTED = "trades that busts take out"
@@ -127,15 +129,15 @@ def with_results(rows: Rows) -> Rows:
     made where the one above has a name that another has too, which is wrong then.
     """
     uncrosses = rows.of(Kind.UNCROSS)
-    held = {*rows.state[uncrosses].tolist()} - {StateCode.INTERRUPTED}
+    held = {*rows.auction[uncrosses].tolist()} - {AuctionCode.INTERRUPTED}
     made = rows.of(Kind.TRADE, Kind.FILL)
-    made = made[(rows.state[made] > 0) & (rows.state[made] != StateCode.INTERRUPTED)]
+    made = made[(rows.auction[made] > 0) & (rows.auction[made] != AuctionCode.INTERRUPTED)]
     if not rows.makes_results or Cell.MISSING in held:
         return rows
     firsts: dict[int, int] = {}
     for place in made.tolist():
-        if int(rows.state[place]) not in held:
-            firsts.setdefault(int(rows.state[place]), place)
+        if int(rows.auction[place]) not in held:
+            firsts.setdefault(int(rows.auction[place]), place)
     firsts = {name: place for name, place in firsts.items() if not _is_misnamed(rows, place)}
     if not firsts:
         return rows
@@ -154,13 +156,13 @@ def _is_misnamed(rows: Rows, first: int) -> bool:
     """
     uncrosses, above = rows.of(Kind.UNCROSS), rows.kind[:first]
     own = int(uncrosses[uncrosses < first].max(initial=-1))
-    if own < 0 or not 0 < rows.state[own] != StateCode.INTERRUPTED:
+    if own < 0 or not 0 < rows.auction[own] != AuctionCode.INTERRUPTED:
         return False
     if numpy.isin(above[own:], OF_ORDERS).any():
         return False
     made = numpy.isin(above[own:], (Kind.TRADE, Kind.FILL))
-    made &= rows.state[own:first] == rows.state[own]
-    is_again = numpy.count_nonzero(rows.state[uncrosses] == rows.state[own]) > 1
+    made &= rows.auction[own:first] == rows.auction[own]
+    is_again = numpy.count_nonzero(rows.auction[uncrosses] == rows.auction[own]) > 1
     return bool(is_again and not made.any())
 
 
@@ -171,8 +173,8 @@ def _moved(at: Ints, place: int) -> int:
 
 def _make_result(rows: Rows, place: int) -> None:
     """Makes a row the result of the auction that it names."""
-    state = rows.state[place]
-    trades = ((rows.kind == Kind.TRADE) | (rows.kind == Kind.FILL)) & (rows.state == state)
+    state = rows.auction[place]
+    trades = ((rows.kind == Kind.TRADE) | (rows.kind == Kind.FILL)) & (rows.auction == state)
     prices = numpy.unique(rows.price[trades])
     rows.kind[place] = Kind.UNCROSS
     rows.price[place] = prices[0] if len(prices) == 1 else PriceCode.UNSAID

@@ -8,10 +8,10 @@ from collections.abc import Collection, Iterator, Sequence
 import numpy
 
 from callauction.verdict.cells import Array
-from callauction.verdict.comparing import Difference, Fill, Trade, keys_of
+from callauction.verdict.comparing import Difference, KeyedFill, KeyedTrade, keys_of
 from callauction.verdict.context import Context
-from callauction.verdict.phases import BeyondError, Book, Result, uncross
-from callauction.verdict.rows import OWN, SIDES, Cell, Kind, PriceCode
+from callauction.verdict.phases import BeyondError, Result, StandingBook, uncross
+from callauction.verdict.rows import RESTRICTION_OF, SIDES, Cell, Kind, PriceCode
 
 
 def grouped(context: Context, differences: Sequence[Difference]) -> list[list[Difference]]:
@@ -61,7 +61,7 @@ def _jumps(context: Context) -> Iterator[list[int]]:
 
 def _shares(each: Difference) -> int:
     """How many shares a difference moves."""
-    values = [it for it in (each.recorded, each.lawful) if isinstance(it, Trade | Fill)]
+    values = [it for it in (each.recorded, each.lawful) if isinstance(it, KeyedTrade | KeyedFill)]
     shares = [it.quantity for it in values]
     if len(values) > 1 and keys_of(values[0]) == keys_of(values[1]):
         return abs(shares[0] - shares[1])
@@ -102,7 +102,7 @@ def of_absent(context: Context, differences: Sequence[Difference]) -> list[Diffe
 def _absent(context: Context, each: Difference) -> list[int]:
     """The orders of a recorded trade or fill that were entered above and don't count here."""
     made, place = each.recorded, context.judged.place
-    if not isinstance(made, Trade | Fill) or isinstance(each.lawful, str):
+    if not isinstance(made, KeyedTrade | KeyedFill) or isinstance(each.lawful, str):
         return []
     entered = ((key, context.entered.get(key, place)) for key in keys_of(made))
     return [key for key, at in entered if at < place and not _counts(context, key)]
@@ -110,37 +110,36 @@ def _absent(context: Context, each: Difference) -> list[int]:
 
 def _counts(context: Context, key: int) -> bool:
     """Whether an order is open, and not for another auction alone."""
-    only = context.judged.book.only
-    own = (Cell.MISSING, 0, OWN[context.judged.auction])
-    return key in context.at and only[context.at[key]] in own
+    restriction = context.judged.book.restriction
+    own = (Cell.MISSING, 0, RESTRICTION_OF[context.judged.auction])
+    return key in context.at and restriction[context.at[key]] in own
 
 
-def _books(context: Context, keys: Sequence[int]) -> Iterator[Book]:
+def _books(context: Context, keys: Sequence[int]) -> Iterator[StandingBook]:
     """The book with these orders as last open; and that with all for other auctions too."""
     last, book = _last_open(context, keys), context.judged.book
     if all(key in last or key in context.at for key in keys):
         yield _book_with(context, keys, last)
-        others = book.key[(book.only > 0) & (book.only != OWN[context.judged.auction])].tolist()
-        for each in context.earlier:
-            is_own = (each.book.only > 0) & (each.book.only == OWN[each.auction])
-            others += each.book.key[is_own].tolist() if each.is_ended else []
+        others = book.key[book.is_for_others(context.judged.auction)].tolist()
+        for each in filter(lambda it: it.is_ended, context.earlier):
+            others += each.book.key[each.book.is_for(each.auction)].tolist()
         yield _book_with(context, [*keys, *others], _last_open(context, [*keys, *others]))
 
 
 def _book_with(
     context: Context, keys: Collection[int], last: dict[int, tuple[int, int, int, int]]
-) -> Book:
+) -> StandingBook:
     """The book with these orders, which are for any auction."""
     book = context.judged.book
     added = [key for key in last if key not in context.at]
     sides = [int(context.rows.side[context.entered[key]]) for key in added]
     more = zip(added, sides, *zip(*((last[key][1], last[key][2], 0, last[key][3])
                                     for key in added)))  # fmt: skip
-    only = numpy.where(numpy.isin(book.key, [*keys]), 0, book.only)
-    columns: list[Array] = [book.key, book.side, book.price, book.quantity, only, book.since]
+    restriction = numpy.where(numpy.isin(book.key, [*keys]), 0, book.restriction)
+    columns: list[Array] = [book.key, book.side, book.price, book.quantity, restriction, book.since]
     rows = numpy.array([*more], "i8").reshape(-1, len(columns))
     whole = [numpy.append(it, rows[:, at].astype(it.dtype)) for at, it in enumerate(columns)]
-    return Book(*whole).take(numpy.argsort(whole[-1], kind="stable"))
+    return StandingBook(*whole).take(numpy.argsort(whole[-1], kind="stable"))
 
 
 def _last_open(context: Context, keys: Sequence[int]) -> dict[int, tuple[int, int, int, int]]:
@@ -173,13 +172,13 @@ def _is_of(context: Context, each: Difference, result: Result) -> bool:
     if each.item in due:
         return bool(each.recorded == due[each.item])
     made, lawful = each.recorded, each.lawful
-    if isinstance(made, Trade | Fill):
+    if isinstance(made, KeyedTrade | KeyedFill):
         if made.price not in (PriceCode.UNSAID, price) or isinstance(lawful, str):
             return False
-        if isinstance(lawful, Trade | Fill) and keys_of(made) == keys_of(lawful):
+        if isinstance(lawful, KeyedTrade | KeyedFill) and keys_of(made) == keys_of(lawful):
             if made.quantity == lawful.quantity:
                 return made.price != lawful.price
-    elif not isinstance(lawful, Trade | Fill) and each.item != "count":
+    elif not isinstance(lawful, KeyedTrade | KeyedFill) and each.item != "count":
         return False
     return context.recorded == result.fills.by_key()
 

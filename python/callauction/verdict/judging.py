@@ -21,12 +21,12 @@ from callauction.verdict.day_rows import DayRows
 from callauction.verdict.doubts import Doubts
 from callauction.verdict.executions import Executions
 from callauction.verdict.moments import Moments
-from callauction.verdict.paths import Judged, Judgement, Moment, Path, State
+from callauction.verdict.paths import Judged, Judgement, Moment, Path, PathState
 from callauction.verdict.phases import (
     BeyondError, Result, Sums, Taken, advance, empty, recorded_sums, uncross,
 )  # fmt: skip
 from callauction.verdict.rows import (
-    INTERRUPTED, OWN, STATES, Cell, PriceCode, Rows, StateCode,
+    INTERRUPTED, RESTRICTION_OF, SAID_AUCTIONS, AuctionCode, Cell, PriceCode, Rows,
 )  # fmt: skip
 from callauction.verdict.rules import Rules
 from callauction.verdict.tie_search import Orderings
@@ -95,7 +95,7 @@ class Judge:
         """The one path before the first uncross."""
         executed = numpy.zeros(len(self.day.room), "i8") if self.rules.has_totals else None
         reference = self.rows.prices.index(self.rules.reference)
-        first = State(empty(), reference, executed)
+        first = PathState(empty(), reference, executed)
         if self.rules.second_reference is not None:
             second = self.rows.prices.index(self.rules.second_reference)
             first = dataclasses.replace(first, second=second)
@@ -127,7 +127,7 @@ class Judge:
             yield self._beyond(path, place, traded, filled, path.judged[-1].beyond)
             return
         if ended >= len(self.due):
-            word = STATES[max(0, self.rows.state[place])] or "uncross"
+            word = SAID_AUCTIONS[max(0, self.rows.auction[place])] or "uncross"
             late = Difference("auction", word, "day over", (place,))
             found = doubted([late], self.uncross_doubts.why_auction(path, place))
             yield path.longer(Judged(place, Cell.MISSING, found, traded=traded, filled=filled))
@@ -136,7 +136,7 @@ class Judge:
         moment = Moment(number, place, path, self.due[ended], these, traded, filled)
         try:
             yield from self._paths(moment, search)
-            named = self.rows.state[place] - 1
+            named = self.rows.auction[place] - 1
             if named in self.due[ended + 1 :]:
                 yield from self._skipping(moment, self.due.index(named, ended + 1))
         except BeyondError as fault:
@@ -144,11 +144,11 @@ class Judge:
 
     def _beyond(self, path: Path, place: int, traded: Ints, filled: Ints, why: str) -> Path:
         """The path after an uncross of too large a book: of its named or its next auction."""
-        state = self.rows.state
-        stopped = StateCode.INTERRUPTED
+        state = self.rows.auction
+        stopped = AuctionCode.INTERRUPTED
         ended = sum(bool(it.beyond) and state[it.place] != stopped for it in path.judged)
         auction = self.due[min(path.state.ended + ended, len(self.due) - 1)]
-        if 0 < state[place] != StateCode.INTERRUPTED:
+        if 0 < state[place] != AuctionCode.INTERRUPTED:
             auction = int(state[place]) - 1
         named = self.executions.of(NAMED + auction)
         traded, filled = (numpy.concatenate(it) for it in zip((traded, filled), named))
@@ -178,8 +178,8 @@ class Judge:
         state = moment.path.state
         row = (moment.place,)
         skip = Difference("auction", AUCTIONS[self.due[ended]], AUCTIONS[moment.auction], row)
-        over = [OWN[it] for it in self.due[state.ended : ended]]
-        book = state.book.take(~numpy.isin(state.book.only, [it for it in over if it > 0]))
+        over = [RESTRICTION_OF[it] for it in self.due[state.ended : ended]]
+        book = state.book.take(~numpy.isin(state.book.restriction, [it for it in over if it > 0]))
         state = dataclasses.replace(state, book=book, ended=ended, is_extended=False)
         path = dataclasses.replace(moment.path, state=state)
         skipped = doubted([skip], self.uncross_doubts.why_auction(moment.path, moment.place))
@@ -197,7 +197,7 @@ class Judge:
         is_out = not state.is_extended and self._is_out(result, state)
         recorded = self._says_interrupted(moment)
         if recorded is False and is_out:
-            word = STATES[max(0, rows.state[moment.place])] or "executed"
+            word = SAID_AUCTIONS[max(0, rows.auction[moment.place])] or "executed"
             why = self.uncross_doubts.unsaid_stop
             wrong = Difference("auction", word, INTERRUPTED, (moment.place,), doubt=why)
             yield from self._executed(moment, taken, result, wrong)
@@ -208,7 +208,7 @@ class Judge:
         else:
             yield from self._executed(moment, taken, result, None)
 
-    def _is_out(self, result: Result, state: State) -> bool:
+    def _is_out(self, result: Result, state: PathState) -> bool:
         """Whether a lawful price is beyond a range."""
         prices = self.rows.prices
         second = None if state.second < 0 else prices[state.second]
@@ -218,15 +218,15 @@ class Judge:
 
     def _says_interrupted(self, moment: Moment) -> bool | None:
         """Whether an uncross is recorded as interrupted; None where nothing says it."""
-        state = self.rows.state[moment.place]
+        state = self.rows.auction[moment.place]
         if state > 0:
-            return bool(state == StateCode.INTERRUPTED)
+            return bool(state == AuctionCode.INTERRUPTED)
         has_any = len(moment.traded) or len(moment.filled) or self.rows.count[moment.place] > 0
         return False if has_any else None
 
     def _interrupted(self, moment: Moment, taken: Taken, result: Result, is_lawful: bool) -> Path:
         """The path after an interruption; its trades come at the next uncross."""
-        word = StateCode.INTERRUPTED if is_lawful else 1 + moment.auction
+        word = AuctionCode.INTERRUPTED if is_lawful else 1 + moment.auction
         items = compared_items(self.rows, moment.place, result, word)
         self.uncross_doubts.doubt_stop(items, self.uncross_doubts.unsaid_stop)
         state = dataclasses.replace(moment.path.state, book=taken.book, is_extended=True)
@@ -246,7 +246,7 @@ class Judge:
         items = compared_items(rows, place, result, 1 + moment.auction)
         if wrong is not None:
             items["auction"] = wrong
-        elif rows.state[place] == StateCode.INTERRUPTED:
+        elif rows.auction[place] == AuctionCode.INTERRUPTED:
             self.uncross_doubts.doubt_stop(items)
         is_wrong = items.get("price") is not None
         found, pairs = self.executions.compared(moment, taken.book, result, is_wrong)
@@ -290,7 +290,7 @@ class Judge:
             recorded, key = int(rows.kept[place]), int(rows.key[place])
             yield Difference(PRIORITY, words[recorded], words[1 - recorded], (place,), (key,))
 
-    def _path(self, moment: Moment, judged: Judged, taken: Taken, state: State) -> Path:
+    def _path(self, moment: Moment, judged: Judged, taken: Taken, state: PathState) -> Path:
         """The path of a moment, longer by its uncross."""
         path = moment.path
         longer = dataclasses.replace(
@@ -304,7 +304,7 @@ class Judge:
 
     def _next_states(
         self, moment: Moment, taken: Taken, result: Result
-    ) -> Iterator[tuple[State, Sums]]:
+    ) -> Iterator[tuple[PathState, Sums]]:
         """The states after an uncross, the recorded one first: by the recorded fills and the
         recorded price where there are any, and by the lawful ones; each with these fills. Without a
         recorded price none may be executed.
@@ -324,14 +324,14 @@ class Judge:
 
     def _state(
         self, moment: Moment, taken: Taken, reference: int, fills: Sums, is_priced: bool
-    ) -> State:
+    ) -> PathState:
         """The state after these fills: what is left stays, but for orders of this auction alone."""
         book, state, room = taken.book, moment.path.state, self.day.room
         room[:] = 0
         room[fills.keys] = fills.shares
         rest = book.quantity - room[book.key]
         left = dataclasses.replace(book, quantity=rest)
-        is_left = (rest > 0) & ((book.only <= 0) | (book.only != OWN[moment.auction]))
+        is_left = (rest > 0) & ~book.is_for(moment.auction)
         executed = None if state.executed is None else state.executed + room
         second = reference if state.second >= 0 and is_priced else state.second
-        return State(left.take(is_left), reference, executed, False, state.ended + 1, second)
+        return PathState(left.take(is_left), reference, executed, False, state.ended + 1, second)

@@ -11,7 +11,7 @@ from fractions import Fraction
 import numpy
 
 from callauction.verdict.cells import Ints, Mask
-from callauction.verdict.comparing import Fill, Trade
+from callauction.verdict.comparing import KeyedFill, KeyedTrade
 from callauction.verdict.paths import Judgement
 from callauction.verdict.phases import recorded_sums
 from callauction.verdict.rows import OF_ORDERS, SIDES, Kind, Rows
@@ -38,7 +38,7 @@ OF_ONE_ITEM = {"volume": "the volumes", "surplus": "the surpluses"}
 
 def _size(value: object) -> int:
     """The shares of a value, 0 where it has none."""
-    if isinstance(value, Trade | Fill):
+    if isinstance(value, KeyedTrade | KeyedFill):
         return value.quantity
     return value if isinstance(value, int) else 0
 

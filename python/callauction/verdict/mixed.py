@@ -13,7 +13,7 @@ from callauction.verdict.cells import Ints
 from callauction.verdict.columns import ExtractError
 from callauction.verdict.paths import Judgement
 from callauction.verdict.rows import (
-    OF_ORDERS, SAID, BadRow, Cell, Doubt, Kind, PriceCode, Rows, StateCode,
+    OF_ORDERS, SAID, AuctionCode, BadRow, Cell, Doubt, Kind, PriceCode, Rows,
 )  # fmt: skip
 from callauction.verdict.rules import Rules
 from callauction.words import AUCTIONS
@@ -27,7 +27,7 @@ MOST_RESULTS, MOST_ODD = 8, 2
 def _results(rows: Rows) -> Ints:
     """The rows uncross that publish something of an auction that ended."""
     says = (rows.price != PriceCode.UNSAID) | (rows.quantity >= 0)
-    is_over = (rows.kind == Kind.UNCROSS) & (rows.state != StateCode.INTERRUPTED)
+    is_over = (rows.kind == Kind.UNCROSS) & (rows.auction != AuctionCode.INTERRUPTED)
     return numpy.flatnonzero(is_over & says)
 
 
@@ -37,7 +37,7 @@ def _results(rows: Rows) -> Ints:
 def is_one_session(rows: Rows) -> bool:
     """Whether rows of two dates are of one session: within LONGEST, its auctions in their order."""
     at = rows.time[(rows.kind != Kind.BAD) & (rows.time != time_columns.NO_TIME)]
-    names = rows.state[_results(rows)]
+    names = rows.auction[_results(rows)]
     return bool(
         len(at) and at.max() - at.min() < LONGEST and (names > 0).all()
         and (numpy.diff(names.astype("i8")) > 0).all()
@@ -56,7 +56,7 @@ def refuse_days(rows: Rows) -> None:
     if first != last and not is_one_session(rows):
         condition = f"{rows.names.theirs['time']} < {last}T00:00:00"
         _refuse(rows, (one, other), "results of two days", f"--where '{condition}'")
-    of_auctions = [results[rows.state[results] == 1 + number] for number in range(len(AUCTIONS))]
+    of_auctions = [results[rows.auction[results] == 1 + number] for number in range(len(AUCTIONS))]
     is_single = sum(len(those) > 1 for those in of_auctions) == 1
     for number, those in enumerate(of_auctions):
         for one, other in zip(those.tolist(), those[1:].tolist()):
@@ -82,7 +82,7 @@ def _refuse(rows: Rows, both: tuple[int, int], what: str, how: str) -> None:
 def refuse_markets(rows: Rows, due: Sequence[int]) -> None:
     """Raises ExtractError where an unread column of results and entries tells two markets apart."""
     groups, results = [*doubled(rows, due).values()], _results(rows)
-    if not groups and (len(results) <= len(due) or (rows.state[results] > 0).any()):
+    if not groups and (len(results) <= len(due) or (rows.auction[results] > 0).any()):
         return
     for name in rows.names.unread:
         for one, other in _told_apart(rows, due, groups, name):
@@ -100,7 +100,7 @@ def refuse_sums(rows: Rows, due: Sequence[int]) -> None:
     """
     made = rows.of(Kind.TRADE, Kind.FILL)
     for those in doubled(rows, due).values() if has_more(rows, due) else ():
-        own, volumes = made[rows.state[made] == rows.state[those[0]]], rows.quantity[those]
+        own, volumes = made[rows.auction[made] == rows.auction[those[0]]], rows.quantity[those]
         fills = own[rows.kind[own] == Kind.FILL]
         shares = 2 * rows.quantity[own].sum() - rows.quantity[fills].sum()
         is_other = volumes.min() > 0 and len(numpy.unique(volumes)) == len(volumes)
@@ -120,7 +120,7 @@ def _told_apart(
     if not len(own) or not numpy.isin(own, codes[len(results) :]).all() or own.min() < 0:
         return
     counts = numpy.unique(own, return_counts=True)[1]
-    if (rows.state[results] <= 0).all() and len(counts) > 1 and counts.min() >= len(due):
+    if (rows.auction[results] <= 0).all() and len(counts) > 1 and counts.min() >= len(due):
         groups = [results]
     for those in groups:
         numbers = own[numpy.searchsorted(results, those)]
@@ -139,7 +139,7 @@ def refuse_parts(rows: Rows, due: Sequence[int]) -> None:
     """
     orders = rows.of(*OF_ORDERS)
     ends = rows.of(Kind.UNCROSS)
-    names = rows.state[ends] - 1
+    names = rows.auction[ends] - 1
     if len(names) > 1 and names.tolist() == [*due][::-1]:
         raise ExtractError("results are in reverse order (is the newest row first?): say --sort")
     timed = orders[rows.time[orders] != time_columns.NO_TIME]
@@ -190,7 +190,7 @@ def _by_time(rows: Rows, orders: Ints, ends: Ints) -> Ints:
 
 def has_more(rows: Rows, due: Sequence[int]) -> bool:
     """Whether there are more results than auctions, also such that say nothing."""
-    is_over = (rows.kind == Kind.UNCROSS) & (rows.state != StateCode.INTERRUPTED)
+    is_over = (rows.kind == Kind.UNCROSS) & (rows.auction != AuctionCode.INTERRUPTED)
     return int(is_over.sum()) > len(due)
 
 
@@ -204,7 +204,7 @@ def corrected(rows: Rows, due: Sequence[int]) -> Rows:
 def doubled(rows: Rows, due: Sequence[int]) -> dict[int, Ints]:
     """By its number the results of an auction that has several."""
     results = _results(rows)
-    names = rows.state[results] - 1
+    names = rows.auction[results] - 1
     names[(names < 0) & (len(due) == 1)] = due[0]
     those = {it: results[names == it] for it in due if due.count(it) == 1}
     return {it: own for it, own in those.items() if len(own) > 1}
@@ -223,7 +223,7 @@ def with_late_results(rows: Rows, due: Sequence[int]) -> Rows | None:
         latest = rows.time[above].max(initial=time_columns.NO_TIME)
         if time_columns.NO_TIME < time < latest <= time + LONGEST:
             key[place] = numpy.flatnonzero(rows.time > time)[0] - 0.5
-        elif is_more and rows.state[place] <= 0 and time not in rows.time[above]:
+        elif is_more and rows.auction[place] <= 0 and time not in rows.time[above]:
             own = above[:-1][others_said(rows, above[:-1], place) == 1]
             if len(own) == 1:
                 key[place] = own[0] + 0.5
@@ -275,7 +275,7 @@ def in_parts(rows: Rows, due: Sequence[int]) -> Ints:
         return numpy.zeros(0, "i8")
     ends, orders = _ends(rows), rows.of(*OF_ORDERS)
     said = numpy.array([getattr(rows, name)[ends] != Cell.MISSING for name in SAID])
-    state, before, time = rows.state[ends], numpy.searchsorted(orders, ends), rows.time[ends]
+    state, before, time = rows.auction[ends], numpy.searchsorted(orders, ends), rows.time[ends]
     is_named = (state[:-1] > 0) & (state[1:] > 0)
     are_parts = (state[:-1] == state[1:]) & ~(said[:, :-1] & said[:, 1:]).any(axis=0)
     is_near = (before[:-1] == before[1:]) & (numpy.abs(numpy.diff(time)) <= time_columns.SECOND)
@@ -289,11 +289,11 @@ def with_parts(rows: Rows, those: Ints) -> Rows:
     bad row.
     """
     ends, kind, bad = _ends(rows), rows.kind.copy(), [*rows.bad]
-    rows = dataclasses.replace(rows, state=rows.state.copy())
+    rows = dataclasses.replace(rows, auction=rows.auction.copy())
     for place in those[::-1].tolist():
         below = int(ends[numpy.searchsorted(ends, place) + 1])
         rows = rows.with_more_said(place, below)
-        rows.state[place] = max(rows.state[place], rows.state[below])
+        rows.auction[place] = max(rows.auction[place], rows.auction[below])
         why = f"it is read as more of the result in row {rows.labels[place]}"
         bad.append(BadRow(below, rows.labels[below], why, Doubt.ITEM, below))
         kind[below] = Kind.BAD
@@ -305,7 +305,8 @@ def stopped_again(rows: Rows) -> Ints:
     correct them.
     """
     ends, others = rows.of(Kind.UNCROSS), rows.of(*OF_ORDERS, Kind.TRADE, Kind.FILL)
-    is_stop, before = rows.state[ends] == StateCode.INTERRUPTED, numpy.searchsorted(others, ends)
+    is_stop = rows.auction[ends] == AuctionCode.INTERRUPTED
+    before = numpy.searchsorted(others, ends)
     is_again = is_stop[:-1] & is_stop[1:] & (before[:-1] == before[1:])
     found: Ints = ends[:-1][is_again]
     return found
@@ -347,7 +348,7 @@ def namings(found: Judgement, rows: Rows, rules: Rules) -> list[Named]:
     """
     results, due = _ends(rows), rules.due
     is_few = len(due) <= len(results) <= MOST_RESULTS
-    if not is_few or len({*due}) < len(due) or (rows.state[results] > 0).any():
+    if not is_few or len({*due}) < len(due) or (rows.auction[results] > 0).any():
         return []
     stops = _stops(found, rows, results)
     count = others_said(rows, results[:-1], results[1:])  # which the next one may correct
@@ -363,7 +364,8 @@ def namings(found: Judgement, rows: Rows, rules: Rules) -> list[Named]:
 
 def _ends(rows: Rows) -> Ints:
     """The rows uncross that aren't recorded as interruptions."""
-    return numpy.flatnonzero((rows.kind == Kind.UNCROSS) & (rows.state != StateCode.INTERRUPTED))
+    is_stop = rows.auction == AuctionCode.INTERRUPTED
+    return numpy.flatnonzero((rows.kind == Kind.UNCROSS) & ~is_stop)
 
 
 def _stops(found: Judgement, rows: Rows, results: Ints) -> list[bool]:
@@ -412,10 +414,10 @@ def _odd(way: Named, many: int) -> int:
 
 def with_names(rows: Rows, due: Sequence[int], way: Named) -> Rows:
     """The rows with the results named in this way, those that are corrected as bad rows."""
-    results, state = _ends(rows), rows.state.copy()
-    stopped = StateCode.INTERRUPTED
+    results, state = _ends(rows), rows.auction.copy()
+    stopped = AuctionCode.INTERRUPTED
     state[results] = [stopped if role is Role.STOP else 1 + due[it] for it, role in way]
-    rows = dataclasses.replace(rows, state=state)
+    rows = dataclasses.replace(rows, auction=state)
     numbers = numpy.array([Cell.MISSING if role is Role.STOP else it for it, role in way])
     for number in numpy.unique(numbers[numbers >= 0]).tolist():
         those = results[numbers == number]

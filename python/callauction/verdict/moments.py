@@ -7,7 +7,7 @@ import numpy
 
 from callauction.verdict import comparing
 from callauction.verdict.cells import Ints
-from callauction.verdict.comparing import Difference, Fill, Trade, doubted
+from callauction.verdict.comparing import Difference, KeyedFill, KeyedTrade, doubted
 from callauction.verdict.day_rows import DayRows
 from callauction.verdict.early_rows import Early
 from callauction.verdict.executions import Executions
@@ -101,8 +101,8 @@ class Moments:
                 continue
             at, labels = int(these[0]), rows.labels
             bid, of = int(rows.bid[at]), (int(rows.quantity[at]), int(rows.price[at]))
-            one: Trade | Fill = Fill(key, *of)
-            one = Trade(bid, int(rows.ask[at]), *of) if bid >= 0 else one
+            one: KeyedTrade | KeyedFill = KeyedFill(key, *of)
+            one = KeyedTrade(bid, int(rows.ask[at]), *of) if bid >= 0 else one
             time, name = rows.names.legible_time(cancel), rows.names.order(key)
             rule = CANCELLED.format(name, labels[cancel], f", {time}" * bool(time), labels[at],
                                     labels[place], above)  # fmt: skip

@@ -14,7 +14,7 @@ from callauction.verdict.cells import Codes, Ints
 from callauction.verdict.columns import UNKNOWN, form_of_id, look_of
 from callauction.verdict.paths import Judged, Judgement
 from callauction.verdict.phases import recorded_sums, sums
-from callauction.verdict.rows import SIDES, BadRow, Cell, Doubt, Kind, PriceCode, Rows, StateCode
+from callauction.verdict.rows import SIDES, AuctionCode, BadRow, Cell, Doubt, Kind, PriceCode, Rows
 
 QUOTES = "ids of a bid and an ask, read as two orders"
 FOREIGN = "cancels by others than the order's member"
@@ -162,9 +162,9 @@ def have_other_ids(rows: Rows, judgement: Judgement, again: Ints) -> bool:
     named = named[named >= 0]
     if not len(named) or numpy.isin(named, rows.key[rows.of(Kind.NEW)]).any():
         return False
-    stopped = StateCode.INTERRUPTED
+    stopped = AuctionCode.INTERRUPTED
     judged = [it for it in judgement.uncrosses
-              if it.result is not None and rows.state[it.place] != stopped]  # fmt: skip
+              if it.result is not None and rows.auction[it.place] != stopped]  # fmt: skip
     return all(_fits(rows, it, again) for it in judged)
 
 

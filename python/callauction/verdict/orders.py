@@ -13,7 +13,7 @@ import pandas
 
 from callauction.verdict.paths import Judged, Judgement, Path
 from callauction.verdict.phases import recorded_sums
-from callauction.verdict.rows import OF_ORDERS, OWN, SIDES, Kind, PriceCode, Rows
+from callauction.verdict.rows import OF_ORDERS, RESTRICTION_OF, SIDES, Kind, PriceCode, Rows
 from callauction.verdict.rules import Rules
 
 ORDERS = {
@@ -109,8 +109,8 @@ class _Lives:
         self.ended += 1
         for key, order in [*self.open.items()]:
             order.open = max(0, order.open - fills.get(key, 0))
-            only = int(self.rows.only[order.place])
-            if not order.open or (only > 0 and only == OWN[auction]):
+            restriction = int(self.rows.restriction[order.place])
+            if not order.open or restriction > 0 and restriction == RESTRICTION_OF[auction]:
                 self._close(order, "lapsed" if order.open else "executed")
 
     def _close(self, order: _Order, became: str) -> None:
@@ -183,7 +183,7 @@ def notes_of(rows: Rows, path: Path) -> Counter[str]:
         room[each.fills.keys] = each.fills.shares
         is_whole = room[book.key] >= book.quantity
         gone[book.key[is_whole]], ends[book.key[is_whole]] = 1, each.place
-        gone[book.key[~is_whole & (book.only > 0) & (book.only == OWN[each.auction])]] = 2
+        gone[book.key[~is_whole & book.is_for(each.auction)]] = 2
     gone[rows.key[cancels[rows.quantity[cancels] <= 0]]] = 3
     entries = [row.place for row in path.refused if rows.kind[row.place] == Kind.NEW]
     gone[rows.key[entries]] = 4

@@ -15,9 +15,7 @@ from callauction.verdict.mixed import (
     corrected, doubled, has_more, in_parts, namings, stopped_again, with_last_stops, with_names,
     with_parts,
 )  # fmt: skip
-from callauction.verdict.names import (
-    OTHER_IDS, have_other_ids, misentered, renamed, respelled,
-)  # fmt: skip
+from callauction.verdict.names import OTHER_IDS, have_other_ids, misentered, renamed, respelled
 from callauction.verdict.other_reading import OtherReading, of_rows
 from callauction.verdict.owners import Owners
 from callauction.verdict.paths import Judgement

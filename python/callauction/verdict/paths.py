@@ -5,18 +5,18 @@ from collections.abc import Mapping, Sequence
 
 from callauction.verdict.cells import NO_ROWS, Ints
 from callauction.verdict.comparing import Difference
-from callauction.verdict.phases import Book, Result, Sums, empty
+from callauction.verdict.phases import Result, StandingBook, Sums, empty
 from callauction.verdict.rows import BadRow, PriceCode
 
 
 @dataclasses.dataclass(frozen=True)
-class State:
+class PathState:
     """What is open before a call phase, the number of the reference, the shares of each order that
     were executed where replaces say totals, whether the auction was interrupted before, and the
     number of the current auction among those of the day.
     """
 
-    book: Book
+    book: StandingBook
     reference: int
     executed: Ints | None
     is_extended: bool = False
@@ -35,7 +35,7 @@ class Judged:
     auction: int
     differences: tuple[Difference, ...]
     result: Result | None = None
-    book: Book = dataclasses.field(default_factory=empty)
+    book: StandingBook = dataclasses.field(default_factory=empty)
     reference: int = PriceCode.UNSAID
     is_extended: bool = False
     """Whether the auction was interrupted before."""
@@ -103,7 +103,7 @@ class Path:
     """
 
     judged: tuple[Judged, ...]
-    state: State
+    state: PathState
     taken: int = 0
     waiting: tuple[Ints, Ints] = (NO_ROWS, NO_ROWS)
     refused: tuple[BadRow, ...] = ()

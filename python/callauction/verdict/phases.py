@@ -14,7 +14,9 @@ from callauction.arrays import COMMAND, Structs
 from callauction.limits import MOST_CALLS, MOST_OPEN, MOST_QUANTITY, MOST_TICKS
 from callauction.verdict import engine
 from callauction.verdict.cells import Array, Codes, Ints, Mask
-from callauction.verdict.rows import OWN, SIDES, BadRow, Doubt, Int8s, Kind, PriceCode, Rows
+from callauction.verdict.rows import (
+    RESTRICTION_OF, SIDES, BadRow, Doubt, Int8s, Kind, PriceCode, Rows,
+)  # fmt: skip
 from callauction.words import AUCTIONS, CommandTag, Refusal, ReplyTag
 
 GONE = -1
@@ -27,26 +29,35 @@ class BeyondError(Exception):
 
 
 @dataclasses.dataclass(frozen=True)
-class Book:
+class StandingBook:
     """The open orders in order of time; `since` is the row from which a place in time is."""
 
     key: Codes
     side: Int8s
     price: Codes
     quantity: Ints
-    only: Int8s
+    restriction: Int8s
     since: Ints
 
-    def take(self, rows: Array) -> "Book":
+    def take(self, rows: Array) -> "StandingBook":
         """Some of the orders."""
-        return Book(*(getattr(self, each.name)[rows] for each in dataclasses.fields(self)))
+        return StandingBook(*(getattr(self, each.name)[rows] for each in dataclasses.fields(self)))
 
     def __len__(self) -> int:
         return len(self.key)
 
     def counted(self, auction: int) -> Mask:
         """Which orders count in an auction."""
-        found: Mask = (self.only <= 0) | (self.only == OWN[auction])
+        return ~self.is_for_others(auction)
+
+    def is_for(self, auction: int) -> Mask:
+        """Which orders are for this auction alone."""
+        found: Mask = (self.restriction > 0) & (self.restriction == RESTRICTION_OF[auction])
+        return found
+
+    def is_for_others(self, auction: int) -> Mask:
+        """Which orders are for another auction alone."""
+        found: Mask = (self.restriction > 0) & (self.restriction != RESTRICTION_OF[auction])
         return found
 
     def ranked(self, which: Mask) -> Ints:
@@ -58,9 +69,9 @@ class Book:
         return these[numpy.argsort(rank, kind="stable")]
 
 
-def empty() -> Book:
+def empty() -> StandingBook:
     """A book without an order."""
-    return Book(*(numpy.zeros(0, kind) for kind in ("i4", "i1", "i4", "i8", "i1", "i8")))
+    return StandingBook(*(numpy.zeros(0, kind) for kind in ("i4", "i1", "i4", "i8", "i1", "i8")))
 
 
 @dataclasses.dataclass(frozen=True)
@@ -69,7 +80,7 @@ class Taken:
     open order, the cancels that do, and by the place of each replace whether it kept its own.
     """
 
-    book: Book
+    book: StandingBook
     refused: tuple[BadRow, ...]
     closed: Ints
     replaces: Ints
@@ -140,7 +151,7 @@ NOTHING = Result(None, 0, 0, 0, *(numpy.zeros(0, kind) for kind in ("i4", "i4", 
 
 
 def advance(
-    book: Book, rows: Rows, these: Ints, auction: int, executed: Ints | None, room: Ints
+    book: StandingBook, rows: Rows, these: Ints, auction: int, executed: Ints | None, room: Ints
 ) -> Taken:
     """A book after these rows of orders before an auction. `executed` has the shares of each key
     that were executed before, where replaces say their total; `room` is for a number of each key.
@@ -158,7 +169,7 @@ def advance(
 
 
 def _advance(
-    book: Book, rows: Rows, these: Ints, auction: int, executed: Ints | None, room: Ints
+    book: StandingBook, rows: Rows, these: Ints, auction: int, executed: Ints | None, room: Ints
 ) -> Taken:
     refused: list[BadRow] = []
     while True:
@@ -196,8 +207,8 @@ def _refused(rows: Rows, places: Ints, refusals: Array) -> list[BadRow]:
         doubt = Doubt.ORDER if rows.kind[place] == Kind.NEW else Doubt.BOOKS
         why = f"the rules say refused {number} {name}"
         if number == Refusal.PAST_AUCTION:
-            only = rows.names.cell(place, "restriction")
-            why += f": restriction {only!r}, an auction that isn't held or is over"
+            restriction = rows.names.cell(place, "restriction")
+            why += f": restriction {restriction!r}, an auction that isn't held or is over"
         found.append(BadRow(place, rows.labels[place], why, doubt, place))
     return found
 
@@ -226,7 +237,7 @@ class _Sent:
 
     @classmethod
     def of(
-        cls, book: Book, rows: Rows, these: Ints, executed: Ints | None, room: Ints,
+        cls, book: StandingBook, rows: Rows, these: Ints, executed: Ints | None, room: Ints,
         reference: int = PriceCode.MARKET,
     ) -> "_Sent":  # fmt: skip
         """The commands of a book and these rows."""
@@ -250,13 +261,13 @@ class _Sent:
         own["id"] = numpy.where(is_new, 0, room[rows.key[sent]])
         own["quantity"] = numpy.where(gone, 0, quantity)
         own["side"] = numpy.where(is_new, rows.side[sent], 0)
-        own["restriction"] = numpy.where(is_new, numpy.maximum(rows.only[sent], 0), 0)
+        own["restriction"] = numpy.where(is_new, numpy.maximum(rows.restriction[sent], 0), 0)
         own["has_limit"] = (price != PriceCode.MARKET) & ~gone
         own["limit"] = numpy.where(own["has_limit"] == 1, ticks[len(book) : -1], 0)
         keys = numpy.concatenate([[0], book.key, entered]).astype("i4")
         return cls(commands, sent, these[~is_known], keys, named)
 
-    def book_after(self, book: Book, replies: Structs) -> Book:
+    def book_after(self, book: StandingBook, replies: Structs) -> StandingBook:
         """The book after the commands that weren't refused, by the replies to those of rows."""
         begin, count = len(book), len(self.commands)
         done = numpy.ones(count, bool)
@@ -278,14 +289,14 @@ class _Sent:
         limit = numpy.maximum(at["limit"].astype("i8") - 1, 0)
         price = numpy.where(at["has_limit"] == 1, self.named[limit], PriceCode.MARKET)
         entered = self.commands[entry[left]]
-        return Book(
+        return StandingBook(
             self.keys[left], entered["side"].astype("i1"), price.astype("i4"),
             at["quantity"].astype("i8"), entered["restriction"].astype("i1"), since[first[left]],
         )  # fmt: skip
 
 
 def _wanted(
-    book: Book, rows: Rows, sent: Ints, executed: Ints | None, room: Ints
+    book: StandingBook, rows: Rows, sent: Ints, executed: Ints | None, room: Ints
 ) -> tuple[Ints, Codes, Mask]:
     """The quantity and the limit that each row gives its order, and which rows take it out."""
     kind, key = rows.kind[sent], rows.key[sent]
@@ -304,7 +315,7 @@ def _wanted(
 
 
 def _cancel_parts(
-    book: Book, rows: Rows, sent: Ints, quantity: Ints, price: Codes, parts: Mask
+    book: StandingBook, rows: Rows, sent: Ints, quantity: Ints, price: Codes, parts: Mask
 ) -> None:
     """Sets the quantity and the price of cancels of some shares to what the order has then."""
     kind, key = rows.kind[sent], rows.key[sent]
@@ -325,12 +336,13 @@ def _cancel_parts(
     price[these[change]] = limit[first][place][change]
 
 
-def _entries(book: Book, ticks: Codes) -> Structs:
+def _entries(book: StandingBook, ticks: Codes) -> Structs:
     """The commands that enter a book."""
     commands = numpy.zeros(len(book), COMMAND)
     commands["tag"], commands["member"] = CommandTag.ENTER, engine.MEMBER
     commands["side"], commands["quantity"] = book.side, book.quantity
-    commands["restriction"], commands["has_limit"] = book.only, book.price != PriceCode.MARKET
+    commands["restriction"] = book.restriction
+    commands["has_limit"] = book.price != PriceCode.MARKET
     commands["limit"] = numpy.where(book.price == PriceCode.MARKET, 0, ticks)
     return commands
 
@@ -360,7 +372,7 @@ def _answers(auction: int, commands: Structs, named: Codes, reference: int, orde
 
 
 @dataclasses.dataclass(frozen=True)
-class Uncross:
+class UncrossCommands:
     """The commands that uncross a book: its entries, the uncross, and questions for trades."""
 
     commands: Structs
@@ -371,7 +383,7 @@ class Uncross:
     auction: int
 
     @classmethod
-    def of(cls, book: Book, auction: int, reference: int) -> "Uncross":
+    def of(cls, book: StandingBook, auction: int, reference: int) -> "UncrossCommands":
         """The commands of a book at an auction of the day. Raises BeyondError."""
         if len(book) > MOST_OPEN:
             raise BeyondError(f"more than {MOST_OPEN:,} orders are open")
@@ -385,7 +397,7 @@ class Uncross:
         commands["tag"][count] = CommandTag.UNCROSS
         return cls(commands, named, int(ticks[-1]), auction)
 
-    def result(self, book: Book) -> Result:
+    def result(self, book: StandingBook) -> Result:
         """What the rules give."""
         count = len(book)
         replies = _answers(self.auction, self.commands, self.named, self.reference, count)
@@ -405,16 +417,16 @@ class Uncross:
         return engine.journal_of(len(self.named), self.reference, count, commands)
 
 
-def uncross(book: Book, auction: int, reference: int) -> Result:
+def uncross(book: StandingBook, auction: int, reference: int) -> Result:
     """What the rules give for a book, whatever the range is. Raises BeyondError."""
-    return Uncross.of(book, auction, reference).result(book)
+    return UncrossCommands.of(book, auction, reference).result(book)
 
 
 # ---- other moments
 
 
 def indicated(
-    book: Book, rows: Rows, these: Ints, auction: int, reference: int, room: Ints
+    book: StandingBook, rows: Rows, these: Ints, auction: int, reference: int, room: Ints
 ) -> tuple[Ints, Ints, Ints, Ints]:
     """The rows that name an open order, and after each the price that there would have been (or
     PriceCode.MARKET), its volume and its surplus; for replaces that say what is open. Raises

@@ -15,7 +15,7 @@ from callauction.verdict.columns import is_id, is_trade_id, is_unknown, look_of
 from callauction.verdict.paths import Judgement
 from callauction.verdict.phases import recorded_sums
 from callauction.verdict.rows import (
-    OF_ORDERS, SAID, BadRow, Cell, Doubt, Hole, Kind, Rows, StateCode,
+    OF_ORDERS, SAID, AuctionCode, BadRow, Cell, Doubt, Hole, Kind, Rows,
 )  # fmt: skip
 
 _NO_RESULT = -100
@@ -29,7 +29,9 @@ TRIES = 2_000
 """How many ways there are at most to leave copies out of an auction."""
 
 
-def drop_sent_again(rows: Rows, columns: Columns, sequence: Ints | None, lead: Codes) -> None:
+def drop_sent_again(
+    rows: Rows, columns: Columns, sequence: Ints | None, instruments: Codes
+) -> None:
     """Leaves out rows that were sent again: all cells the same, and the sequence and the time; or,
     without sequences, the time, where a second one would change nothing. One of another's sequence
     and time with other cells is a bad one.
@@ -41,8 +43,8 @@ def drop_sent_again(rows: Rows, columns: Columns, sequence: Ints | None, lead: C
             again = content.duplicated() & ~_has_others(rows, these, content)
             _drop(rows, these[again.to_numpy()])
         return
-    _drop_results(rows, columns, lead)
-    marks = paired_codes(paired_codes(lead, numbered(rows.time)), sequence + 1)
+    _drop_results(rows, columns, instruments)
+    marks = paired_codes(paired_codes(instruments, numbered(rows.time)), sequence + 1)
     twice = pandas.Series(marks).duplicated(keep=False).to_numpy()
     these = numpy.flatnonzero(twice & (sequence >= 0) & (rows.kind != Kind.BAD))
     if len(these) < 2:
@@ -57,7 +59,7 @@ def drop_sent_again(rows: Rows, columns: Columns, sequence: Ints | None, lead: C
         _refuse_both(rows, columns, int(left[marks[left] == marks[place]][0]), int(place))
 
 
-def drop_sides_again(rows: Rows, columns: Columns, sequence: Ints, lead: Codes) -> None:
+def drop_sides_again(rows: Rows, columns: Columns, sequence: Ints, instruments: Codes) -> None:
     """Leaves out rows of trades that were sent again, with all cells, the sequence and the time,
     before those of both sides are joined.
     """
@@ -65,19 +67,19 @@ def drop_sides_again(rows: Rows, columns: Columns, sequence: Ints, lead: Codes) 
     these = made[sequence[made] >= 0]
     if len(these) < 2:
         return
-    marks = paired_codes(paired_codes(lead, numbered(rows.time))[these], sequence[these] + 1)
+    marks = paired_codes(paired_codes(instruments, numbered(rows.time))[these], sequence[these] + 1)
     own = paired_codes(marks, columns.content(these))
     _drop(rows, these[pandas.Series(own).duplicated().to_numpy()])
 
 
-def _drop_results(rows: Rows, columns: Columns, lead: Codes) -> None:
+def _drop_results(rows: Rows, columns: Columns, instruments: Codes) -> None:
     """Leaves out later results that say what the one before of their auction says, with its name
     and its time: all but the sequence is the same.
     """
-    is_named = (rows.kind == Kind.UNCROSS) & (rows.state > 0) & (rows.time != time_columns.NO_TIME)
-    these = numpy.flatnonzero(is_named)
+    is_named = (rows.kind == Kind.UNCROSS) & (rows.auction > 0)
+    these = numpy.flatnonzero(is_named & (rows.time != time_columns.NO_TIME))
     if len(these) > 1:
-        own = paired_codes(lead[these], columns.content(these, "sequence"))
+        own = paired_codes(instruments[these], columns.content(these, "sequence"))
         content = pandas.Series(own)
         again = content.duplicated() & ~_has_others(rows, these, content)
         _drop(rows, these[again.to_numpy()])
@@ -87,7 +89,7 @@ def _unsay(rows: Rows, place: int, these: Ints) -> None:
     """Takes out of the other results of an auction, of these rows, what one that is there twice
     says otherwise: nothing says which is right.
     """
-    is_own = (rows.kind[these] == Kind.UNCROSS) & (rows.state[these] == rows.state[place])
+    is_own = (rows.kind[these] == Kind.UNCROSS) & (rows.auction[these] == rows.auction[place])
     for name in SAID:
         values = getattr(rows, name)
         odd = these[is_own & (values[these] != values[place])]
@@ -109,8 +111,9 @@ def _refuse_both(rows: Rows, columns: Columns, first: int, second: int) -> None:
 
 def _has_others(rows: Rows, these: Ints, content: "pandas.Series") -> "pandas.Series":
     """Which of these rows are results of an auction above which another one is: the last counts."""
-    is_result = (rows.kind[these] == Kind.UNCROSS) & (rows.state[these] != StateCode.INTERRUPTED)
-    of_auction = pandas.Series(numpy.where(is_result, rows.state[these], _NO_RESULT))
+    kind, auction = rows.kind[these], rows.auction[these]
+    is_result = (kind == Kind.UNCROSS) & (auction != AuctionCode.INTERRUPTED)
+    of_auction = pandas.Series(numpy.where(is_result, auction, _NO_RESULT))
     return (content.groupby(of_auction).shift() != content) & is_result
 
 
@@ -138,7 +141,7 @@ def _drop(rows: Rows, again: Ints) -> None:
 def _repeatable(rows: Rows) -> Ints:
     """Rows of which one more changes nothing: at one time, an entry or a named result at any."""
     kind = rows.kind
-    named = (kind == Kind.UNCROSS) & (rows.state > 0) & (rows.time != time_columns.NO_TIME)
+    named = (kind == Kind.UNCROSS) & (rows.auction > 0) & (rows.time != time_columns.NO_TIME)
     whole = (kind == Kind.REPLACE) | (kind == Kind.UNCROSS) & ~named
     whole |= (kind == Kind.CANCEL) & (rows.quantity <= 0)
     tied = numpy.flatnonzero(whole & (numpy.bincount(rows.group)[rows.group] > 1))
@@ -146,7 +149,7 @@ def _repeatable(rows: Rows) -> Ints:
     news, named = numpy.flatnonzero(kind == Kind.NEW), numpy.flatnonzero(named)
     twice = [
         these[pandas.Series(values).duplicated(keep=False).to_numpy()]
-        for these, values in ((tied, marks), (news, rows.key[news]), (named, rows.state[named]))
+        for these, values in ((tied, marks), (news, rows.key[news]), (named, rows.auction[named]))
     ]
     return numpy.sort(numpy.concatenate(twice))
 
@@ -159,7 +162,7 @@ def second_trades(rows: Rows) -> Ints:
     has two; else none.
     """
     unread = [it.place for it in rows.bad if it.doubt is Doubt.TRADES and it.place >= 0]
-    is_other = (rows.kind == Kind.BAD) & (rows.state == StateCode.CONTINUOUS) & (rows.bid >= 0)
+    is_other = (rows.kind == Kind.BAD) & (rows.auction == AuctionCode.CONTINUOUS) & (rows.bid >= 0)
     trades = numpy.union1d(rows.of(Kind.TRADE, Kind.TAKEN), numpy.flatnonzero(is_other))
     trades = numpy.union1d(trades, numpy.array(unread, "i8"))
     keys = [rows.quantity[trades], *(side[trades].astype("i8") for side in (rows.ask, rows.bid))]
@@ -178,7 +181,7 @@ def copies(rows: Rows, judgement: Judgement) -> Ints:
     """
     parts = (rows.kind == Kind.CANCEL) & (rows.quantity > 0)
     made = numpy.union1d(rows.of(Kind.TRADE, Kind.FILL), numpy.flatnonzero(parts))
-    names = ("kind", "time", "key", "bid", "ask", "quantity", "price", "state", "member",
+    names = ("kind", "time", "key", "bid", "ask", "quantity", "price", "auction", "member",
              "bid_member", "ask_member")  # fmt: skip
     frame = pandas.DataFrame({name: getattr(rows, name)[made] for name in names})
     content, unsure = frame.copy(), numpy.zeros(len(made), bool)

@@ -11,7 +11,7 @@ import numpy
 
 from callauction.verdict.cells import Ints, Mask
 from callauction.verdict.certain import RULES, with_certain
-from callauction.verdict.comparing import PRIORITY, Difference, Fill, Trade, doubted
+from callauction.verdict.comparing import PRIORITY, Difference, KeyedFill, KeyedTrade, doubted
 from callauction.verdict.coverage import PRICE_ITEMS
 from callauction.verdict.doubts import has_lawful_orders
 from callauction.verdict.judging import Judge
@@ -83,7 +83,7 @@ class _Unsaid:
             return False
         if each.item == "auction":
             return self._explains_name(number, each)
-        is_made = isinstance(each.recorded or each.lawful, Trade | Fill)
+        is_made = isinstance(each.recorded or each.lawful, KeyedTrade | KeyedFill)
         if judged.result is None or is_made and has_lawful_orders(each):
             return False
         if not self.known[number]:

@@ -20,7 +20,7 @@ Int8s = NDArray[numpy.int8]
 SIDES = ("none", "bid", "ask")
 """What the column `side` says, by its number."""
 INTERRUPTED, CONTINUOUS = "interrupted", "continuous"
-STATES = ("", *AUCTIONS, INTERRUPTED)
+SAID_AUCTIONS = ("", *AUCTIONS, INTERRUPTED)
 """What the column `auction` says of a result, by its number: 0 says nothing."""
 SAID = ("price", "quantity", "surplus", "side", "count")
 """What a result says beside its auction: names of the arrays of rows."""
@@ -82,7 +82,7 @@ class PriceCode:
     """
 
 
-class StateCode:
+class AuctionCode:
     """What a row says of its auction beside one's number and 1, in `state`."""
 
     INTERRUPTED: Final = 4
@@ -93,7 +93,7 @@ class StateCode:
 
 OF_ORDERS = (Kind.NEW, Kind.REPLACE, Kind.CANCEL)
 """The kinds of rows of orders."""
-OWN = (1, Cell.MISSING, 2)
+RESTRICTION_OF = (1, Cell.MISSING, 2)
 """By the number of an auction the restriction to it alone, in `only`, where there is one."""
 
 
@@ -269,9 +269,9 @@ class Rows:
     side: Int8s
     price: Codes
     quantity: Ints
-    only: Int8s
+    restriction: Int8s
     kept: Int8s
-    state: Int8s
+    auction: Int8s
     surplus: Ints
     count: Ints
     bid: Codes

@@ -1,10 +1,11 @@
 """What a day was opened with: see Rules."""
 import dataclasses
 import math
+from collections.abc import Sequence
 from decimal import Decimal
 from fractions import Fraction
 
-from callauction.prices import argument
+from callauction.prices import argument, tick_size_of
 from callauction.words import AUCTIONS
 
 
@@ -95,3 +96,45 @@ class Rules:
         """The ranges around the present references, each with its own."""
         both = ((self.range, reference), (self.second, second))
         return [(span, at) for span, at in both if span is not None and at is not None]
+
+
+@dataclasses.dataclass(frozen=True)
+class SaidTerms:
+    """What a day was opened with, as it is said: the arguments of audit_events."""
+
+    reference: object
+    tick_size: object = None
+    range: object = None
+    low: object = None
+    high: object = None
+    auctions: Sequence[str] = AUCTIONS
+    second_reference: object = None
+    second_range: object = None
+
+    def rules(self, quantity: str = "") -> Rules:
+        """The rules of the day; `quantity` is what replaces say, as a reading has it. Raises
+        ValueError.
+        """
+        strange = [name for name in self.auctions if name not in AUCTIONS]
+        if strange or not self.auctions:
+            said = ", ".join(self.auctions)
+            raise ValueError(f"auctions {said!r} must be of {', '.join(AUCTIONS)}")
+        low, high, second = map(self._number, ("low", "high", "second_reference"))
+        reference = argument("reference", self.reference)
+        if low is not None and reference < low:
+            raise ValueError(f"reference {reference} is below low {low}")
+        if high is not None and reference > high:
+            raise ValueError(f"reference {reference} is above high {high}")
+        first, other = map(range_of, ("range", "second_range"), (self.range, self.second_range))
+        if (second is None) != (other is None):
+            raise ValueError("second_reference and second_range: one needs the other")
+        size = None if self.tick_size is None else tick_size_of(self.tick_size)
+        return Rules(
+            reference, size, first, low, high, tuple(self.auctions), quantity == "total",
+            not quantity, other, second,
+        )  # fmt: skip
+
+    def _number(self, name: str) -> Decimal | None:
+        """The decimal that is said of this; None for none. Raises ValueError."""
+        value = getattr(self, name)
+        return None if value is None else argument(name, value)

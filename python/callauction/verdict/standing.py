@@ -135,15 +135,15 @@ def _placed(rows: Rows, found: Judgement) -> Rows | None:
     without any, or with one auction.
     """
     ended = [it for it in found.uncrosses if it.is_ended and it.result is not None]
-    is_late = (rows.kind == Kind.TRADE) & (rows.time == time_columns.NO_TIME) & (rows.state <= 0)
+    is_late = (rows.kind == Kind.TRADE) & (rows.time == time_columns.NO_TIME) & (rows.auction <= 0)
     if len(ended) < 2 or not is_late.any():
         return None
-    state, entered = rows.state.copy(), rows.entered(len(rows.names.ids) + 1)
+    state, entered = rows.auction.copy(), rows.entered(len(rows.names.ids) + 1)
     for place in numpy.flatnonzero(is_late).tolist():
         last = max(0, *(int(entered[it[place]]) for it in (rows.bid, rows.ask)))
         far = [(last > it.place, *_distance(rows, place, it)) for it in ended]
         state[place] = 1 + ended[far.index(min(far))].auction
-    return dataclasses.replace(rows, state=state)
+    return dataclasses.replace(rows, auction=state)
 
 
 def _distance(rows: Rows, place: int, judged: Judged) -> tuple[bool, bool, bool]:

@@ -6,7 +6,7 @@ from collections.abc import Iterator
 import numpy
 
 from callauction.verdict.cells import Ints, Mask
-from callauction.verdict.phases import Book, Result, sums
+from callauction.verdict.phases import Result, StandingBook, sums
 from callauction.verdict.rows import Kind, Rows
 from callauction.verdict.time_columns import NO_TIME
 
@@ -94,7 +94,7 @@ class Ties:
             sets.setdefault((int(rows.key[place]), int(rows.group[place])), []).append(place)
         return [*sets.values()]
 
-    def carried(self, book: Book, above: Ints) -> str:
+    def carried(self, book: StandingBook, above: Ints) -> str:
         """Why the book before a phase is in doubt: ties of its orders that are too many to try."""
         if self.orders_of_ties(self.orders)[1] is not None:
             return ""
@@ -118,7 +118,7 @@ class Ties:
         return why, found[1:]
 
     def of_shares(
-        self, book: Book, auction: int, result: Result, traded: Ints, filled: Ints
+        self, book: StandingBook, auction: int, result: Result, traded: Ints, filled: Ints
     ) -> str:
         """Why the shares of both sides may be lawful: rows of one time came in another order."""
         rows = self.rows
@@ -142,7 +142,7 @@ class Ties:
             reasons.append(why)
         return next(filter(None, reasons), "")
 
-    def _shared(self, book: Book, those: Mask, shares: Ints, result: Result) -> str | None:
+    def _shared(self, book: StandingBook, those: Mask, shares: Ints, result: Result) -> str | None:
         """Why a side's shares are lawful in another order of one time; None where they aren't."""
         rows = self.rows
         these = book.ranked(those)

@@ -12,8 +12,8 @@ from callauction.verdict.coverage import PRICE_ITEMS
 from callauction.verdict.day_rows import DayRows
 from callauction.verdict.doubts import Doubts, Reason
 from callauction.verdict.paths import Judged, Moment, Path
-from callauction.verdict.phases import Book, Result, Taken
-from callauction.verdict.rows import BadRow, Rows, StateCode
+from callauction.verdict.phases import Result, StandingBook, Taken
+from callauction.verdict.rows import AuctionCode, BadRow, Rows
 from callauction.words import AUCTIONS
 
 NO_STOPS = "no row can say that an uncross was interrupted before, as it may have been"
@@ -60,7 +60,7 @@ class UncrossDoubts:
 
     def _with_reason(
         self, differences: tuple[Difference, ...], items: Items, reason: Reason, moment: Moment,
-        book: Book,
+        book: StandingBook,
     ) -> tuple[Difference, ...]:  # fmt: skip
         """The differences in doubt for a reason, but for those that a missing order can't change,
         where no execution above of their orders is in doubt: whether a replace kept its place, and
@@ -146,7 +146,7 @@ class UncrossDoubts:
         """The trades and fills of an uncross that is recorded as interrupted, which are in doubt
         without a range.
         """
-        if self.rows.state[place] == StateCode.INTERRUPTED and not self.day.rules.has_range:
+        if self.rows.auction[place] == AuctionCode.INTERRUPTED and not self.day.rules.has_range:
             return [*doubted(found, NO_RANGE)]
         return found
 

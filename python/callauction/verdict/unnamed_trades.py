@@ -6,7 +6,7 @@ import numpy
 
 from callauction.verdict import time_columns
 from callauction.verdict.cells import Ints, Mask
-from callauction.verdict.rows import Kind, Rows, StateCode
+from callauction.verdict.rows import AuctionCode, Kind, Rows
 from callauction.words import AUCTIONS
 
 LONGEST_CALL = 1800 * time_columns.SECOND
@@ -21,7 +21,7 @@ class Strays:
     def __init__(self, rows: Rows, orders: Ints, uncrosses: Ints) -> None:
         kind = rows.kind
         self.rows, self.orders, self.uncrosses = rows, orders, uncrosses
-        made = ((kind == Kind.TRADE) | (kind == Kind.FILL)) & (rows.state <= 0)
+        made = ((kind == Kind.TRADE) | (kind == Kind.FILL)) & (rows.auction <= 0)
         self.made: Ints = numpy.flatnonzero(made)
         parts = (self.made, orders, uncrosses)
         self.is_timed = all((rows.time[these] != time_columns.NO_TIME).all() for these in parts)
@@ -70,7 +70,7 @@ class Strays:
         that are away from all of them (rows of orders are between, or more than a second), of which
         auctions each may be.
         """
-        ends = self.uncrosses[self.rows.state[self.uncrosses] != StateCode.INTERRUPTED]
+        ends = self.uncrosses[self.rows.auction[self.uncrosses] != AuctionCode.INTERRUPTED]
         if len(ends) >= len(due) or len({*due}) < len(due):
             return {}
         count, before, after, began, goes_on = self._around(ends)
@@ -81,7 +81,7 @@ class Strays:
         blocks = [*zip(count.tolist(), numpy.searchsorted(self.spots, self.at).tolist())]
         held = [(number, -1) for number in range(1, 1 + len(ends))]
         held = sorted({*held, *itertools.compress(blocks, is_away)})
-        names = (self.rows.state[ends] - 1).tolist()
+        names = (self.rows.auction[ends] - 1).tolist()
         found = dict(zip(held, self._held(held, names, due)))
         made = [*itertools.compress(zip(self.made.tolist(), blocks), is_away)]
         made += [(at, (number, -1)) for number, at in enumerate(ends.tolist(), 1)]
