@@ -116,7 +116,7 @@ def test_a_full_auction_ends_it() -> None:
         assert raised.value.applied == 0 and len(replied(raised.value)) == 0
 
 
-def test_arrays_of_another_kind() -> None:
+def test_arrays_of_another_kind_are_refused() -> None:
     unaligned = numpy.zeros(3 * COMMAND.itemsize + 1, "u1")[1:].view(COMMAND)
     packed = numpy.dtype([(name, COMMAND[name]) for name in COMMAND.names or ()])
     swapped = COMMAND.newbyteorder()
@@ -150,7 +150,7 @@ def test_arrays_of_another_kind() -> None:
 
 
 @pytest.mark.parametrize("begin", [0, 40, 80])
-def test_arrays_that_share_memory(begin: int) -> None:
+def test_arrays_that_share_memory_are_refused(begin: int) -> None:
     read, written = 2 * COMMAND.itemsize, 2 * REPLY.itemsize
     memory = numpy.zeros(written + read, "u1")
     memory[begin : begin + read].view(COMMAND)[:] = some(2)

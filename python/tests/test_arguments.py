@@ -69,14 +69,14 @@ def fails(fault: type[Exception], name: str, call: Call, value: object) -> None:
 
 
 @pytest.mark.parametrize("name, beyond, call", CALLS)
-def test_no_integer(name: str, beyond: int, call: Call) -> None:
+def test_what_is_no_integer_is_refused(name: str, beyond: int, call: Call) -> None:
     for value in NO_INTEGERS:
         if value is not None or name not in MAY_BE_NONE:
             fails(TypeError, name, call, value)
 
 
 @pytest.mark.parametrize("name, beyond, call", CALLS)
-def test_out_of_range(name: str, beyond: int, call: Call) -> None:
+def test_integers_out_of_range_are_refused(name: str, beyond: int, call: Call) -> None:
     for value in (-1, beyond, 2**100, -(2**100), numpy.int64(-1)):
         fails(ValueError, name, call, value)
 
@@ -96,7 +96,7 @@ def test_integers_of_numpy_are_integers() -> None:
 
 
 @pytest.mark.parametrize("side", [1, "bid", None, Restriction.OPENING_ONLY])
-def test_no_side(side: object) -> None:
+def test_what_is_no_side_is_refused(side: object) -> None:
     fails(TypeError, "side", lambda auction, value: auction.enter(1, value, 1), side)
 
 
@@ -105,7 +105,7 @@ def test_a_side_that_no_order_has() -> None:
 
 
 @pytest.mark.parametrize("restriction", [1, "opening", None, BID])
-def test_no_auctions(restriction: object) -> None:
+def test_what_is_no_restriction_is_refused(restriction: object) -> None:
     fails(
         TypeError,
         "restriction",
@@ -115,7 +115,7 @@ def test_no_auctions(restriction: object) -> None:
 
 
 @pytest.mark.parametrize("command", [None, "ask", 5, {}, Auction, object()])
-def test_no_command(command: object) -> None:
+def test_what_is_no_command_is_refused(command: object) -> None:
     fails(TypeError, "command", lambda auction, value: auction.apply(1, value), command)
 
 
@@ -136,7 +136,7 @@ def test_no_command(command: object) -> None:
         ({"max_calls": 1_048_577}, "max_open, max_calls"),
     ],
 )
-def test_a_bad_config(config: dict[str, int], names: str) -> None:
+def test_a_bad_config_is_named(config: dict[str, int], names: str) -> None:
     with pytest.raises(ValueError, match=f"^{names}: "):
         Auction(**config)
 
@@ -146,7 +146,7 @@ def test_the_most_that_may_be() -> None:
         assert len(auction.ladder()[0]) == 65_536
 
 
-def test_unknown_arguments() -> None:
+def test_unknown_and_missing_arguments_are_refused() -> None:
     with pytest.raises(TypeError):
         Auction(members=4)  # type: ignore[call-arg]
     with Auction() as auction, pytest.raises(TypeError):
@@ -189,7 +189,7 @@ class Failing:
         raise KeyError("no")
 
 
-def test_strange_integers() -> None:
+def test_integers_of_strange_classes_leave_the_auction_as_it_was() -> None:
     with Auction() as auction:
         with pytest.raises(ValueError):
             auction.enter(1, BID, Changing())  # type: ignore[arg-type]

@@ -115,7 +115,7 @@ def test_eight_threads_beside_the_rules() -> None:
     assert (status, audit.splitlines()[-1], fault) == (0, "audit legal", "")
 
 
-def test_what_a_member_sees() -> None:
+def test_a_member_sees_all_calls() -> None:
     with Board(2, **DAY, max_calls=10, reserve=2) as board:
         first, second = board.members
         assert (first.number, second.number, len(board)) == (0, 1, 2)
@@ -139,7 +139,7 @@ def test_what_a_member_sees() -> None:
         assert (first.calls, second.calls) == (3, 5)
 
 
-def test_a_full_board() -> None:
+def test_a_full_board_takes_no_call() -> None:
     with Board(1, **DAY, max_calls=2) as board:
         for _ in range(2):
             board[0].indicate()
@@ -174,7 +174,7 @@ def test_the_last_calls_are_the_operators() -> None:
         assert board[1].indicate().number == 1
 
 
-def test_a_closed_board() -> None:
+def test_a_closed_board_gives_its_day_and_takes_no_call() -> None:
     board = Board(2, **DAY)
     board[1].indicate()
     with pytest.raises(AuctionError, match="the board isn't closed, so its day isn't over"):
@@ -365,7 +365,7 @@ def test_a_board_that_cannot_be_opened(given: dict[str, int], fault: str) -> Non
         (lambda member: member.history(-1), ValueError),
     ],
 )
-def test_a_bad_argument(command: Any, fault: type[Exception]) -> None:
+def test_a_bad_argument_is_no_call(command: Any, fault: type[Exception]) -> None:
     with Board(1, **DAY) as board:
         with pytest.raises(fault):
             command(board[0])

@@ -41,7 +41,7 @@ def auctions_of(*seeds: int) -> dict[str, Auction]:
 
 
 @pytest.mark.parametrize("seed", range(0, 60, 12))
-def test_many_auctions_at_once(
+def test_of_many_auctions_each_has_its_own_verdict(
     seed: int, tmp_path: Path, capsys: pytest.CaptureFixture[str]
 ) -> None:
     """Each has the verdict that it has by itself; a wrong volume is one finding of its own."""

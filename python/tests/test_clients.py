@@ -40,7 +40,7 @@ def test_an_order_keeps_its_client() -> None:
         assert auction.orders()["client"].tolist() == [0]
 
 
-def test_a_column_of_clients() -> None:
+def test_a_column_gives_each_order_its_client() -> None:
     made = commands(side=[BID, ASK], quantity=5, limit=200, client=[MOST, 3])
     assert made["client"].tolist() == [MOST, 3]
     with Auction() as auction:

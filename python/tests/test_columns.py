@@ -32,7 +32,7 @@ from hypothesis import strategies
 BID, ASK = Side.BID, Side.ASK
 
 
-def test_orders_of_columns() -> None:
+def test_columns_make_orders() -> None:
     limits, peaks = [200, 199, None], [None, 3, None]
     made = commands(side=[BID, ASK, BID], quantity=[5, 6, 7], limit=limits, peak=peaks)
     wanted = array_of([(1, Enter(BID, 5, 200)), (1, Enter(ASK, 6, 199, 3)), (1, Enter(BID, 7))])
@@ -49,7 +49,7 @@ def test_one_number_is_that_of_all() -> None:
     assert len(commands(side=[], quantity=[], limit=[])) == 0
 
 
-def test_all_commands() -> None:
+def test_columns_make_all_commands() -> None:
     made = commands(
         tag=[*CommandTag], side=[BID, *[None] * 6], quantity=[5, 6, *[None] * 5],
         limit=[200, *[None] * 6], id=[None, 1, 2, 3, None, 4, None], member=[1, 2, 3, 4, 5, 6, 0],
@@ -61,7 +61,7 @@ def test_all_commands() -> None:
     assert made.tobytes() == array_of(wanted).tobytes()
 
 
-def test_a_frame() -> None:
+def test_a_frame_makes_commands() -> None:
     frame = pandas.DataFrame({"side": [1, 2], "quantity": [5.0, 6.0]})
     frame["limit"] = pandas.array([200, None], "Int64")
     wanted = array_of([(4, Enter(BID, 5, 200)), (4, Enter(ASK, 6))])
@@ -113,7 +113,7 @@ def test_the_frame_of_a_journal_is_applied_again() -> None:
 @pytest.mark.parametrize("frame", [
     [1, 2], pandas.Series([1, 2]), numpy.zeros(2, COMMAND), "day.csv", 5, [{"side": 1}],
 ])  # fmt: skip
-def test_what_is_no_frame(frame: Any) -> None:
+def test_what_is_no_frame_is_refused(frame: Any) -> None:
     kind = type(frame).__name__
     text = f"frame must be a mapping or frame of columns, not {kind}"
     with pytest.raises(TypeError, match=f"^{re.escape(text)}$"):
@@ -193,7 +193,9 @@ BAD: list[tuple[type[Exception], str, dict[str, Any]]] = [
 
 
 @pytest.mark.parametrize("fault, text, given", BAD)
-def test_what_numpy_would_cut(fault: type[Exception], text: str, given: dict[str, Any]) -> None:
+def test_what_numpy_would_cut_is_refused(
+    fault: type[Exception], text: str, given: dict[str, Any]
+) -> None:
     columns: dict[str, Any] = {"side": [BID, ASK], "quantity": 5} | given
     with pytest.raises(fault, match=f"^{text}"):
         commands(**columns)

@@ -63,7 +63,7 @@ def test_an_episode_ends_after_its_steps(gym: Any) -> None:
 
 
 @pytest.mark.parametrize("action", [-1, 13, 1.5])
-def test_no_action(gym: Any, action: Any) -> None:
+def test_what_is_no_action_is_refused(gym: Any, action: Any) -> None:
     env = gym.AuctionEnv()
     env.reset(seed=1)
     with pytest.raises(ValueError, match="^action must be from 0 to 12, not "):
@@ -133,7 +133,7 @@ def test_the_steps_are_measured(gym: Any) -> None:
     assert gym.measured(rounds=3, steps=64) > 1_000
 
 
-def test_a_thousand_agents(tmp_path: Path) -> None:
+def test_the_example_of_a_thousand_agents_runs(tmp_path: Path) -> None:
     words = [sys.executable, str(EXAMPLES / "agents.py"), str(tmp_path / "agents.png")]
     ran = subprocess.run(words, capture_output=True, text=True, check=True, timeout=100)
     days, prices = ran.stdout.splitlines()

@@ -12,7 +12,7 @@ from hypothesis import given, settings, strategies
 BID, ASK = Side.BID, Side.ASK
 
 
-def test_a_worked_auction() -> None:
+def test_a_worked_auction_has_its_gains() -> None:
     with RecordedAuction() as auction:
         auction.enter(1, BID, 100, 206)
         auction.enter(2, ASK, 100, 200)

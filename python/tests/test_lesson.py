@@ -40,7 +40,7 @@ def test_an_auction_has_a_member_for_each_order() -> None:
     pyplot.close("all")
 
 
-def test_a_solved_exercise() -> None:
+def test_a_right_answer_solves_an_exercise() -> None:
     assert SINGLE.check((ASK, 150, 201)) == "solved"
     assert SINGLE.check((ASK, 51, 201)) == "solved" != SINGLE.check((ASK, 50, 201))
 
@@ -155,7 +155,7 @@ def test_a_price_off_all_limits() -> None:
         assert answer.splitlines()[1] == f"the price, {price}, is the limit of an order"
 
 
-def test_executed_shares_and_pairs() -> None:
+def test_an_exercise_may_ask_for_shares_and_pairs() -> None:
     wanted = Exercise(
         kept=[(BID, 300, 200), (ASK, 120, 199)], executed={1: 300}, pairs=[(1, 2), (1, 3)]
     )
@@ -181,7 +181,7 @@ def test_an_interrupted_uncross_executes_nothing() -> None:
 FIRST = [(BID, 200, 202), (BID, 200, 201), (BID, 300, 200), (ASK, 100, 200), (ASK, 200, 199)]
 
 
-def test_what_a_limit_does() -> None:
+def test_moving_a_limit_moves_the_price() -> None:
     # 300 are offered from 200 up. Up to 200 the third bid leaves 400 bid at 201, and the surplus of
     # 100 is the least; at 201 it is 400 there, at 202 the other bids leave 200, at 203 none.
     found = moved(FIRST, 2, range(198, 204))
@@ -246,7 +246,7 @@ def test_replies_are_said() -> None:
         )
 
 
-def test_what_orders_execute() -> None:
+def test_orders_execute_by_price() -> None:
     with auction_of((ASK, 250, 198), (BID, 100, 201), (BID, 200, 203)) as auction:
         assert executed(auction).to_dict() == {1: 250, 2: 50, 3: 200}
 
@@ -269,7 +269,7 @@ HALF = Experiment(lambda choice: 100 / choice, "{:.1f} are left", 45, 55, 1, 50)
     (float("nan"), "not yet: choose a number from 1 to 50, not nan"),
     ((2,), "not yet: choose a number from 1 to 50, not (2,)"),
 ])
-def test_an_experiment(choice: object, answer: str) -> None:
+def test_an_experiment_takes_its_choice_by_place_or_name(choice: object, answer: str) -> None:
     assert HALF.check(choice) == HALF.check(shade=choice) == answer
 
 

@@ -150,7 +150,7 @@ def test_an_uncross_takes_out_what_was_said() -> None:
                     assert not leaves.keys() & after and leaves.keys() <= before
 
 
-def test_members_and_closed_auctions() -> None:
+def test_orders_are_listed_by_member_until_the_auction_is_closed() -> None:
     with Auction() as auction:
         auction.enter(255, Side.ASK, 5, 200, restriction=Restriction.CLOSING_ONLY)
         auction.enter(0, Side.BID, 7, peak=None)

@@ -66,7 +66,7 @@ def test_many_limits_are_counted() -> None:
     )
 
 
-def test_four_best_limits() -> None:
+def test_of_four_best_limits_the_reference_chooses() -> None:
     orders = ["bid,50,190", "bid,100,210", "ask,100,180", "ask,50,200"]
     text = "".join(f"1,enter,{order}\n" for order in orders)
     for reference, decision in (

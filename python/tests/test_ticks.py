@@ -54,7 +54,7 @@ def test_a_price_that_is_no_tick(price: Any, fault: str) -> None:
         Ticks("0.01").of(price)
 
 
-def test_a_base() -> None:
+def test_ticks_count_from_their_base() -> None:
     ticks = Ticks("0.25", base="-10")
     assert (ticks.of("-9.75"), ticks.price(1), ticks.tick_size, ticks.base) == (
         1, Decimal("-9.75"), Decimal("0.25"), Decimal(-10)
@@ -86,7 +86,7 @@ def test_a_tick_without_a_price(tick_size: str, tick: int, fault: str) -> None:
         Ticks(tick_size).price(tick)
 
 
-def test_the_greatest_ticks() -> None:
+def test_the_greatest_ticks_are_exact() -> None:
     assert Ticks("0.01").price(4_294_967_295) == Decimal("42949672.95")
     assert Ticks("0.3").price(3_333_333_333) == Decimal("999999999.9")
     assert Ticks("0.000000001").of("4.2949672950") == 4_294_967_295  # a zero behind
@@ -103,12 +103,12 @@ NO_BASES = ("-1000000000", "0.0000000001")
     [("0",), ("-1",), ("x",), (None,), ("0.01", "x"), *(("0.01", base) for base in NO_BASES)]
     + [(size,) for size in NO_SIZES],
 )
-def test_no_grid(given: tuple[Any, ...]) -> None:
+def test_what_is_no_grid_is_refused(given: tuple[Any, ...]) -> None:
     with pytest.raises(ValueError, match="^(tick_size|base) "):
         Ticks(*given)
 
 
-def test_a_column_of_prices() -> None:
+def test_a_column_of_prices_becomes_ticks() -> None:
     assert Ticks("0.01").of_many(["1.15", 2.3]).tolist() == [115, 230]
     with pytest.raises(ValueError, match="^element 1: price 0.001 is no multiple"):
         Ticks("0.01").of_many(["1.15", "0.001"])
