@@ -72,7 +72,8 @@ def test_files_put_together_without_times_condemn_no_day(
     rows = part(*split(base_rows()))
     for row in rows:
         del row["time"]
-    assert "say --sort" in refused(rows, [], tmp_path, capsys)
+    line = refused(rows, [], tmp_path, capsys)
+    assert "nothing says which orders each auction had" in line or "reverse order" in line
 
 
 def test_orders_above_the_first_result_alone_are_judged_without_times() -> None:
@@ -274,3 +275,14 @@ def test_one_instrument_may_have_other_columns(tmp_path: Path) -> None:
     rows = [{**row, "isin": "DE1", "Symbol": f"{number % 2}"}
             for number, row in enumerate(base_rows())]  # fmt: skip
     assert audited(text_of(rows), ["--ignore", "*"], tmp_path) == 0
+
+
+@pytest.mark.parametrize("words", [[], ["--sort"]])
+def test_no_sorting_is_advised_where_results_without_times_stand_below_all_orders(
+    words: list[str], tmp_path: Path, capsys: Printed
+) -> None:
+    orders, results = split(base_rows())
+    ends = [dict(row, time="", sequence="") for row in results if row["event"] == UNCROSS]
+    line = refused([*orders, *ends], words, tmp_path, capsys)
+    assert "results stand apart from orders and not all have a time" in line
+    assert "say --sort" not in line

@@ -1,5 +1,6 @@
 """Times of an extract in many forms: what can't be read says nothing of which row came first."""
 import json
+import re
 from collections.abc import Callable
 from pathlib import Path
 
@@ -199,3 +200,59 @@ uncross,{late},,,10.02,1000,0,opening,1,,
 trade,{late},,,10.02,1000,,opening,,A,S
 """
     assert audited(text, ["--auctions", "opening", "--sort"], tmp_path) == 5
+
+
+# ---- rows of orders without a time, in a file that isn't sorted
+
+BLANK = """event,time,order,side,price,quantity,surplus,auction,trades,bid,ask
+new,08:50:00,A,bid,10.00,1000,,,,,
+new,08:51:00,B,bid,10.00,500,,,,,
+new,08:52:00,S,ask,10.00,1200,,,,,
+uncross,09:00:00,,bid,10.00,1200,300,opening,2,,
+trade,09:00:00,,,10.00,1000,,opening,,A,S
+trade,09:00:00,,,10.00,200,,opening,,B,S
+new,09:10:00,T,ask,10.00,100,,,,,
+uncross,17:30:00,,bid,10.00,100,200,closing,1,,
+trade,17:30:00,,,10.00,100,,closing,,B,T
+"""
+"""A bids 1,000 before B bids 500, S asks 1,200: B is left with 300, of which T gets 100."""
+
+
+def moved(order: str, place: int) -> str:
+    """The file with the row of an order at another place among the others, its time left out."""
+    lines = BLANK.splitlines()
+    [own] = [line for line in lines if line.startswith("new") and line.split(",")[2] == order]
+    lines.remove(own)
+    event, _, rest = own.split(",", 2)
+    lines.insert(place, f"{event},,{rest}")
+    return "\n".join([*lines, ""])
+
+
+@pytest.mark.parametrize("order", ["A", "B", "S", "T"])
+@pytest.mark.parametrize("place", [1, 9])
+def test_an_order_without_a_time_may_only_have_been_put_first_or_last(
+    order: str, place: int, tmp_path: Path, capsys: Printed
+) -> None:
+    """A database puts rows without a time first or last; where it belongs nothing says."""
+    words = ["--auctions", "opening,closing"]
+    assert audited(BLANK, words, tmp_path) == 0
+    capsys.readouterr()
+    assert audited(moved(order, place), words, tmp_path) in (0, 5)
+    said = capsys.readouterr()
+    assert f"which count by their place, such as row {place + 1}: 1\n" in said.err
+    wrong = moved(order, place).replace("10.00,1000,,opening", "10.01,1000,,opening")
+    assert audited(wrong, words, tmp_path) == 4
+
+
+def test_where_no_order_has_a_time_their_places_count(tmp_path: Path) -> None:
+    rows = [re.sub(r"^(new),[^,]*", r"\1,", line) for line in BLANK.splitlines()]
+    text, words = "\n".join([*rows, ""]), ["--auctions", "opening,closing"]
+    assert audited(text, words, tmp_path) == 0
+    assert audited(text.replace("1200,300", "1200,301"), words, tmp_path) == 4
+
+
+def test_an_order_without_a_time_leaves_the_auctions_above_it_certain(tmp_path: Path) -> None:
+    text, words = BLANK.replace("new,09:10:00,T", "new,,T"), ["--auctions", "opening,closing"]
+    assert audited(text, words, tmp_path) == 0
+    assert audited(text.replace("1200,300", "1200,301"), words, tmp_path) == 4
+    assert audited(text.replace("100,200", "100,201"), words, tmp_path) == 5

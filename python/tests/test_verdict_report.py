@@ -180,6 +180,16 @@ def test_bad_rows_and_notes_are_told() -> None:
     assert len(frame_of(rows)) == len(rows)
 
 
+def test_the_first_line_counts_doubtful_findings_too() -> None:
+    """An order that can't be read leaves a wrong surplus in doubt."""
+    rows = small_day()
+    rows.insert(0, dict(event="new", order="X", side="long", quantity=1, time="08:50:00"))
+    wrong = next(row for row in rows if row["event"] == "uncross")
+    wrong["surplus"] = int(wrong["surplus"]) + 1
+    text = html.unescape(page.html_of(verdict_of(rows), "day"))
+    assert "<strong>incomplete</strong>: 1 doubtful finding. Compared: " in text
+
+
 def test_times_are_as_short_as_they_can_be() -> None:
     """All are of one day and in whole milliseconds."""
     rows = small_day()

@@ -140,7 +140,7 @@ class Doubts:
     def _odd(self) -> tuple[int, Reason] | None:
         """From which place on the order of rows isn't known, as times can't be read, and why: the
         call phase of the first one, or the day's begin where more than a tenth are so, others fall,
-        or rows were sorted by their times.
+        rows were sorted by their times, or the last row has none, as it may only have been put last.
         """
         rows = self.rows
         both = numpy.union1d(self.orders, self.uncrosses)
@@ -148,11 +148,13 @@ class Doubts:
         if not len(odd):
             return None
         first, above = int(odd[0]), self.uncrosses[self.uncrosses < odd[0]]
-        is_few = len(odd) <= len(both) // 10 and not self.falls and not rows.is_sorted
+        is_few = len(odd) <= max(1, len(both) // 10) and not self.falls and not rows.is_sorted
+        is_put_last = odd[-1] == both[-1] and not rows.names.time(int(odd[-1]))
         cell, text = rows.names.time(first), f"row {rows.labels[first]} has no time"
         if cell:
             text = f"the time of row {rows.labels[first]}, {cell!r}, can't be read"
-        begin = int(above[-1]) if is_few and len(above) else -1
+        is_placed = is_few and not is_put_last and len(above) > 0
+        begin = int(above[-1]) if is_placed else -1
         return begin, Reason(f"{text}, and which row came first decides")
 
     def _gap(self, due: list[int]) -> tuple[int, str] | None:

@@ -19,7 +19,7 @@ from callauction.verdict.repeated_rows import (
     Gap, drop_sent_again, drop_sides_again, find_holes, gaps_of, remark_of,
 )  # fmt: skip
 from callauction.verdict.row_order import (
-    are_moved, groups_of, has_cells, ordered, slack_of, untimed_rows,
+    are_moved, blank_orders, groups_of, has_cells, ordered, slack_of, untimed_rows,
 )  # fmt: skip
 from callauction.verdict.rows import SIDES, Cell, Int8s, Kind, Names, PriceCode, Rows
 from callauction.verdict.table import Table
@@ -31,6 +31,7 @@ WORDS = ("event", "side", "auction", "restriction")
 IDS = ("order", "new_order", "bid", "ask")
 UNREAD_TIMES = "times that can't be read"
 UNTIMED = "rows without a time, which nothing says where to sort"
+BLANK = "rows of orders without a time, which count by their place"
 UNSURE_DATES = (
     "dates of which it isn't known which number is the month (--dates dmy or mdy says it)"
 )
@@ -58,6 +59,7 @@ def rows_of(
     if reading.sort and "time" in columns.names:
         _look_at_times(rows, columns, kind, sequence is not None)
         rows.is_odd[untimed_rows(columns, time, are_moved(order, instruments))] = True
+    rows.is_odd |= blank_orders(kind, time)
     look_at_orders(rows, columns, is_market)
     _join_two_sides(rows, columns, sequence, instruments)
     look_at_executions(rows, columns)
@@ -132,7 +134,8 @@ def _note_odd_times(rows: Rows) -> None:
     codes, texts = rows.names.texts(odd, rows.names.theirs["time"])
     if (codes < 0).any():
         first = rows.labels[odd[codes < 0][0]]
-        rows.notes[f"{UNTIMED}, such as row {first}"] += int((codes < 0).sum())
+        what = UNTIMED if rows.is_sorted else BLANK
+        rows.notes[f"{what}, such as row {first}"] += int((codes < 0).sum())
     if texts:
         cell = texts[int(codes[codes >= 0][0])]
         rows.notes[f"{UNREAD_TIMES}, such as {cell!r}"] += int((codes >= 0).sum())

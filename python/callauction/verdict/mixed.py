@@ -156,10 +156,23 @@ def refuse_parts(rows: Rows, due: Sequence[int]) -> None:
     wrong = orders if is_above or is_apart and orders[0] > ends[-1] else orders[:0]
     wrong = _by_time(rows, timed, ends) if is_timed else wrong
     if len(wrong):
-        raise ExtractError(
-            f"rows {rows.labels[wrong[0]]} and {rows.labels[ends[0]]} are in another order than "
-            "their times (are orders and results put together?): say --sort"
+        raise ExtractError(_why_apart(rows, int(wrong[0]), int(ends[0]), is_timed))
+
+
+def _why_apart(rows: Rows, order: int, result: int, is_timed: bool) -> str:
+    """Why a row of an order and a result of another place are no day's: by their times, or as these
+    don't say where results belong, which no sorting mends.
+    """
+    one, other = rows.labels[order], rows.labels[result]
+    if is_timed or not rows.is_sorted and (rows.number[[order, result]] >= 0).all():
+        return (
+            f"rows {one} and {other} are in another order than their times (are orders and results "
+            "put together?): say --sort"
         )
+    return (
+        f"rows {one} and {other}: results stand apart from orders and not all have a time, so that "
+        "nothing says which orders each auction had"
+    )
 
 
 def _by_time(rows: Rows, orders: Ints, ends: Ints) -> Ints:

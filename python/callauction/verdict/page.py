@@ -70,18 +70,18 @@ def html_of(
 def _first(verdict: Verdict) -> Part:
     """The verdict, the coverage, and the findings in short."""
     look = "good" if verdict.word == LAWFUL else "bad"
-    count = len(verdict.findings)
+    certain = counted(len(verdict.findings), "finding")
+    doubtful = counted(len(verdict.doubtful), "doubtful finding")
+    counts = [certain] * bool(verdict.findings) + [doubtful] * bool(verdict.doubtful)
     text = (
         f'<p class="{look}">What was published is <strong>{verdict.word}</strong>: '
-        f"{counted(count, 'finding')}. Compared: {html.escape(str(verdict.coverage))}."
+        f"{' and '.join(counts) or certain}. Compared: {html.escape(str(verdict.coverage))}."
     )
     if verdict.bad_rows:
         text += f" Rows that couldn't be read or were refused: {len(verdict.bad_rows):,}."
     text += "</p>"
-    text += _listed(verdict, False, counted(count, "finding"))
-    reasons = counted(len(verdict.reasons()), "reason")
-    doubts = f"{counted(len(verdict.doubtful), 'doubtful finding')} of {reasons}"
-    text += _listed(verdict, True, doubts)
+    text += _listed(verdict, False, certain)
+    text += _listed(verdict, True, f"{doubtful} of {counted(len(verdict.reasons()), 'reason')}")
     return "Verdict", text + "".join(f"<p>{html.escape(it)}</p>" for it in verdict.ranges())
 
 

@@ -11,7 +11,7 @@ from callauction.verdict.column_words import Columns
 from callauction.verdict.columns import KINDS, ExtractError
 from callauction.verdict.mixed import LONGEST
 from callauction.verdict.reading import Reading
-from callauction.verdict.rows import Int8s, Kind
+from callauction.verdict.rows import OF_ORDERS, Int8s, Kind
 from callauction.verdict.table import Table
 
 FEW_UNTIMED = 10
@@ -107,6 +107,19 @@ def untimed_rows(columns: Columns, time: Ints, which: Mask) -> Ints:
     is_trade = ((kinds == Kind.TRADE) | (kinds == Kind.FILL)) & ~has_cells(columns, "auction")
     is_due = is_order | is_trade | (kinds == Kind.UNCROSS)
     return numpy.flatnonzero((time == time_columns.NO_TIME) & is_due & which)
+
+
+def blank_orders(kind: Int8s, time: Ints) -> Mask:
+    """Which rows of orders have no time where most of their event's rows have one: where they
+    belong isn't sure, as a file may have such rows first or last.
+    """
+    is_blank = time == time_columns.NO_TIME
+    found = numpy.zeros(len(time), bool)
+    for event in OF_ORDERS:
+        own = kind == event
+        if numpy.count_nonzero(is_blank & own) < numpy.count_nonzero(own) / 2:
+            found |= is_blank & own
+    return found
 
 
 def _refuse_untimed(columns: Columns, time: Ints, which: Mask) -> None:
