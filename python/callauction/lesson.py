@@ -27,7 +27,7 @@ if TYPE_CHECKING:
     from matplotlib.figure import Figure
 
 BID, ASK = Side.BID, Side.ASK
-Order = tuple[Side, int, int | None]
+LessonOrder = tuple[Side, int, int | None]
 """An order of a lesson: its side, its shares, and its limit in ticks, None at market."""
 MOVED = ("limit", "price", "volume", "surplus")
 """The columns of what an order's limit does."""
@@ -36,7 +36,7 @@ LOW, HIGH = 1, 1000
 
 
 def auction_of(
-    *orders: Order, reference: int = 200, range: int | None = None
+    *orders: LessonOrder, reference: int = 200, range: int | None = None
 ) -> RecordedAuction:
     """An auction with these orders, the first one of member 1, the second one of member 2 and so
     on. Raises RefusedError for one that is refused.
@@ -79,7 +79,7 @@ class Exercise:
     no order. An added order is to have this `side` and `quantity`, and with `is_market` no limit.
     """
 
-    kept: Sequence[Order]
+    kept: Sequence[LessonOrder]
     more: int = 1
     reference: int = 200
     range: int | None = None
@@ -104,7 +104,7 @@ class Exercise:
             return f"not yet: {fault}"
         opened = self.reference if reference is None else cast(int, reference)
         with RecordedAuction(LOW, HIGH, opened, range=self.range) as auction:
-            for member, order in enumerate([*self.kept, *cast("list[Order]", added)], 1):
+            for member, order in enumerate([*self.kept, *cast("list[LessonOrder]", added)], 1):
                 reply = auction.enter(member, *order)
                 if isinstance(reply, Refused):
                     return f"not yet: order {member} is {said(reply)}"
@@ -272,7 +272,7 @@ class Experiment:
 # ---- a slider
 
 
-def moved(orders: Sequence[Order], place: int, limits: Sequence[int]) -> pandas.DataFrame:
+def moved(orders: Sequence[LessonOrder], place: int, limits: Sequence[int]) -> pandas.DataFrame:
     """What the limit of the order at this place, from 0 on, does to the price, the
     volume and the surplus (MOVED); `<NA>` where there is no price.
     """
@@ -283,7 +283,7 @@ def moved(orders: Sequence[Order], place: int, limits: Sequence[int]) -> pandas.
     return pandas.DataFrame(rows, columns=list(MOVED)).astype("Int64")
 
 
-def _with(orders: Sequence[Order], place: int, limit: int) -> list[Order]:
+def _with(orders: Sequence[LessonOrder], place: int, limit: int) -> list[LessonOrder]:
     """The orders, that at this place with another limit."""
     side, quantity, _ = orders[place]
     return [*orders[:place], (side, quantity, limit), *orders[place + 1 :]]
@@ -296,7 +296,7 @@ def _numbers(shown: Price | NoPrice) -> tuple[int | None, ...]:
 
 
 def draw_moved(
-    orders: Sequence[Order], place: int, limit: int, found: pandas.DataFrame
+    orders: Sequence[LessonOrder], place: int, limit: int, found: pandas.DataFrame
 ) -> "Figure":
     """Draws the book with this limit of an order; beside it what each limit does (`moved`): volume
     and surplus, the limit upright as in the book, and the price. Answers the figure.
@@ -337,7 +337,7 @@ _MOVE = (
 """What a move of the slider does in the browser."""
 
 
-def slide(orders: Sequence[Order], place: int, limits: Sequence[int]) -> None:
+def slide(orders: Sequence[LessonOrder], place: int, limits: Sequence[int]) -> None:
     """A slider that moves the limit of the order at this place, from 0 on, through `limits`: the
     book, and price, volume and surplus against the limit. All pictures are in the cell, so that it
     needs nothing but the browser, and moves in a stored notebook too. Out of a notebook the picture
@@ -367,7 +367,11 @@ def _is_in_notebook() -> bool:
 
 
 def slider_of(
-    orders: Sequence[Order], place: int, limits: Sequence[int], start: int, found: pandas.DataFrame
+    orders: Sequence[LessonOrder],
+    place: int,
+    limits: Sequence[int],
+    start: int,
+    found: pandas.DataFrame,
 ) -> str:
     """The slider as HTML: a picture for each limit, of which one is seen."""
     pictures = []

@@ -58,6 +58,8 @@ FIRST = " (the first {} of {})"
 """What a caption says of a table of which as many rows are shown."""
 SIZE = (5.0, 4.2)
 """The inches of a picture, whose texts are still readable on a telephone."""
+Section = tuple[str, str]
+"""A section of a page: its heading and its HTML."""
 
 
 def shown_cell(value: object, missing: str = "", is_count: bool = False) -> str:
@@ -171,7 +173,7 @@ def html_image(figure: Figure, text: str, name: str) -> str:
 
 
 def html_page(
-    title: str, parts: list[tuple[str, str]], look: str = "", pages: Mapping[str, str] = {}
+    title: str, parts: list[Section], look: str = "", pages: Mapping[str, str] = {}
 ) -> str:
     """The page of sections, each with its heading; `look` is the classes of the body, `pages` has
     the links of other pages by their texts.
@@ -201,7 +203,7 @@ def html_page(
     )
 
 
-def evidence_parts(facts: Mapping[str, str]) -> Iterator[tuple[str, str]]:
+def evidence_parts(facts: Mapping[str, str]) -> Iterator[Section]:
     """What a page is of and by."""
     if facts:
         lines = (f"<dt>{name}</dt><dd>{html.escape(it)}</dd>" for name, it in facts.items())

@@ -2,11 +2,11 @@
 from collections.abc import Iterable
 from typing import Protocol, TypeVar
 
-Step = TypeVar("Step")
+AnyStep = TypeVar("AnyStep")
 
 
 class Progress(Protocol):
     """What the steps of a run are taken through; `iter` shows nothing."""
 
-    def __call__(self, steps: Iterable[Step], /) -> Iterable[Step]:
+    def __call__(self, steps: Iterable[AnyStep], /) -> Iterable[AnyStep]:
         ...

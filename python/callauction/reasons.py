@@ -27,7 +27,7 @@ class Explanation(tuple[str, ...]):
 
 
 @dataclasses.dataclass(frozen=True)
-class Book:
+class ExplainedBook:
     """A book as its table has it: the market orders' row, those of limits, and what names ticks."""
 
     market_orders: "pandas.Series"
@@ -73,7 +73,7 @@ def explain(
     """
     found = book_at(table, command)
     is_market = found["limit"].isna()
-    book = Book(found[is_market].iloc[0], found[~is_market], named)
+    book = ExplainedBook(found[is_market].iloc[0], found[~is_market], named)
     price = book.price
     if price is None:
         return Explanation(_without_price(book))
@@ -84,7 +84,7 @@ def explain(
     return Explanation([*steps, *_executed(book, price)])
 
 
-def _without_price(book: Book) -> list[str]:
+def _without_price(book: ExplainedBook) -> list[str]:
     """Why there is no price, and what is shown instead."""
     bids, asks = (book.levels[book.levels[side] > 0] for side in ("bid", "ask"))
     bid, ask = book.market_orders["bid"], book.market_orders["ask"]
@@ -106,7 +106,7 @@ def _without_price(book: Book) -> list[str]:
     ]
 
 
-def _market_alone(book: Book, price: "pandas.Series") -> str:
+def _market_alone(book: ExplainedBook, price: "pandas.Series") -> str:
     """That market orders alone are matched at the reference."""
     bid, ask = book.market_orders["bid"], book.market_orders["ask"]
     return (
@@ -115,7 +115,7 @@ def _market_alone(book: Book, price: "pandas.Series") -> str:
     )
 
 
-def _market_orders(book: Book) -> list[str]:
+def _market_orders(book: ExplainedBook) -> list[str]:
     """What market orders beside limits mean, where there are any."""
     bid, ask = book.market_orders["bid"], book.market_orders["ask"]
     if bid and ask:
@@ -129,12 +129,12 @@ def _market_orders(book: Book) -> list[str]:
     return []
 
 
-def _candidates(book: Book) -> str:
+def _candidates(book: ExplainedBook) -> str:
     """Which limits may be the price."""
     return f"Only limits of orders are candidates: {book.names(book.limits)}."
 
 
-def _best(book: Book) -> list[str]:
+def _best(book: ExplainedBook) -> list[str]:
     """Which limits execute most and, where that leaves too many, which have the least surplus."""
     volume, surplus = book.best[["volume", "surplus"]].iloc[0]
     most = book.limits[book.limits["volume"] == volume]
@@ -151,7 +151,7 @@ def _best(book: Book) -> list[str]:
     return sentences
 
 
-def _decided(book: Book, price: "pandas.Series", reference: int | None) -> list[str]:
+def _decided(book: ExplainedBook, price: "pandas.Series", reference: int | None) -> list[str]:
     """Which rule made one of the best limits, or the reference, the price. No more than two limits
     have one demand and one supply, as each limit changes one of them.
     """
@@ -172,7 +172,7 @@ def _decided(book: Book, price: "pandas.Series", reference: int | None) -> list[
     return [why, f"The reference, {name}, lies between them, so it is the price."]
 
 
-def _kept(book: Book) -> tuple[int, int, str]:
+def _kept(book: ExplainedBook) -> tuple[int, int, str]:
     """The lower and the upper kept limit of the best ones, with the sentence that says why."""
     best = book.best
     bids, asks = (best[best["side"] == side] for side in ("bid", "ask"))
@@ -191,7 +191,7 @@ def _kept(book: Book) -> tuple[int, int, str]:
     )
 
 
-def _executed(book: Book, price: "pandas.Series") -> list[str]:
+def _executed(book: ExplainedBook, price: "pandas.Series") -> list[str]:
     """Demand and supply at the price, the volume and the surplus."""
     name = book.named(price["limit"])
     rest = "and no surplus is left"

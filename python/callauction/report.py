@@ -16,6 +16,7 @@ from callauction.gains import Gains, gains_of, shown
 from callauction.outcomes import members_of, outcomes_of, played
 from callauction.pages import (
     BOOKED,
+    Section,
     caption_of,
     counted,
     evidence_parts,
@@ -30,9 +31,6 @@ from callauction.program import Day
 from callauction.progress import Progress
 from callauction.reasons import explain
 from callauction.tables import DAY, audit_of, book_at, books_of, journal_of, trades_of
-
-Part = tuple[str, str]
-"""A section: its heading and its HTML."""
 
 
 def html_of(
@@ -69,7 +67,7 @@ def html_of(
 # ---- the sections
 
 
-def _audit(day: Day) -> list[Part]:
+def _audit(day: Day) -> list[Section]:
     """Whether the recorded replies are lawful; nothing for an order file."""
     if not day.is_journal():
         return []
@@ -89,7 +87,7 @@ def _audit(day: Day) -> list[Part]:
     return [("Audit", text)]
 
 
-def _result(course: Course, tick_size: object) -> Part:
+def _result(course: Course, tick_size: object) -> Section:
     """The uncrosses, and the indicative price and volume over the calls."""
     figure = new_figure()
     plot.indicative(course, tick_size=tick_size, ax=figure.subplots())
@@ -110,7 +108,7 @@ def _auction(
     course: Course,
     trades: pandas.DataFrame,
     figure: Figure,
-) -> Part:
+) -> Section:
     """A book: why it has its price, its picture, its table, and the trades that it made."""
     command, auction = int(book["command"].iloc[0]), book["auction"].iloc[0]
     done = course.uncrosses[course.uncrosses["command"] == command]["auction"]
@@ -131,7 +129,7 @@ def _auction(
     return f"{auction.title()}, command {command}, {ending}", "".join(parts)
 
 
-def _members(orders: pandas.DataFrame) -> Part:
+def _members(orders: pandas.DataFrame) -> Section:
     """What each member entered and traded, and how much better than its limits."""
     found = members_of(orders)
     if not len(found):
@@ -145,7 +143,7 @@ def _members(orders: pandas.DataFrame) -> Part:
     return "Members", note + html_table(found, caption, "members", counts)
 
 
-def _orders(orders: pandas.DataFrame) -> Part:
+def _orders(orders: pandas.DataFrame) -> Section:
     """What became of each order."""
     if not len(orders):
         return "Orders", "<p>No order was entered.</p>"
@@ -156,7 +154,7 @@ def _orders(orders: pandas.DataFrame) -> Part:
     return "Orders", html_table(listed, caption, "orders", ("quantity", "traded", "open"))
 
 
-def _gains(found: Gains) -> Part:
+def _gains(found: Gains) -> Section:
     """What the members gained."""
     caption = f"Gains of {counted(len(found.members), 'member')}, in ticks times shares"
     note = f"<p>The members' {html.escape(str(found))}, in ticks times shares.</p>"
@@ -164,7 +162,7 @@ def _gains(found: Gains) -> Part:
     return "Gains", note + html_table(listed, caption, "gains", ("bought", "sold"))
 
 
-def _refused(journal: pandas.DataFrame) -> Part:
+def _refused(journal: pandas.DataFrame) -> Section:
     """The commands that the auction refuses."""
     found = journal[journal["lawful"].str.startswith("refused")]
     if not len(found):
@@ -176,7 +174,7 @@ def _refused(journal: pandas.DataFrame) -> Part:
     )
 
 
-def _config(journal: pandas.DataFrame) -> Part:
+def _config(journal: pandas.DataFrame) -> Section:
     """What the day was opened with."""
     texts = {
         "low": "lowest tick",

@@ -3,7 +3,7 @@ import asyncio
 from typing import Any
 
 from callauction.venue.json_types import Json
-from callauction.venue.members import Member
+from callauction.venue.members import VenueMember
 from callauction.venue.messages import TOPICS
 
 
@@ -12,7 +12,7 @@ class Listener:
 
     is_leaving = False
 
-    def __init__(self, member: Member | None = None) -> None:
+    def __init__(self, member: VenueMember | None = None) -> None:
         self.member, self.role = member, "member" if member else "operator"
         self.topics = frozenset(TOPICS)
         self.said: dict[str, Json] = {}

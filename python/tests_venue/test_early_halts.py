@@ -16,7 +16,7 @@ from callauction.venue import results
 from callauction.venue.config import DayTerms, InstrumentTerms, Plan
 from callauction.venue.gates import Gates
 from callauction.venue.instrument_board import InstrumentBoard
-from callauction.venue.members import Member
+from callauction.venue.members import VenueMember
 from callauction.venue.messages import MessageError
 from callauction.venue.metrics import Measures, halts_of
 from callauction.venue.phases import Phase
@@ -232,7 +232,7 @@ async def test_payoffs_wait_for_a_round_to_begin(
     payoffs = results.payoffs
 
     def counted(
-        day: DayTerms, rounds: Sequence[Round], members: Iterable[Member]
+        day: DayTerms, rounds: Sequence[Round], members: Iterable[VenueMember]
     ) -> list[results.Payoff]:
         counts.append(len(rounds))
         return payoffs(day, rounds, members)

@@ -15,7 +15,7 @@ import pytest
 import served
 from callauction.venue import checking
 from callauction.venue.config import DayTerms, Plan
-from callauction.venue.messages import Order
+from callauction.venue.messages import OrderMessage
 from callauction.venue.process import ProcessError
 from callauction.venue.venue import Venue
 from conftest import FAST
@@ -129,7 +129,7 @@ async def test_the_tables_have_the_trades_of_an_uncross_just_before(tmp_path: pa
     board.auctions.start_call()
     for name, side in (("Anna", "bid"), ("Bert", "ask")):
         member, _ = await venue.join(venue.members.codes.by_name[""], name)
-        answer, _ = venue.submit(member, Order(1, "XYZ", f"enter,{side},5,200"))
+        answer, _ = venue.submit(member, OrderMessage(1, "XYZ", f"enter,{side},5,200"))
         await answer
     assert (await board.auctions.uncross()).endswith(" trades 1")
     await venue.close()

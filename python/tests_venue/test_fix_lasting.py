@@ -10,7 +10,7 @@ from typing import Any, cast
 import pytest
 from callauction.fix import front, wires
 from callauction.fix.connections import Connections
-from callauction.fix.sent import Outbound, Sent
+from callauction.fix.sent import Outbound, SentMessages
 from lasting import SOON, Once, has_said
 
 pytestmark = pytest.mark.asyncio
@@ -38,7 +38,7 @@ class Wired:
 async def test_a_broken_connection_silences_no_other(tmp_path: pathlib.Path, caplog: Kept) -> None:
     """Nor a later word to it, and it is ended."""
     both = {1: Wired(True), 2: Wired(False)}
-    outbound = Outbound(Sent(tmp_path, False), cast(Any, both), lambda: None)
+    outbound = Outbound(SentMessages(tmp_path, False), cast(Any, both), lambda: None)
     those = [(1, b"first", 0, False), (2, b"second", 0, False)]
     outbound.engine = cast(Any, types.SimpleNamespace(outgoing=lambda: those))
     for _ in range(2):
@@ -87,7 +87,7 @@ async def test_a_connection_that_ends_is_looked_at_until_it_is_lost(
 
 
 async def test_a_write_that_fails_is_tried_again(tmp_path: pathlib.Path) -> None:
-    once, outbound = Once(), Outbound(Sent(tmp_path, False), {}, lambda: None)
+    once, outbound = Once(), Outbound(SentMessages(tmp_path, False), {}, lambda: None)
     outbound.engine = cast(Any, types.SimpleNamespace(stored=lambda: once() or []))
     with pytest.raises(ZeroDivisionError):
         outbound.write()
@@ -110,7 +110,7 @@ async def is_done_again(work: Coroutine[Any, Any, None], once: Once, news: async
 
 
 async def test_the_clock_of_the_sessions(monkeypatch: pytest.MonkeyPatch, caplog: Kept) -> None:
-    once, one = Once(), front.Front.__new__(front.Front)
+    once, one = Once(), front.FixFront.__new__(front.FixFront)
     monkeypatch.setattr(front, "TICK", SOON)
     one._sent = cast(Any, types.SimpleNamespace(log=types.SimpleNamespace(retry=once)))
     assert await is_done_again(one._tick(), once, asyncio.Event())

@@ -14,13 +14,13 @@ from typing import Any
 import pytest
 import served
 from callauction.fix._quickfix import Engine
-from callauction.fix.front import Front
+from callauction.fix.front import FixFront
 from callauction.fix.orders import NUMBER, Report
 from callauction.fix.settings import settings_of
 from callauction.fix.tags import Tag, Type, event_in, now, number_of, pairs_of
 from callauction.venue.config import DayTerms, Plan
-from callauction.venue.fix_terms import Terms
-from callauction.venue.recovery import Entry, Message
+from callauction.venue.fix_terms import FixTerms
+from callauction.venue.recovery import Entry, MemberMessage
 from callauction.venue.venue import Venue
 
 pytestmark = pytest.mark.asyncio
@@ -64,7 +64,7 @@ class Run:
         self.log, self.uncrosses = log, uncrosses
         venue = Venue(DayTerms(is_synced=False, plan=Plan(call=0)), folder, served.program())
         self.venue = venue
-        self.front = Front(venue, Terms({"ALICE": "Alice"}), served.program())
+        self.front = FixFront(venue, FixTerms({"ALICE": "Alice"}), served.program())
         self.seat, self.outbound = self.front._seats[0], self.front._outbound
         text = settings_of(folder, {"ALICE": self.seat.begin})
         self.outbound.engine = Engine(text, lambda session, password: False)
@@ -162,10 +162,10 @@ class Run:
         return dict(found)
 
 
-def message_of(said: Said) -> Message:
+def message_of(said: Said) -> MemberMessage:
     """A command as the log has it."""
     note = {NUMBER: str(said.promised)} if said.promised else {}
-    return Message("Alice", -said.number, "", "", note)
+    return MemberMessage("Alice", -said.number, "", "", note)
 
 
 def check(run: Run, before: Told) -> None:

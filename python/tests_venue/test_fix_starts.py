@@ -7,10 +7,10 @@ import signal
 import fixing
 import pytest
 import served
-from callauction.fix.front import Front
+from callauction.fix.front import FixFront
 from callauction.fix.sent import MOST_AT_ONCE
 from callauction.venue.config import DayTerms, Plan
-from callauction.venue.fix_terms import Terms
+from callauction.venue.fix_terms import FixTerms
 from callauction.venue.venue import Venue
 from fix_clients import Asked
 from fix_messages import ALL, picked
@@ -39,7 +39,7 @@ async def test_programs_have_their_turn_while_a_session_is_restored(
     """Else what they answer meanwhile is taken for a program that hangs."""
     sent_before(tmp_path)
     venue = Venue(DayTerms(is_synced=False, plan=Plan(call=0)), tmp_path, served.program())
-    front = Front(venue, Terms({"ALICE": "Alice"}, port=served.free_port()), served.program())
+    front = FixFront(venue, FixTerms({"ALICE": "Alice"}, port=served.free_port()), served.program())
     seen = set[int]()
 
     async def look() -> None:

@@ -5,23 +5,25 @@ import itertools
 from collections.abc import Sequence
 
 import pytest
-from callauction.venue.accounts import Accounts, Fill
-from callauction.venue.gains import Predicted, Uncovered, Value, gain_in_ticks, most_gain, predicted
+from callauction.venue.accounts import Accounts, MemberFill
+from callauction.venue.gains import (
+    Predicted, ShareValue, Uncovered, gain_in_ticks, most_gain, predicted,
+)
 from hypothesis import given
 from hypothesis import strategies as st
 
 HIGH = 12
 UNCOVERED = Uncovered(0, HIGH)
 SIDES = st.sampled_from(["bid", "ask"])
-VALUES = st.builds(Value, SIDES, st.integers(1, HIGH), st.integers(1, 5))
+VALUES = st.builds(ShareValue, SIDES, st.integers(1, HIGH), st.integers(1, 5))
 Deal = tuple[int, int, int, int]
 """A trade: the places of its buyer and its seller, its shares and its tick."""
-Class = tuple[list[Value | None], list[Deal]]
+Class = tuple[list[ShareValue | None], list[Deal]]
 """The values of members, and their trades."""
 
 
 @given(st.lists(VALUES, max_size=6))
-def test_the_most_gain_is_that_of_shares_in_their_order(values: list[Value]) -> None:
+def test_the_most_gain_is_that_of_shares_in_their_order(values: list[ShareValue]) -> None:
     bids = sorted((it.tick for it in values if it.side == "bid" for _ in range(it.quantity)))
     asks = sorted((it.tick for it in values if it.side == "ask" for _ in range(it.quantity)))
     pairs = itertools.takewhile(lambda it: it[0] > it[1], zip(reversed(bids), asks))
@@ -29,7 +31,7 @@ def test_the_most_gain_is_that_of_shares_in_their_order(values: list[Value]) -> 
 
 
 def test_a_share_gains_the_difference_of_its_value_and_its_price() -> None:
-    bid, ask = Value("bid", 600, 100), Value("ask", 400, 100)
+    bid, ask = ShareValue("bid", 600, 100), ShareValue("ask", 400, 100)
     high = Uncovered(0, 1000)
     assert gain_in_ticks(bid, [("bid", 60, 540), ("bid", 40, 500)], high) == 60 * 60 + 40 * 100
     assert gain_in_ticks(ask, [("ask", 10, 700)], high) == 10 * 300
@@ -38,7 +40,7 @@ def test_a_share_gains_the_difference_of_its_value_and_its_price() -> None:
 
 
 def test_what_no_value_covers_costs() -> None:
-    bid, ask = Value("bid", 600, 100), Value("ask", 400, 100)
+    bid, ask = ShareValue("bid", 600, 100), ShareValue("ask", 400, 100)
     high = Uncovered(0, 1000)
     assert gain_in_ticks(bid, [("bid", 150, 500)], high) == 100 * 100 - 50 * 500
     assert gain_in_ticks(bid, [("ask", 10, 500)], high) == 10 * (500 - 1000)
@@ -51,14 +53,14 @@ def test_what_no_value_covers_costs() -> None:
 
 
 def test_what_one_buys_and_sells_again_is_no_loss() -> None:
-    bid = Value("bid", 600, 100)
+    bid = ShareValue("bid", 600, 100)
     fills = [("bid", 150, 500), ("ask", 50, 540)]
     assert gain_in_ticks(bid, fills, UNCOVERED) == 100 * 100 + 50 * 40
     itself = [("bid", 190, 10), ("ask", 190, 10)]
-    assert gain_in_ticks(Value("ask", 4, 100), itself, UNCOVERED) == 0
+    assert gain_in_ticks(ShareValue("ask", 4, 100), itself, UNCOVERED) == 0
 
 
-def worth(value: Value | None, shares: int) -> int:
+def worth(value: ShareValue | None, shares: int) -> int:
     """What a member's shares are worth, one by one."""
     covered = value.quantity if value else 0
     found = 0
@@ -69,15 +71,15 @@ def worth(value: Value | None, shares: int) -> int:
     return found
 
 
-def best_of_all(values: Sequence[Value | None], most: int) -> int:
+def best_of_all(values: Sequence[ShareValue | None], most: int) -> int:
     """The greatest worth of all ways in which the members could have traded shares."""
     ways = itertools.product(range(-most, most + 1), repeat=len(values))
     return max(sum(map(worth, values, way)) for way in ways if sum(way) == 0)
 
 
-@given(st.lists(st.none() | st.builds(Value, SIDES, st.integers(0, HIGH), st.integers(1, 2)),
+@given(st.lists(st.none() | st.builds(ShareValue, SIDES, st.integers(0, HIGH), st.integers(1, 2)),
                 min_size=1, max_size=4))
-def test_the_most_gain_is_that_of_all_ways_to_trade(values: list[Value | None]) -> None:
+def test_the_most_gain_is_that_of_all_ways_to_trade(values: list[ShareValue | None]) -> None:
     assert most_gain([it for it in values if it]) == best_of_all(values, 5)
 
 
@@ -90,12 +92,12 @@ def classes(draw: st.DrawFn) -> Class:
     return values, draw(st.lists(deals, max_size=12))
 
 
-def fills_of(deals: Sequence[Deal], member: int) -> list[Fill]:
+def fills_of(deals: Sequence[Deal], member: int) -> list[MemberFill]:
     """A member's fills."""
     found = []
     for number, (buyer, seller, quantity, tick) in enumerate(deals, 1):
-        found += [Fill(number, 1, "bid", quantity, tick)] * (buyer == member)
-        found += [Fill(number, 2, "ask", quantity, tick)] * (seller == member)
+        found += [MemberFill(number, 1, "bid", quantity, tick)] * (buyer == member)
+        found += [MemberFill(number, 2, "ask", quantity, tick)] * (seller == member)
     return found
 
 
@@ -176,7 +178,7 @@ def test_nor_where_each_has_some_shares_to_sell(
 
 
 @given(st.lists(VALUES, min_size=1, max_size=4), st.integers(0, 3))
-def test_the_most_that_some_shares_allow(values: list[Value], shares: int) -> None:
+def test_the_most_that_some_shares_allow(values: list[ShareValue], shares: int) -> None:
     """That of all ways to trade in which nobody sells more."""
     values = [dataclasses.replace(it, quantity=min(it.quantity, 2)) for it in values]
     accounts = Accounts(UNCOVERED, shares)
@@ -192,14 +194,18 @@ def test_efficiency_where_each_has_five_shares_to_sell() -> None:
     that he sells, so that costs the highest price, 1000.
     """
     accounts = Accounts(Uncovered(0, 1000), 5)
-    anna, bert, carl = Value("bid", 300, 10), Value("ask", 100, 10), Value("bid", 400, 2)
+    anna, bert = ShareValue("bid", 300, 10), ShareValue("ask", 100, 10)
+    carl = ShareValue("bid", 400, 2)
     accounts.give({"Anna": anna, "Bert": bert, "Carl": carl}, True, 0)
     assert accounts.most == 2 * (400 - 100) + 3 * (300 - 100) == 1200
     assert accounts.predicted == Predicted(300, 300, 5, 5)
-    accounts.fills = {"Anna": [Fill(1, 1, "bid", 5, 200)], "Bert": [Fill(1, 2, "ask", 5, 200)]}
+    accounts.fills = {
+        "Anna": [MemberFill(1, 1, "bid", 5, 200)],
+        "Bert": [MemberFill(1, 2, "ask", 5, 200)],
+    }
     assert accounts.gain == 5 * (300 - 200) + 5 * (200 - 100) == 1000
-    accounts.fills["Anna"].append(Fill(2, 3, "bid", 1, 200))
-    accounts.fills["Carl"] = [Fill(2, 4, "ask", 1, 200)]
+    accounts.fills["Anna"].append(MemberFill(2, 3, "bid", 1, 200))
+    accounts.fills["Carl"] = [MemberFill(2, 4, "ask", 1, 200)]
     assert accounts.gain == 1000 + (300 - 200) + (200 - 1000) == 300
     accounts.shares = None
     assert accounts.most == 2 * (400 - 100) + 8 * (300 - 100) == 2200
@@ -210,8 +216,8 @@ def test_efficiency_where_each_has_five_shares_to_sell() -> None:
 
 def test_the_value_of_who_left_counts_as_far_as_it_was_used() -> None:
     accounts = Accounts(UNCOVERED)
-    accounts.give({"Anna": Value("ask", 2, 5), "Robot": Value("bid", 9, 5)}, True, 0)
-    fills = {"Anna": [Fill(1, 1, "ask", 2, 4)], "Robot": [Fill(1, 2, "bid", 2, 4)]}
+    accounts.give({"Anna": ShareValue("ask", 2, 5), "Robot": ShareValue("bid", 9, 5)}, True, 0)
+    fills = {"Anna": [MemberFill(1, 1, "ask", 2, 4)], "Robot": [MemberFill(1, 2, "bid", 2, 4)]}
     accounts.fills = fills
     assert accounts.most == 5 * 7
     accounts.leave("Robot")
@@ -220,14 +226,14 @@ def test_the_value_of_who_left_counts_as_far_as_it_was_used() -> None:
     accounts.fills = {}
     assert accounts.predicted is None
     accounts.fills = fills
-    accounts.give({"Anna": Value("ask", 3, 5), "Bert": Value("bid", 5, 1)}, True, 1)
+    accounts.give({"Anna": ShareValue("ask", 3, 5), "Bert": ShareValue("bid", 5, 1)}, True, 1)
     assert accounts.most == 2 * 7 + 2
     accounts.come_back("Robot")
     assert accounts.most == 2 * 7 + 2
 
 
 @given(st.lists(VALUES, max_size=6))
-def test_the_predicted_prices_are_those_at_which_most_gain(values: list[Value]) -> None:
+def test_the_predicted_prices_are_those_at_which_most_gain(values: list[ShareValue]) -> None:
     """At each of them, and at no other, who trades may all be willing, and nobody else is."""
     found = predicted(values)
     if found is None:
@@ -261,39 +267,43 @@ def test_who_gains_nothing_may_trade_or_not() -> None:
     """Values of 30 to 21 and costs of 18 to 27, of 50 shares each, meet at 24: six of each gain
     there, and the seventh of each has 24 itself.
     """
-    bids = [Value("bid", tick, 50) for tick in range(21, 31)]
-    asks = [Value("ask", tick, 50) for tick in range(18, 28)]
+    bids = [ShareValue("bid", tick, 50) for tick in range(21, 31)]
+    asks = [ShareValue("ask", tick, 50) for tick in range(18, 28)]
     assert predicted([*bids, *asks]) == Predicted(24, 24, 6 * 50, 7 * 50)
 
 
 def test_a_hand_out_to_all_keeps_what_was_gained() -> None:
     accounts = Accounts(UNCOVERED)
-    accounts.fills["Anna"] = [Fill(1, 1, "bid", 5, 4), Fill(2, 3, "bid", 5, 4)]
+    accounts.fills["Anna"] = [MemberFill(1, 1, "bid", 5, 4), MemberFill(2, 3, "bid", 5, 4)]
     assert (accounts.has_values, accounts.gain_of("Anna")) == (False, 0)
-    accounts.give({"Anna": Value("bid", 6, 5)}, True, 1)
+    accounts.give({"Anna": ShareValue("bid", 6, 5)}, True, 1)
     assert accounts.gain_of("Anna") == 10
-    accounts.give({"Anna": Value("bid", 12, 5)}, True, 2)
-    accounts.fills["Anna"].append(Fill(3, 4, "bid", 1, 4))
+    accounts.give({"Anna": ShareValue("bid", 12, 5)}, True, 2)
+    accounts.fills["Anna"].append(MemberFill(3, 4, "bid", 1, 4))
     assert (accounts.gain_of("Anna"), accounts.most) == (10 + 8, 0)
 
 
 def test_how_many_shares_a_value_still_covers() -> None:
     accounts = Accounts(UNCOVERED)
-    fills = [Fill(1, 1, "ask", 3, 4), Fill(2, 3, "ask", 4, 4), Fill(3, 5, "bid", 1, 4)]
+    fills = [
+        MemberFill(1, 1, "ask", 3, 4),
+        MemberFill(2, 3, "ask", 4, 4),
+        MemberFill(3, 5, "bid", 1, 4),
+    ]
     accounts.fills["Anna"] = fills
     assert accounts.left_of("Anna") is None
-    accounts.give({"Anna": Value("ask", 2, 5)}, True, 1)
+    accounts.give({"Anna": ShareValue("ask", 2, 5)}, True, 1)
     assert accounts.left_of("Anna") == 2
-    fills.append(Fill(4, 7, "ask", 9, 4))
+    fills.append(MemberFill(4, 7, "ask", 9, 4))
     assert accounts.left_of("Anna") == 0
 
 
 def test_a_value_that_comes_late_counts_for_its_period() -> None:
     accounts = Accounts(UNCOVERED)
-    accounts.give({"Anna": Value("ask", 2, 5)}, True, 0)
-    accounts.fills["Bert"] = [Fill(1, 1, "bid", 5, 4)]
+    accounts.give({"Anna": ShareValue("ask", 2, 5)}, True, 0)
+    accounts.fills["Bert"] = [MemberFill(1, 1, "bid", 5, 4)]
     assert accounts.gain_of("Bert") == -20
-    accounts.give({"Bert": Value("bid", 6, 5)}, False, 1)
+    accounts.give({"Bert": ShareValue("bid", 6, 5)}, False, 1)
     assert (accounts.gain_of("Bert"), accounts.most) == (10, 20)
 
 

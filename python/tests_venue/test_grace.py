@@ -11,7 +11,7 @@ from callauction.venue import Client, auctions, clock
 from callauction.venue.config import DayTerms, Plan
 from callauction.venue.instrument_board import InstrumentBoard
 from callauction.venue.log import SlowWrite
-from callauction.venue.messages import Order
+from callauction.venue.messages import OrderMessage
 from callauction.venue.phases import Phase
 from callauction.venue.venue import Venue
 from patience import until
@@ -64,7 +64,7 @@ async def test_a_halt_over_the_end_of_a_call(
     async with in_call(tmp_path, call, True) as venue, asyncio.timeout(served.SECONDS):
         board = venue.rounds.now.boards["XYZ"]
         member, _ = await venue.join(venue.members.codes.by_name[""], "Anna")
-        answer, _ = venue.submit(member, Order(1, "XYZ", "enter,bid,1,200"))
+        answer, _ = venue.submit(member, OrderMessage(1, "XYZ", "enter,bid,1,200"))
         assert (await answer).reply == "entered 1"
         await halt(venue, board, whose, call + 1)
         went_on, end = clock.now(), board.auctions.state.ends
@@ -73,7 +73,7 @@ async def test_a_halt_over_the_end_of_a_call(
             await asyncio.sleep(0.01)
         assert board.auctions.state.ends is not None and board.auctions.state.phase is Phase.CALL
         assert board.auctions.state.ends - went_on == pytest.approx(min(GRACE, call), abs=1)
-        answer, _ = venue.submit(member, Order(2, "XYZ", "delete,1"))
+        answer, _ = venue.submit(member, OrderMessage(2, "XYZ", "delete,1"))
         assert (await answer).reply == "deleted"
         while phase_of(board) is not Phase.WAITING:
             await asyncio.sleep(0.01)

@@ -3,8 +3,8 @@ import asyncio
 
 import pytest
 from callauction.venue import AsyncClient, VenueError
-from callauction.venue.accounts import Fill
-from callauction.venue.gains import Value
+from callauction.venue.accounts import MemberFill
+from callauction.venue.gains import ShareValue
 from callauction.venue.holdings import Holding, Own
 from callauction.venue.messages import MessageError
 from callauction.venue.treatments import Limits
@@ -22,8 +22,8 @@ def refusal(limits: Limits, waiting: list[str], record: str, side: str = "bid") 
     """Why a record is refused of a member whose value has 10 shares of a side, empty where it
     isn't.
     """
-    value = Value(side, 500, 10)
-    holding = Holding(value, [Fill(1, 9, side, 1, 200)], [], OWN, waiting, HIGH)
+    value = ShareValue(side, 500, 10)
+    holding = Holding(value, [MemberFill(1, 9, side, 1, 200)], [], OWN, waiting, HIGH)
     try:
         holding.check(limits, record)
     except MessageError as fault:

@@ -8,7 +8,7 @@ from collections.abc import Sequence
 import pytest
 import served
 from callauction.venue.config import DayTerms, Plan
-from callauction.venue.messages import Order
+from callauction.venue.messages import OrderMessage
 from callauction.venue.venue import Venue
 from callauction.venue.views import Level
 from listeners import Listener
@@ -34,7 +34,7 @@ async def test_a_book_is_listed_once_after_a_change(
         return await show(views)
 
     async def seen_after(number: int, record: str) -> list[Level]:
-        await venue.submit(member, Order(number, "XYZ", record))[0]
+        await venue.submit(member, OrderMessage(number, "XYZ", record))[0]
         await board.looks.refresh()
         asked.clear()
         await asyncio.gather(*[board.looks.refresh() for _ in range(LOOKS)])

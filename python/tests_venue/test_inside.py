@@ -24,8 +24,8 @@ from callauction.venue.config import DayTerms, InstrumentTerms
 from callauction.venue.gates import Gates
 from callauction.venue.http import Site
 from callauction.venue.log import ChangedByOthers, Log, SlowWrite
-from callauction.venue.members import Member, NameTakenError
-from callauction.venue.messages import MessageError, Order
+from callauction.venue.members import NameTakenError, VenueMember
+from callauction.venue.messages import MessageError, OrderMessage
 from callauction.venue.metrics import Measures
 from callauction.venue.venue import Venue
 
@@ -109,22 +109,23 @@ async def test_a_removed_member_says_nothing_more(inside: Venue) -> None:
     member, _ = await inside.join(inside.members.codes.by_name[""], "Anna")
     board = inside.rounds.now.boards["XYZ"]
     board.auctions.start_call()
-    first, _ = inside.submit(member, Order(1, "XYZ", "enter,bid,1,200"))
+    first, _ = inside.submit(member, OrderMessage(1, "XYZ", "enter,bid,1,200"))
     assert (await first).reply == "entered 1"
     await inside.remove([member])
     with pytest.raises(MessageError) as found:
-        inside.submit(member, Order(9, "XYZ", "enter,bid,1,200"))
+        inside.submit(member, OrderMessage(9, "XYZ", "enter,bid,1,200"))
     assert found.value.code == "bad_token"
     assert (await member.done[2].answer).reply == "deleted"
 
 
-async def in_flight(inside: Venue) -> Member:
+async def in_flight(inside: Venue) -> VenueMember:
     """A member with an order that isn't answered, which would trade with another one's."""
     code = inside.members.codes.by_name[""]
     (anna, _), (bert, _) = [await inside.join(code, name) for name in ("Anna", "Bert")]
     inside.rounds.now.boards["XYZ"].auctions.start_call()
-    assert (await inside.submit(bert, Order(1, "XYZ", "enter,ask,1,200"))[0]).reply == "entered 1"
-    inside.submit(anna, Order(1, "XYZ", "enter,bid,1,200"))
+    answer, _ = inside.submit(bert, OrderMessage(1, "XYZ", "enter,ask,1,200"))
+    assert (await answer).reply == "entered 1"
+    inside.submit(anna, OrderMessage(1, "XYZ", "enter,bid,1,200"))
     return anna
 
 
@@ -356,7 +357,7 @@ async def test_a_bucket() -> None:
 async def test_looks_at_trades_come_in_pages(client: Any, inside: Venue) -> None:
     """Three members look at 15,000 trades as fast as they may: orders hardly wait."""
     [instrument] = inside.rounds.now.boards.values()
-    trades = (views.Trade(it, 2 * it, 2 * it + 1, 1, 200) for it in range(1, 15_001))
+    trades = (views.DayTrade(it, 2 * it, 2 * it + 1, 1, 200) for it in range(1, 15_001))
     instrument.looks.trades.extend(trades)
     instrument.auctions.start_call()
     found = [await inside.join(inside.members.codes.by_name[""], f"member {it}") for it in range(4)]
@@ -380,7 +381,7 @@ async def test_looks_at_trades_come_in_pages(client: Any, inside: Venue) -> None
     waits = []
     for number in range(1, 31):
         begin = time.monotonic()
-        answer, _ = inside.submit(me, Order(number, "XYZ", "enter,bid,1,200"))
+        answer, _ = inside.submit(me, OrderMessage(number, "XYZ", "enter,bid,1,200"))
         assert (await answer).reply == f"entered {number}"
         waits.append(time.monotonic() - begin)
         await asyncio.sleep(0.05)
@@ -408,7 +409,7 @@ async def test_what_a_state_has_other_looks_have_too(client: Any, inside: Venue)
     await operator_words.done(inside, {"do": "give", "values": values})
     await operator_words.done(inside, {"do": "start"})
     for member, side in ((anna, "bid"), (bert, "ask")):
-        answer, _ = inside.submit(member, Order(1, "XYZ", f"enter,{side},10,200"))
+        answer, _ = inside.submit(member, OrderMessage(1, "XYZ", f"enter,{side},10,200"))
         await answer
     await operator_words.done(inside, {"do": "uncross"})
     operator = inside.secrets["operator"]

@@ -10,7 +10,7 @@ from callauction.venue import recovery
 from callauction.venue.engine import Engine
 from callauction.venue.log import Log
 from callauction.venue.process import Process
-from callauction.venue.recovery import Entry, Mark
+from callauction.venue.recovery import Entry, JournalMark
 
 pytestmark = pytest.mark.asyncio
 COUNT = 20_000
@@ -97,13 +97,13 @@ async def test_what_others_changed_is_told_beside_the_loop(
     tmp_path: pathlib.Path, monkeypatch: pytest.MonkeyPatch
 ) -> None:
     """A million entries take seconds to read one by one, in which others' orders are served."""
-    read, check = Read(), Mark.check
+    read, check = Read(), JournalMark.check
 
-    def checked(mark: Mark, those: Sequence[Entry], **others: Any) -> None:
+    def checked(mark: JournalMark, those: Sequence[Entry], **others: Any) -> None:
         read.took(b"")
         check(mark, those, **others)
 
-    monkeypatch.setattr(Mark, "check", checked)
+    monkeypatch.setattr(JournalMark, "check", checked)
     engine = engine_of(tmp_path, entries(1, COUNT))
     with engine.journal.path.open("r+b") as journal:
         journal.seek(len(FIRST))

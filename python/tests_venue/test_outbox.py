@@ -7,7 +7,7 @@ import pytest
 from callauction.venue.log import Log
 from callauction.venue.outbox import Outbox
 from callauction.venue.process import AnswerCallback, Process
-from callauction.venue.recovery import Entry, Message
+from callauction.venue.recovery import Entry, MemberMessage
 
 pytestmark = pytest.mark.asyncio
 
@@ -49,7 +49,7 @@ def outbox_of(disk: Disk) -> Outbox:
 
 
 def put(outbox: Outbox, record: str, is_first: bool = False) -> "asyncio.Future[Entry]":
-    return outbox.put(Message("Anna", ord(record), record), is_first)
+    return outbox.put(MemberMessage("Anna", ord(record), record), is_first)
 
 
 def begin(outbox: Outbox, run: Begun) -> list[str]:

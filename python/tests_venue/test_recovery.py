@@ -2,7 +2,7 @@
 import dataclasses
 
 import pytest
-from callauction.venue.recovery import Entry, Message, RecoveryError, Run, matched, settled
+from callauction.venue.recovery import Entry, MemberMessage, RecoveryError, Run, matched, settled
 from hypothesis import given, settings
 from hypothesis import strategies as st
 
@@ -18,7 +18,7 @@ class Played:
 
     runs: list[Run]
     entries: list[Entry]
-    truth: list[tuple[Message, int | None]]
+    truth: list[tuple[MemberMessage, int | None]]
 
 
 @st.composite
@@ -32,7 +32,7 @@ def played(draw: st.DrawFn) -> Played:
         taken = draw(st.integers(0, len(records)))
         for place, record in enumerate(records):
             number += 1
-            message = Message(record[0], number, record)
+            message = MemberMessage(record[0], number, record)
             run.messages.append(message)
             is_member = not record.startswith("0")
             is_refused = is_member and len(found.entries) >= most
@@ -54,7 +54,7 @@ def test_each_message_is_found_as_it_was(day: Played) -> None:
 
 def test_an_entry_that_nobody_asked_for() -> None:
     entry = Entry(1, "1,delete,1", "deleted")
-    message = Message("Anna", 1, "1,delete,2")
+    message = MemberMessage("Anna", 1, "1,delete,2")
     with pytest.raises(RecoveryError, match="longer one: it has 1 entries, and the log knows of 0"):
         matched([message], [entry])
     with pytest.raises(RecoveryError, match="entry 1 of the journal is no message of the log"):

@@ -16,7 +16,7 @@ import served
 from callauction.venue import AsyncClient, Client
 from callauction.venue.recovery import (
     Entry,
-    Mark,
+    JournalMark,
     RecoveryError,
     RolledBackError,
     Sum,
@@ -42,11 +42,11 @@ OF_TWO = "584dfd9ab8db19624f2addd0ce8c86b3450353b3416cd59e3a298424c768f169"
 
 def test_a_mark_of_the_same_entries() -> None:
     mark = Sum(ENTRIES[:2]).mark
-    assert mark == Mark(2, OF_TWO)
+    assert mark == JournalMark(2, OF_TWO)
     mark.check(ENTRIES)
     mark.check(ENTRIES[:2])
-    Mark().check([])
-    Mark(3).check(ENTRIES)  # as earlier versions wrote it, without a digest
+    JournalMark().check([])
+    JournalMark(3).check(ENTRIES)  # as earlier versions wrote it, without a digest
 
 
 def test_a_journal_with_fewer_entries() -> None:
@@ -65,7 +65,7 @@ def test_a_journal_with_other_entries() -> None:
         "the journal is another one: its first 2 entries aren't those of which the log knows"
     )
     with pytest.raises(RolledBackError) as found:
-        Mark(3, Sum(ENTRIES).mark.sha256).check(other)  # of a log that has no earlier mark
+        JournalMark(3, Sum(ENTRIES).mark.sha256).check(other)  # of a log that has no earlier mark
     assert str(found.value) == (
         "the journal is another one: its first 3 entries aren't those of which the log knows"
     )

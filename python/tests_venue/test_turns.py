@@ -9,7 +9,7 @@ from typing import Any
 
 import pytest
 from callauction.venue.gates import Gate, Gates, Stage
-from callauction.venue.passing import HEAD_SLICE, Passed, Secured, size_of_slice
+from callauction.venue.passing import HEAD_SLICE, PassingProtocol, Secured, size_of_slice
 from callauction.venue.turns import Turns
 from certificates import certificate
 from listeners import Line
@@ -47,9 +47,11 @@ class Closing(asyncio.Protocol):
         self._transport.close()
 
 
-def passed(found: Gates, inner: asyncio.Protocol, address: str = "a", **more: Any) -> Passed:
+def passed(
+    found: Gates, inner: asyncio.Protocol, address: str = "a", **more: Any
+) -> PassingProtocol:
     """A connection from an address."""
-    one = Passed(found, Gate(address, socket.socket(), 0.0, **more), inner)
+    one = PassingProtocol(found, Gate(address, socket.socket(), 0.0, **more), inner)
     one.connection_made(Line())
     return one
 
@@ -132,7 +134,7 @@ def of_server(folder: pathlib.Path) -> ssl.SSLContext:
 async def test_tls_keeps_little_more_than_is_deciphered_at_once(tmp_path: pathlib.Path) -> None:
     """While what it gave before isn't looked at, so that what it gives then is little too."""
     context, found, heard = of_server(tmp_path), Gates(), Heard()
-    one = Far(found, context, lambda gate: Passed(found, gate, Inner("one", heard)))
+    one = Far(found, context, lambda gate: PassingProtocol(found, gate, Inner("one", heard)))
     for _ in range(2):
         one.shake_hands()
         await asyncio.sleep(0)
@@ -151,7 +153,7 @@ async def test_tls_keeps_little_more_than_is_deciphered_at_once(tmp_path: pathli
 async def test_who_leaves_while_its_connection_is_ended_is_gone(tmp_path: pathlib.Path) -> None:
     """By TLS, whose end waits for what wasn't looked at."""
     context, found = of_server(tmp_path), Gates()
-    one = Far(found, context, lambda gate: Passed(found, gate, Closing()))
+    one = Far(found, context, lambda gate: PassingProtocol(found, gate, Closing()))
     for _ in range(2):
         one.shake_hands()
         await asyncio.sleep(0)
@@ -174,7 +176,7 @@ async def test_who_is_closed_twice_at_its_turn_harms_nobody(tmp_path: pathlib.Pa
             super().data_received(data)
             super().data_received(data)
 
-    one = Far(found, context, lambda gate: Passed(found, gate, Twice()))
+    one = Far(found, context, lambda gate: PassingProtocol(found, gate, Twice()))
     for _ in range(2):
         one.shake_hands()
         await asyncio.sleep(0)

@@ -7,9 +7,9 @@ from typing import Any
 import pytest
 import served
 from callauction.venue import robots
-from callauction.venue.accounts import Fill
+from callauction.venue.accounts import MemberFill
 from callauction.venue.config import DayTerms, InstrumentTerms
-from callauction.venue.gains import Value
+from callauction.venue.gains import ShareValue
 from callauction.venue.instrument_board import BoardIdentity, Common, InstrumentBoard
 from callauction.venue.log import Log
 from callauction.venue.treatments import Treatment
@@ -109,8 +109,8 @@ def test_the_order_of_a_robot(log: Log, kind: str, side: str, tick: int, traded:
     common = Common(DayTerms(), pathlib.Path("/nowhere"), "none", log)
     board = InstrumentBoard(BoardIdentity("XYZ"), InstrumentTerms(), Treatment(), common)
     board.book.give("Robot 1", 1)
-    board.accounts.give({"Robot 1": Value(side, tick, 10)}, True, 0)
-    board.accounts.fills["Robot 1"] = [Fill(1, 1, side, traded, tick)] if traded else []
+    board.accounts.give({"Robot 1": ShareValue(side, tick, 10)}, True, 0)
+    board.accounts.fills["Robot 1"] = [MemberFill(1, 1, side, traded, tick)] if traded else []
     record = robots.record_of(kind, board, "Robot 1")
     if traded == 10:
         assert record is None

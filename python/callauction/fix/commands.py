@@ -10,7 +10,7 @@ from callauction.fix.refusals import refuse
 from callauction.fix.tags import Given, Tag, now
 from callauction.venue.instrument_board import InstrumentBoard
 from callauction.venue.leaving import withdraw
-from callauction.venue.messages import MessageError, Order
+from callauction.venue.messages import MessageError, OrderMessage
 from callauction.venue.recovery import Entry
 
 if TYPE_CHECKING:
@@ -24,7 +24,7 @@ GONE = "the connection has ended, or its venue: CancelOrdersOnDisconnect (8013=Y
 Answers = Collection["asyncio.Future[Entry]"]
 
 
-class Commands:
+class SessionCommands:
     """What a session has sent to boards; each answer that is waited for has its board."""
 
     def __init__(self, seat: "Seat") -> None:
@@ -76,7 +76,7 @@ class Commands:
             note[ORIGIN] = given[Tag.ORIG_CL_ORD_ID]
         if time:
             note[TIME] = time
-        order = Order(-own.key, board.terms.name, record, note)
+        order = OrderMessage(-own.key, board.terms.name, record, note)
         answer, _ = seat.venue.submit(seat.member, order)
         epoch.submitted(number, promised)
         seat.clients.numbers[client] = own
@@ -93,10 +93,10 @@ class Commands:
 
     def deletion(
         self, board: InstrumentBoard, order: int, message: int, note: dict[str, str]
-    ) -> Order:
+    ) -> OrderMessage:
         """The deletion of an order, as one more part of a message, or of none (0)."""
         key = self._seat.epoch.next_part(message).key
-        return Order(-key, board.terms.name, f"delete,{order}", note)
+        return OrderMessage(-key, board.terms.name, f"delete,{order}", note)
 
     async def withdraw(self) -> None:
         """Deletes the open orders that the session has entered, in any phase: its connection was

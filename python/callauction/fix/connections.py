@@ -10,7 +10,7 @@ from collections.abc import Callable, Coroutine, Iterator, Mapping
 from typing import Any
 
 from callauction.fix.seats import Seat
-from callauction.fix.sent import MOST_AT_ONCE, Outbound, Sent
+from callauction.fix.sent import MOST_AT_ONCE, Outbound, SentMessages
 from callauction.fix.tags import Tag, Type, now
 from callauction.fix.wires import STATES, Wire
 from callauction.venue import listening
@@ -43,7 +43,7 @@ class Connections:
     """
 
     def __init__(
-        self, venue: Venue, sent: Sent, start: Callable[[Coroutine[Any, Any, None]], object]
+        self, venue: Venue, sent: SentMessages, start: Callable[[Coroutine[Any, Any, None]], object]
     ) -> None:
         self.venue: Venue = venue
         self.start = start

@@ -9,11 +9,9 @@ from typing import NamedTuple, Self
 from callauction.fix.order_fields import MOST_ID_LETTERS, check_client
 from callauction.fix.orders import NUMBER, SINCE, entry_event
 from callauction.fix.refusals import UNUSED
-from callauction.fix.tags import (
-    Given, Pairs, Status, Tag, Type, body_of, event_in, refusal_of,
-)
+from callauction.fix.tags import FixFields, Given, Status, Tag, Type, body_of, event_in, refusal_of
 from callauction.venue.instrument_board import InstrumentBoard
-from callauction.venue.recovery import Entry, Message
+from callauction.venue.recovery import Entry, MemberMessage
 
 PART_BIT, EPOCH_BIT = 32, 64
 """At which bit the part of a message and the epoch of a session begin."""
@@ -29,7 +27,7 @@ def key_of(message: int, part: int = 0, epoch: int = 0) -> int:
     return message | part << PART_BIT | epoch << EPOCH_BIT
 
 
-class Number(NamedTuple):
+class MessageNumber(NamedTuple):
     """A message by its MsgSeqNum, 0 for none that came; which of the deletions that it came to,
     from 1, else 0; and how often its session was reset before.
     """
@@ -69,7 +67,7 @@ class Epoch:
         self.promised: dict[str, int] = {}
         self.owed: dict[str, int] = {}
         self.awaited: dict[int, None] = {}
-        self.lost: dict[int, tuple[InstrumentBoard, Message]] = {}
+        self.lost: dict[int, tuple[InstrumentBoard, MemberMessage]] = {}
         self.deleted: collections.Counter[int] = collections.Counter()
         self._is_done: dict[int, bool] = {}
         self._parts: collections.Counter[int] = collections.Counter()
@@ -83,11 +81,11 @@ class Epoch:
         """The id of what a message to the session says, empty where it has none."""
         return event_in(given, self.comp_id, self.name)
 
-    def number_of(self, message: int, part: int = 0) -> Number:
+    def number_of(self, message: int, part: int = 0) -> MessageNumber:
         """The number in the venue of a message, or of a part of it."""
-        return Number(message, part, self.number)
+        return MessageNumber(message, part, self.number)
 
-    def next_part(self, message: int) -> Number:
+    def next_part(self, message: int) -> MessageNumber:
         """The number in the venue of one more part of a message, or of none (0)."""
         self._parts[message] += 1
         return self.number_of(message, self._parts[message])
@@ -118,7 +116,11 @@ class Epoch:
         self.awaited[message] = None
 
     def entered(
-        self, board: InstrumentBoard, message: Message, number: Number, entry: Entry | None
+        self,
+        board: InstrumentBoard,
+        message: MemberMessage,
+        number: MessageNumber,
+        entry: Entry | None,
     ) -> None:
         """A message of this number in the log has its entry, or never had one."""
         if number.part:
@@ -166,16 +168,16 @@ class Clients:
     """
 
     def __init__(self) -> None:
-        self.numbers: dict[str, Number] = {}
-        self.mass: dict[str, Pairs] = {}
-        self.refused: dict[str, tuple[Type, Pairs]] = {}
+        self.numbers: dict[str, MessageNumber] = {}
+        self.mass: dict[str, FixFields] = {}
+        self.refused: dict[str, tuple[Type, FixFields]] = {}
 
-    def is_used(self, given: Given, own: Number) -> bool:
+    def is_used(self, given: Given, own: MessageNumber) -> bool:
         """Whether an id was another message's. Raises SeatError where it is none."""
         check_client(given)
         return self.numbers.get(given[Tag.CL_ORD_ID], own) != own
 
-    def keep(self, given: Given, own: Number, answer: Pairs = []) -> None:
+    def keep(self, given: Given, own: MessageNumber, answer: FixFields = []) -> None:
         """The id of a message is its own for the day, also where it was refused, but as too long or
         for UNUSED; a mass cancel's with what is said to it.
         """
@@ -184,7 +186,7 @@ class Clients:
             if answer:
                 self.mass.setdefault(client, answer)
 
-    def told(self, kind: Type, pairs: Pairs) -> None:
+    def told(self, kind: Type, pairs: FixFields) -> None:
         """Keeps what is said to a message that is refused, but for UNUSED."""
         is_refusal = kind == Type.REPORT and (Tag.EXEC_TYPE, Status.REJECTED) in pairs
         if not is_refusal and kind != Type.CANCEL_REJECT:
@@ -195,7 +197,7 @@ class Clients:
             said = [it for it in pairs if it[0] != Tag.TRANSACT_TIME]
             self.refused.setdefault(client, (kind, said))
 
-    def learn(self, pairs: Pairs, epoch: Epoch) -> None:
+    def learn(self, pairs: FixFields, epoch: Epoch) -> None:
         """Learns what a session was told in an earlier run of a message that wasn't executed."""
         given = dict(pairs)
         event = epoch.event_in(given)

@@ -10,7 +10,7 @@ from typing import TYPE_CHECKING
 from callauction.fix.refusals import (
     DEPTH, DUPLICATE, ENTRY_TYPE, TOO_MUCH, UNSUPPORTED, UPDATE_TYPE, SeatError,
 )
-from callauction.fix.tags import OTHER_REASON, Given, Groups, Pairs, Tag, Type
+from callauction.fix.tags import OTHER_REASON, FixFields, Given, RepeatingGroups, Tag, Type
 from callauction.venue.instrument_board import InstrumentBoard
 from callauction.venue.phases import Phase
 from callauction.venue.venue import Venue
@@ -50,11 +50,11 @@ ENTRY_TYPES = PRICE, VOLUME, IMBALANCE, BID, ASK = "Q", "B", "A", "0", "1"
 """MDEntryType of what is indicated; Q is of FIX 5.0."""
 TRADE_CONDITIONS = {"bid": "P", "ask": "Q"}
 """TradeCondition: more is bid, or more is asked."""
-EMPTY: Pairs = [(Tag.MD_ENTRY_TYPE, "J")]
+EMPTY: FixFields = [(Tag.MD_ENTRY_TYPE, "J")]
 """The one row of a snapshot that has no other: an empty book; of FIX 5.0, as Q."""
-Rows = dict[str, Pairs]
+FeedRows = dict[str, FixFields]
 """Rows of market data by their MDEntryType, which each begins with."""
-Send = Callable[[Type, Pairs, Groups], object]
+Send = Callable[[Type, FixFields, RepeatingGroups], object]
 
 
 @dataclasses.dataclass
@@ -65,9 +65,9 @@ class Data:
     types: frozenset[str]
     instruments: frozenset[str]
     is_whole: bool
-    last: dict[str, Rows] = dataclasses.field(default_factory=dict)
+    last: dict[str, FeedRows] = dataclasses.field(default_factory=dict)
 
-    def changed(self, board: InstrumentBoard, rows: Rows, send: Send) -> None:
+    def changed(self, board: InstrumentBoard, rows: FeedRows, send: Send) -> None:
         """Sends what has changed of a board."""
         instrument = board.identity.instrument
         wanted = {kind: row for kind, row in rows.items() if kind in self.types}
@@ -78,7 +78,7 @@ class Data:
         if self.is_whole:
             send(Type.SNAPSHOT, *snapshot(self.request, instrument, wanted))
             return
-        head: Pairs = [(Tag.MD_REQ_ID, self.request)]
+        head: FixFields = [(Tag.MD_REQ_ID, self.request)]
         changes = changes_of(instrument, before, wanted)
         send(Type.CHANGES, head, [(Tag.NO_MD_ENTRIES, Tag.MD_UPDATE_ACTION, changes)])
 
@@ -89,9 +89,9 @@ class Phases:
 
     request: str
     instruments: frozenset[str]
-    last: dict[str, Pairs] = dataclasses.field(default_factory=dict)
+    last: dict[str, FixFields] = dataclasses.field(default_factory=dict)
 
-    def changed(self, board: InstrumentBoard, phase: Pairs, send: Send) -> None:
+    def changed(self, board: InstrumentBoard, phase: FixFields, send: Send) -> None:
         """Sends a phase that has changed."""
         instrument = board.identity.instrument
         if instrument in self.instruments and self.last.get(instrument) != phase:
@@ -100,20 +100,22 @@ class Phases:
             send(Type.PHASE, [(Tag.TRAD_SES_REQ_ID, self.request), unasked, *phase], [])
 
 
-def snapshot(request: str, instrument: str, rows: Rows) -> tuple[Pairs, Groups]:
+def snapshot(request: str, instrument: str, rows: FeedRows) -> tuple[FixFields, RepeatingGroups]:
     """A MarketDataSnapshotFullRefresh, which has a row also where there is nothing to show: by the
     standard a count is positive.
     """
-    head: Pairs = [(Tag.MD_REQ_ID, request), (Tag.SYMBOL, instrument)]
+    head: FixFields = [(Tag.MD_REQ_ID, request), (Tag.SYMBOL, instrument)]
     entries = [*rows.values()] or [EMPTY]
     return head, [(Tag.NO_MD_ENTRIES, Tag.MD_ENTRY_TYPE, entries)]
 
 
-def changes_of(instrument: str, before: Rows, after: Rows) -> list[Pairs]:
+def changes_of(instrument: str, before: FeedRows, after: FeedRows) -> list[FixFields]:
     """What a MarketDataIncrementalRefresh has of one instrument: what is gone first."""
     symbol = (Tag.SYMBOL, instrument)
     gone = [before[kind][0] for kind in before if kind not in after]
-    found: list[Pairs] = [[(Tag.MD_UPDATE_ACTION, UPDATE_DELETE), kind, symbol] for kind in gone]
+    found: list[FixFields] = [
+        [(Tag.MD_UPDATE_ACTION, UPDATE_DELETE), kind, symbol] for kind in gone
+    ]
     for kind, row in after.items():
         if row != before.get(kind):
             action = (Tag.MD_UPDATE_ACTION, UPDATE_CHANGE if kind in before else UPDATE_NEW)
@@ -121,37 +123,37 @@ def changes_of(instrument: str, before: Rows, after: Rows) -> list[Pairs]:
     return found
 
 
-def rows_of(board: InstrumentBoard, levels: Sequence[Level]) -> Rows:
+def rows_of(board: InstrumentBoard, levels: Sequence[Level]) -> FeedRows:
     """All that a board indicates: price, volume and surplus, or the best limits without a price,
     with their visible shares where the levels of its book are given; nothing on a day that is over.
     """
     if board.auctions.state.phase is Phase.OVER:
         return {}
     price, it = board.terms.price, board.looks.indication
-    rows: list[Pairs] = []
+    rows: list[FixFields] = []
     if it.price is not None:
         volume = (Tag.MD_ENTRY_SIZE, str(it.volume))
         rows.append([(Tag.MD_ENTRY_TYPE, PRICE), (Tag.MD_ENTRY_PX, price(it.price)), volume])
         rows.append([(Tag.MD_ENTRY_TYPE, VOLUME), volume])
-        surplus: Pairs = [(Tag.MD_ENTRY_TYPE, IMBALANCE), (Tag.MD_ENTRY_SIZE, str(it.surplus))]
+        surplus: FixFields = [(Tag.MD_ENTRY_TYPE, IMBALANCE), (Tag.MD_ENTRY_SIZE, str(it.surplus))]
         side = TRADE_CONDITIONS.get(it.side)
         rows.append(surplus + ([(Tag.TRADE_CONDITION, side)] if side else []))
     for kind, best in ((BID, it.bid), (ASK, it.ask)):
         if best is not None:
             at = [it for it in levels if it.limit == best]
             sizes = [str(it.bid if kind == BID else it.ask) for it in at]
-            row: Pairs = [(Tag.MD_ENTRY_TYPE, kind), (Tag.MD_ENTRY_PX, price(best))]
+            row: FixFields = [(Tag.MD_ENTRY_TYPE, kind), (Tag.MD_ENTRY_PX, price(best))]
             rows.append(row + [(Tag.MD_ENTRY_SIZE, size) for size in sizes])
     return {row[0][1]: row for row in rows}
 
 
-def phase_of(venue: Venue, board: InstrumentBoard) -> Pairs:
+def phase_of(venue: Venue, board: InstrumentBoard) -> FixFields:
     """The phase of a board; without the auction, and the end, of one that wasn't seen yet."""
     state = board.auctions.state
     is_halted = board.engine.halted is not None or venue.halts.halted is not None
     text = "halted" if is_halted else "frozen" if state.frozen is not None else str(state.phase)
     status = PHASE_STATUSES[state.phase] if text == state.phase else PHASE_HALTED
-    found: Pairs = [(Tag.TRADING_SESSION_ID, board.identity.instrument)]
+    found: FixFields = [(Tag.TRADING_SESSION_ID, board.identity.instrument)]
     if not board.looks.is_seen:
         is_new = text == state.phase
         status, text = (PHASE_UNKNOWN, "unknown") if is_new else (status, text)
@@ -226,7 +228,7 @@ def check_data(given: Given, update: str, types: frozenset[str]) -> None:
         raise SeatError(ENTRY_TYPE, f"MDEntryType is one of {', '.join(ENTRY_TYPES)}")
 
 
-async def ask_data(seat: "Seat", asked: Pairs, given: Given, number: int) -> None:
+async def ask_data(seat: "Seat", asked: FixFields, given: Given, number: int) -> None:
     """MarketDataRequest. Raises MessageError. What changes is heard by its connection alone."""
     feeds, request, how = seat.feeds, given[Tag.MD_REQ_ID], given[Tag.SUBSCRIPTION_REQUEST_TYPE]
     wire = seat.connections.on.get(seat)
@@ -255,7 +257,7 @@ async def ask_data(seat: "Seat", asked: Pairs, given: Given, number: int) -> Non
         feeds.data[request] = data
 
 
-async def ask_phases(seat: "Seat", rows: Pairs, given: Given, number: int) -> None:
+async def ask_phases(seat: "Seat", rows: FixFields, given: Given, number: int) -> None:
     """TradingSessionStatusRequest. Raises MessageError."""
     request, how = given[Tag.TRAD_SES_REQ_ID], given[Tag.SUBSCRIPTION_REQUEST_TYPE]
     feeds, venue = seat.feeds, seat.venue

@@ -33,7 +33,7 @@ class FirstError(Exception):
     """The venue doesn't run, or says something else than was to come."""
 
 
-class Client:
+class FixClient:
     """A session of a member."""
 
     def __init__(self, port: int, comp_id: str) -> None:
@@ -104,7 +104,7 @@ def play(folder: pathlib.Path) -> None:
     with venue(folder, port) as url:
         names = ("operator", "fix.ALICE", "fix.BOB")
         tokens = {it: (folder / f"venue/{it}.token").read_text().strip() for it in names}
-        alice, bob = Client(port, "ALICE"), Client(port, "BOB")
+        alice, bob = FixClient(port, "ALICE"), FixClient(port, "BOB")
         for it, name in ((alice, "fix.ALICE"), (bob, "fix.BOB")):
             it.say("A", f"98=0|108=30|554={tokens[name]}")
             it.hear()

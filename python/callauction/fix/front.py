@@ -17,13 +17,13 @@ from callauction.fix.epochs import Epoch
 from callauction.fix.reports import Reports
 from callauction.fix.resets import ENDS, reset
 from callauction.fix.seats import CopySeat, Seat
-from callauction.fix.sent import MOST_AT_ONCE, Sent
+from callauction.fix.sent import MOST_AT_ONCE, SentMessages
 from callauction.fix.settings import settings_of
 from callauction.fix.tags import FIX44, FIXT, pairs_of
 from callauction.venue import ending, tokens
 from callauction.venue.background import going_on
 from callauction.venue.book import OPERATOR
-from callauction.venue.fix_terms import Terms
+from callauction.venue.fix_terms import FixTerms
 from callauction.venue.listening import Tls
 from callauction.venue.logger import NOTICES
 from callauction.venue.messages import MessageError
@@ -45,16 +45,16 @@ COUNTED = {
 """What the module counts."""
 
 
-class Front:
+class FixFront:
     """The FIX sessions of a venue, which hears all entries of its boards from the venue's opening
     on, and listens from `begin` to `shut`.
     """
 
     files = MOST_CONNECTIONS + OTHER_FILES
 
-    def __init__(self, venue: Venue, terms: Terms, program: str) -> None:
+    def __init__(self, venue: Venue, terms: FixTerms, program: str) -> None:
         self._venue, self._door = venue, FixAddress(terms.host, terms.port)
-        self._sent = Sent(venue.folder, venue.day.is_synced)
+        self._sent = SentMessages(venue.folder, venue.day.is_synced)
         self._connections = Connections(venue, self._sent, self._start)
         self._outbound = self._connections.outbound
         self._reports = Reports(self._connections, program, self._fail)

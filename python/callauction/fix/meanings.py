@@ -12,11 +12,11 @@ from callauction.fix.tags import (
     Tag, Type,
 )
 
-Values = Mapping[str, str]
+Meanings = Mapping[str, str]
 """What each message says, or each value of a tag."""
 HEAD = "head"
 """What is around each message, as a type of messages."""
-BOTH_WAYS: Values = {
+BOTH_WAYS: Meanings = {
     Type.LOGON: "A Logon begins a connection, and is answered by one.",
     "0": "A Heartbeat says that somebody is there.",
     Type.TEST_REQUEST: "A TestRequest asks for a Heartbeat.",
@@ -26,7 +26,7 @@ BOTH_WAYS: Values = {
     "5": "A Logout ends a connection.",
 }
 """Messages of the session, both ways."""
-TO_VENUE: Values = {
+TO_VENUE: Meanings = {
     Type.ENTER: "A new order, answered by 8.",
     Type.REPLACE: "Another total or price of an open order, answered by 8 or 9.",
     Type.CANCEL: "The cancel of an order, answered by 8 or 9.",
@@ -39,7 +39,7 @@ TO_VENUE: Values = {
     Type.LIST_REQUEST: "A look at the instruments, answered by y.",
 }
 """Messages to the venue."""
-FROM_VENUE: Values = {
+FROM_VENUE: Meanings = {
     Type.REPORT: "What became of an order.",
     Type.CANCEL_REJECT: "A replace or a cancel wasn't done, said once more to one with 97=Y or "
     "43=Y.",
@@ -202,7 +202,7 @@ TIMES = {
     CLOSING: "the closing auction alone",
 }
 ORDER_TYPE_MEANINGS = {MARKET: "a market order, without 44", LIMIT: "a limit order, with 44"}
-STATUS_MEANINGS: Values = {
+STATUS_MEANINGS: Meanings = {
     Status.NEW: "open",
     Status.PARTLY: "executed in part",
     Status.FILLED: "executed",
@@ -213,7 +213,7 @@ STATUS_MEANINGS: Values = {
     Status.PENDING_REPLACE: "its replace waits there",
     Status.PENDING_CANCEL: "its cancel waits there",
 }
-EXECS: Values = {
+EXECS: Meanings = {
     Status.NEW: "entered",
     Exec.REPLACED: "replaced",
     Status.CANCELED: "cancelled",
@@ -268,7 +268,7 @@ PHASES = {
     refusals.PHASE_REFUSED: "the request is refused",
 }
 AUCTIONS = {"2": "opening", "6": "intraday", "4": "closing", feeds.AFTER: "the day is over"}
-VALUES: Mapping[tuple[str, int], Values] = {
+VALUES: Mapping[tuple[str, int], Meanings] = {
     (Type.ENTER, 54): SIDES,
     (Type.ENTER, 40): ORDER_TYPE_MEANINGS,
     (Type.REPLACE, 40): ORDER_TYPE_MEANINGS,

@@ -8,13 +8,13 @@ from decimal import Context, Decimal
 
 from callauction.fix.tags import (
     CLOSING, DAY, GOOD_TILL_CANCEL, LIMIT, MARKET, NONE, OPENING, OTHER_REASON, SIDE_CODES, Exec,
-    Groups, Pairs, Status, Tag, Type, now,
+    FixFields, RepeatingGroups, Status, Tag, Type, now,
 )
 from callauction.fix.uncrosses import Seen
 from callauction.venue import views
 from callauction.venue.book import OPERATOR
 from callauction.venue.instrument_board import InstrumentBoard
-from callauction.venue.recovery import Entry, Message
+from callauction.venue.recovery import Entry, MemberMessage
 from callauction.words import Refusal
 from callauction.words import MARKET as AT_MARKET
 
@@ -70,8 +70,8 @@ class Report:
     member: str
     type: Type
     event: str
-    pairs: Pairs
-    groups: Groups = dataclasses.field(default_factory=list)
+    pairs: FixFields
+    groups: RepeatingGroups = dataclasses.field(default_factory=list)
     time: str = ""
     passes: bool = False
 
@@ -98,7 +98,7 @@ class Held:
     status: Status = Status.NEW
 
     @classmethod
-    def of(cls, board: str, message: Message, entry: Entry, fields: Sequence[str]) -> "Held":
+    def of(cls, board: str, message: MemberMessage, entry: Entry, fields: Sequence[str]) -> "Held":
         """A new order of a board, by its record after `enter`; its number is 0 where it was
         refused.
         """
@@ -133,13 +133,13 @@ class Orders:
 
     # ---- entries
 
-    def take(self, message: Message, entry: Entry) -> Report:
+    def take(self, message: MemberMessage, entry: Entry) -> Report:
         """What the entry of a member's command is sent as."""
         found = self._taken(message, entry, self.event(entry.place))
         found.time = message.note.get(WHEN, "")
         return found
 
-    def _taken(self, message: Message, entry: Entry, event: str) -> Report:
+    def _taken(self, message: MemberMessage, entry: Entry, event: str) -> Report:
         """The report of an entry."""
         fields = entry.record.split(",")
         if fields[1] == ENTER_WORD:
@@ -150,9 +150,9 @@ class Orders:
             return self._kept(known, message, entry, event)
         return self._edited(known, message, entry, event)
 
-    def _kept(self, held: Held | None, message: Message, entry: Entry, event: str) -> Report:
+    def _kept(self, held: Held | None, message: MemberMessage, entry: Entry, event: str) -> Report:
         """An order wasn't changed, perhaps as it has ended."""
-        asked = Asked.of(message, entry.record.split(",")[1] == DELETE_WORD)
+        asked = EditRequest.of(message, entry.record.split(",")[1] == DELETE_WORD)
         ended = self.of_client(message.member, asked.origin) if held is None else None
         reason = TOO_LATE if ended else reason_of(NOT_CHANGED, entry.reply)
         text = ended_text(ended) if ended and not ended.open else self._said(entry.reply)
@@ -177,7 +177,7 @@ class Orders:
             sentence = f"Price (44) is from {terms.price(terms.low)} to {terms.price(terms.high)}"
         return f"{sentence} ({reply})" if sentence else reply
 
-    def _edited(self, held: Held, message: Message, entry: Entry, event: str) -> Report:
+    def _edited(self, held: Held, message: MemberMessage, entry: Entry, event: str) -> Report:
         """An order was changed or deleted."""
         held.client = message.note.get(CLIENT, held.client)
         self._named(held)
@@ -212,7 +212,7 @@ class Orders:
             found += self._seen_after(self._open[number], seen, event)
         return found
 
-    def _traded(self, trade: views.Trade, event: str) -> list[Report]:
+    def _traded(self, trade: views.DayTrade, event: str) -> list[Report]:
         """A trade, for both of its sides."""
         found = []
         for letter, number in (("b", trade.bid), ("a", trade.ask)):
@@ -220,7 +220,7 @@ class Orders:
             held.open, held.filled = held.open - trade.quantity, held.filled + trade.quantity
             held.paid += trade.quantity * trade.tick
             held.status = Status.PARTLY if held.open else Status.FILLED
-            more: Pairs = [
+            more: FixFields = [
                 (Tag.LAST_QTY, str(trade.quantity)),
                 (Tag.LAST_PX, self._price(trade.tick)),
                 (Tag.TRD_MATCH_ID, match_of(trade, event)),
@@ -228,15 +228,15 @@ class Orders:
             found.append(self.report(held, f"{event}.{trade.number}{letter}", Exec.TRADE, more))
         return [*found, self._captured(trade, f"{event}.{trade.number}")]
 
-    def _captured(self, trade: views.Trade, event: str) -> Report:
+    def _captured(self, trade: views.DayTrade, event: str) -> Report:
         """A trade with both of its sides, for the operator's copy."""
         sides = []
         for number in (trade.bid, trade.ask):
             held = self._open[number]
-            side: Pairs = [(Tag.SIDE, SIDE_CODES[held.side]), (Tag.ORDER_ID, held.name)]
+            side: FixFields = [(Tag.SIDE, SIDE_CODES[held.side]), (Tag.ORDER_ID, held.name)]
             side += [(Tag.CL_ORD_ID, held.client)] if held.client else []
             sides.append([*side, (Tag.ACCOUNT, held.member)])
-        pairs: Pairs = [
+        pairs: FixFields = [
             (Tag.TRADE_REPORT_ID, event),
             (Tag.PREVIOUSLY_REPORTED, "N"),
             (Tag.SYMBOL, self._board.identity.instrument),
@@ -267,15 +267,15 @@ class Orders:
     def _expired(self, held: Held, event: str) -> Report:
         """An order has ended by itself. FIX's done for day would be one that goes on tomorrow."""
         self._end(held, Status.EXPIRED)
-        more: Pairs = [(Tag.TEXT, NOT_KEPT)] if held.time == GOOD_TILL_CANCEL else []
+        more: FixFields = [(Tag.TEXT, NOT_KEPT)] if held.time == GOOD_TILL_CANCEL else []
         return self.report(held, f"{event}.x{held.order}", Status.EXPIRED, more)
 
     # ---- reports
 
-    def report(self, held: Held, event: str, kind: str, more: Pairs | None = None) -> Report:
+    def report(self, held: Held, event: str, kind: str, more: FixFields | None = None) -> Report:
         """An ExecutionReport of an order as it is now."""
         left = 0 if held.status in ENDED_STATUSES else held.open
-        pairs: Pairs = [
+        pairs: FixFields = [
             (Tag.ORDER_ID, held.name),
             (Tag.EXEC_ID, event),
             (Tag.EXEC_TYPE, kind),
@@ -293,7 +293,7 @@ class Orders:
         pairs += [(Tag.MAX_FLOOR, held.peak)] if held.peak else []
         return Report(held.member, Type.REPORT, event, pairs + (more or []))
 
-    def _priced(self, held: Held) -> Pairs:
+    def _priced(self, held: Held) -> FixFields:
         """The type of an order, and its price."""
         if held.limit == AT_MARKET:
             return [(Tag.ORD_TYPE, MARKET)]
@@ -312,13 +312,13 @@ def entry_event(board: InstrumentBoard, place: int) -> str:
     return f"{board.key_at(place)}.{place}"
 
 
-def match_of(trade: views.Trade, event: str) -> str:
+def match_of(trade: views.DayTrade, event: str) -> str:
     """The id of a trade, beside that of the uncross which made it."""
     return f"{event.rpartition('.')[0]}.{trade.number}"
 
 
 @dataclasses.dataclass(frozen=True)
-class Asked:
+class EditRequest:
     """A request for another order or none: its ids, and whether it is a cancel."""
 
     client: str
@@ -326,7 +326,7 @@ class Asked:
     is_cancel: bool
 
     @classmethod
-    def of(cls, message: Message, is_cancel: bool) -> "Asked":
+    def of(cls, message: MemberMessage, is_cancel: bool) -> "EditRequest":
         """The request that became a message."""
         note: Mapping[str, str] = message.note
         return cls(note.get(CLIENT, NONE), note.get(ORIGIN, NONE), is_cancel)
@@ -344,11 +344,11 @@ def reason_of(reasons: Mapping[Refusal, str], reply: str) -> str:
 
 
 def refusal(
-    member: str, event: str, asked: Asked, held: Held | None, reason: str, text: str,
+    member: str, event: str, asked: EditRequest, held: Held | None, reason: str, text: str,
     status: Status = Status.REJECTED,
 ) -> Report:
     """An OrderCancelReject of an order as it is now, or of this status where none is known."""
-    pairs: Pairs = [
+    pairs: FixFields = [
         (Tag.ORDER_ID, held.name if held else NONE),
         (Tag.CL_ORD_ID, asked.client),
         (Tag.ORIG_CL_ORD_ID, asked.origin),

@@ -1,13 +1,13 @@
 """How a member is told that a message of it came to nothing."""
 from typing import TYPE_CHECKING
 
-from callauction.fix.orders import CLIENT, ORIGIN, Asked, Report, refusal
+from callauction.fix.orders import CLIENT, ORIGIN, EditRequest, Report, refusal
 from callauction.fix.tags import (
-    DAY, EVENTS, FIXT, NONE, OTHER_REASON, SIDE_CODES, Exec, Given, Pairs, Status, Tag, Type,
+    DAY, EVENTS, FIXT, NONE, OTHER_REASON, SIDE_CODES, Exec, FixFields, Given, Status, Tag, Type,
 )
 from callauction.venue.instrument_board import InstrumentBoard
 from callauction.venue.messages import MessageError
-from callauction.venue.recovery import Message
+from callauction.venue.recovery import MemberMessage
 
 if TYPE_CHECKING:
     from callauction.fix.seats import Seat
@@ -89,13 +89,13 @@ def refuse(seat: "Seat", given: Given, event: str, fault: MessageError) -> None:
         seat.clients.keep(given, seat.epoch.number_of(int(given[Tag.MSG_SEQ_NUM])))
     if kind in (Type.CANCEL, Type.REPLACE):
         client, origin = given[Tag.CL_ORD_ID], given[Tag.ORIG_CL_ORD_ID]
-        asked = Asked(client, origin, kind == Type.CANCEL)
+        asked = EditRequest(client, origin, kind == Type.CANCEL)
         code = CANCEL_REASONS.get(reason, OTHER_REASON)
         held = seat.held(given, origin)
         seat.reports.tell(refusal(seat.name, event, asked, held, code, fault.text, status))
     elif kind == Type.MASS_CANCEL:
         code = MASS_REASONS.get(reason, OTHER_REASON)
-        pairs: Pairs = [(Tag.MASS_CANCEL_RESPONSE, NOT_CANCELLED)]
+        pairs: FixFields = [(Tag.MASS_CANCEL_RESPONSE, NOT_CANCELLED)]
         pairs += [(Tag.MASS_CANCEL_REJECT_REASON, code), (Tag.TEXT, fault.text)]
         tell_mass_cancelled(seat, given, event, pairs)
     elif kind in ANSWERS:
@@ -105,25 +105,25 @@ def refuse(seat: "Seat", given: Given, event: str, fault: MessageError) -> None:
         tell_rejected(seat, given, event, reason, fault.text, status)
 
 
-def tell_mass_cancelled(seat: "Seat", given: Given, event: str, more: Pairs) -> None:
+def tell_mass_cancelled(seat: "Seat", given: Given, event: str, more: FixFields) -> None:
     """Answers a mass cancel, with the number of orders that it took out so far."""
     copied = (Tag.CL_ORD_ID, Tag.MASS_CANCEL_REQUEST_TYPE, Tag.SYMBOL, Tag.SIDE)
     number = int(given[Tag.MSG_SEQ_NUM])
-    pairs: Pairs = [(tag, given[tag]) for tag in copied if tag in given]
+    pairs: FixFields = [(tag, given[tag]) for tag in copied if tag in given]
     pairs += [(Tag.TOTAL_AFFECTED_ORDERS, str(seat.epoch.deleted[number])), *more]
     if dict(more).get(Tag.TEXT) not in UNUSED:
         seat.clients.keep(given, seat.epoch.number_of(number), pairs)
     tell_mass_answer(seat, event, pairs)
 
 
-def tell_mass_answer(seat: "Seat", event: str, answer: Pairs) -> None:
+def tell_mass_answer(seat: "Seat", event: str, answer: FixFields) -> None:
     """Says what is the answer to a mass cancel, perhaps once more."""
-    pairs: Pairs = [(Tag.ORDER_ID, event), *answer]
+    pairs: FixFields = [(Tag.ORDER_ID, event), *answer]
     pairs += [(Tag.MASS_ACTION_REPORT_ID, event)] if seat.begin == FIXT else []
     seat.reports.tell(Report(seat.name, Type.MASS_CANCELED, event, pairs))
 
 
-def tell_again(seat: "Seat", event: str, kind: Type, said: Pairs) -> None:
+def tell_again(seat: "Seat", event: str, kind: Type, said: FixFields) -> None:
     """Says once more, to a message that is sent again, why it was refused."""
     pairs = [(tag, event if tag == EVENTS[kind] else it) for tag, it in said]
     seat.reports.tell(Report(seat.name, kind, event, pairs))
@@ -137,7 +137,7 @@ ANSWERS = {
 """What a request that is no command is answered by."""
 
 
-def refused_request(given: Given, event: str, reason: str) -> Pairs:
+def refused_request(given: Given, event: str, reason: str) -> FixFields:
     """What is said of a request that can't be answered, but for the text."""
     is_unknown = reason == UNKNOWN_SYMBOL
     kind = given[Tag.MSG_TYPE]
@@ -164,7 +164,7 @@ def tell_rejected(
     is_new = given[Tag.MSG_TYPE] == Type.ENTER and is_rejected
     copied = (Tag.CL_ORD_ID, Tag.ORD_STATUS_REQ_ID, Tag.MASS_STATUS_REQ_ID)
     empty = [(Tag.TOT_NUM_REPORTS, "0"), (Tag.LAST_RPT_REQUESTED, "Y")]
-    pairs: Pairs = [
+    pairs: FixFields = [
         (Tag.ORDER_ID, NONE),
         *((tag, given[tag]) for tag in copied if tag in given),
         *(empty if given[Tag.MSG_TYPE] == Type.MASS_STATUS else []),
@@ -182,17 +182,17 @@ def tell_rejected(
     seat.reports.tell(Report(seat.name, Type.REPORT, event, pairs))
 
 
-def asked_fields(given: Given) -> Pairs:
+def asked_fields(given: Given) -> FixFields:
     """What a new order asked for that its report has too."""
     copied = (Tag.ORD_TYPE, Tag.PRICE, Tag.MAX_FLOOR)
-    pairs: Pairs = [(tag, given[tag]) for tag in copied if tag in given]
+    pairs: FixFields = [(tag, given[tag]) for tag in copied if tag in given]
     pairs.append((Tag.TIME_IN_FORCE, given.get(Tag.TIME_IN_FORCE, DAY)))
     if Tag.MAX_FLOOR not in given and Tag.DISPLAY_QTY in given:
         pairs.append((Tag.MAX_FLOOR, given[Tag.DISPLAY_QTY]))
     return pairs
 
 
-def given_of(board: InstrumentBoard, message: Message, number: int) -> Given:
+def given_of(board: InstrumentBoard, message: MemberMessage, number: int) -> Given:
     """What a message of the log was, as far as an answer to it repeats that."""
     word, *fields = message.record.split(",")[1:]
     given: Given = {Tag.MSG_SEQ_NUM: str(number)}

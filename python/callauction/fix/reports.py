@@ -6,14 +6,14 @@ from collections.abc import Callable, Mapping
 from callauction.fix.connections import Connections
 from callauction.fix.orders import SAID, Orders, Report
 from callauction.fix.seats import Seat
-from callauction.fix.tags import Pairs, Tag, is_recent, now
+from callauction.fix.tags import FixFields, Tag, is_recent, now
 from callauction.fix.uncrosses import seen_at
 from callauction.venue.downloads import DownloadError
 from callauction.venue.book import OPERATOR
 from callauction.venue.instrument_board import InstrumentBoard
 from callauction.venue.logger import NOTICES
 from callauction.venue.phases import UNCROSSED
-from callauction.venue.recovery import Entry, Message
+from callauction.venue.recovery import Entry, MemberMessage
 
 AGAIN_PAUSE = 1.0
 """Seconds until the program is asked again for what an uncross did."""
@@ -29,12 +29,12 @@ class Stream:
     ) -> None:
         self.board, self.orders = board, Orders(board)
         self._program, self._tell = program, tell
-        self._entries: asyncio.Queue[tuple[Message, Entry]] = asyncio.Queue()
+        self._entries: asyncio.Queue[tuple[MemberMessage, Entry]] = asyncio.Queue()
         self._place = self._trades = 0
         self._waiting: list[tuple[int, asyncio.Future[None]]] = []
         self._is_free = False
 
-    def put(self, message: Message, entry: Entry) -> None:
+    def put(self, message: MemberMessage, entry: Entry) -> None:
         """The board has one entry more: what a member's came to is sent at once where nothing is
         before it.
         """
@@ -74,7 +74,7 @@ class Stream:
                 await self._uncrossed(entry.place)
             self._reach(entry.place)
 
-    def _entered(self, message: Message, entry: Entry) -> None:
+    def _entered(self, message: MemberMessage, entry: Entry) -> None:
         """Sends what the entry of a member came to, but that it is refused what the venue itself
         asked for, as the order had ended before.
         """
@@ -155,7 +155,7 @@ class Reports:
         for stream in self._streams.values():
             stream.end_before(number)
 
-    def entered(self, board: InstrumentBoard, message: Message, entry: Entry | None) -> None:
+    def entered(self, board: InstrumentBoard, message: MemberMessage, entry: Entry | None) -> None:
         """A message has its entry, or never had one."""
         seat = self.by_member.get(message.member)
         if seat is not None and message.number < 0:
@@ -185,7 +185,7 @@ class Reports:
         epoch, outbound = seat.epoch, self._connections.outbound
         promised = epoch.promised.pop(report.event, 0)
         time = report.time or now()
-        pairs: Pairs = [*report.pairs, (Tag.TRANSACT_TIME, time)]
+        pairs: FixFields = [*report.pairs, (Tag.TRANSACT_TIME, time)]
         if (owed := epoch.owed.pop(report.event, 0)) > before:
             outbound.engine.store(seat.session, owed, report.type, pairs, time)
             epoch.told[report.event] = owed

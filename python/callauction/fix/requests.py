@@ -10,7 +10,7 @@ from callauction.fix.refusals import (
     ALL, DUPLICATE, UNKNOWN_ORDER, UNSUPPORTED, USED, SeatError, tell_mass_answer,
     tell_mass_cancelled,
 )
-from callauction.fix.tags import OTHER_REASON, Exec, Given, Groups, Pairs, Tag, Type
+from callauction.fix.tags import OTHER_REASON, Exec, FixFields, Given, RepeatingGroups, Tag, Type
 from callauction.venue.instrument_board import InstrumentBoard
 from callauction.venue.messages import MessageError
 from callauction.venue.recovery import Entry
@@ -41,7 +41,7 @@ def orders_of(seat: "Seat", given: Given, board: InstrumentBoard) -> list[Held]:
     return [it for it in seat.open_orders(board) if side in ("", it.side)]
 
 
-async def cancel_all(seat: "Seat", rows: Pairs, given: Given, number: int) -> None:
+async def cancel_all(seat: "Seat", rows: FixFields, given: Given, number: int) -> None:
     """OrderMassCancelRequest: deletes orders, then says how many, and where some stay open, once
     more to one that is sent again. Raises MessageError where no order can be deleted
     now.
@@ -63,7 +63,7 @@ async def cancel_all(seat: "Seat", rows: Pairs, given: Given, number: int) -> No
     text = f"not cancelled, and still open: {', '.join(texts)}"
     if not seat.epoch.deleted[number] and (left or len(faults) == len(boards)):
         raise SeatError(OTHER_REASON, text) if left else faults[boards[0]]
-    more: Pairs = [(Tag.MASS_CANCEL_RESPONSE, kind)]
+    more: FixFields = [(Tag.MASS_CANCEL_RESPONSE, kind)]
     more += [(Tag.MASS_CANCEL_REJECT_REASON, OTHER_REASON), (Tag.TEXT, text)] if left else []
     tell_mass_cancelled(seat, given, seat.epoch.refusal_of(number), more)
 
@@ -93,7 +93,7 @@ async def deleted(
     return None
 
 
-async def show_all(seat: "Seat", rows: Pairs, given: Given, number: int) -> None:
+async def show_all(seat: "Seat", rows: FixFields, given: Given, number: int) -> None:
     """OrderMassStatusRequest: a report of each open order, the last with the instruments that have
     halted before they answered all. Raises MessageError where there is none.
     """
@@ -113,7 +113,7 @@ async def show_all(seat: "Seat", rows: Pairs, given: Given, number: int) -> None
     for place, (orders, held) in enumerate(found, 1):
         is_last = place == len(found)
         event = seat.epoch.refusal_of(number if is_last else f"{number}-{place}")
-        more: Pairs = [request, (Tag.TOT_NUM_REPORTS, str(len(found)))]
+        more: FixFields = [request, (Tag.TOT_NUM_REPORTS, str(len(found)))]
         more.append((Tag.LAST_RPT_REQUESTED, "Y" if is_last else "N"))
         more += [(Tag.TEXT, text)] if text and is_last else []
         report = orders.report(held, event, Exec.STATUS, more)
@@ -122,23 +122,24 @@ async def show_all(seat: "Seat", rows: Pairs, given: Given, number: int) -> None
     seat.member.bucket.charge(len(found) // REPORTS_A_MESSAGE)
 
 
-async def show_list(seat: "Seat", rows: Pairs, given: Given, number: int) -> None:
+async def show_list(seat: "Seat", rows: FixFields, given: Given, number: int) -> None:
     """SecurityListRequest. Raises MessageError."""
     boards = boards_of(seat, given, Tag.SECURITY_LIST_REQUEST_TYPE, LIST_OF_ONE, LIST_OF_ALL)
-    head: Pairs = [
+    head: FixFields = [
         (Tag.SECURITY_REQ_ID, given[Tag.SECURITY_REQ_ID]),
         (Tag.SECURITY_RESPONSE_ID, seat.epoch.refusal_of(number)),
         (Tag.SECURITY_REQUEST_RESULT, "0"),
         (Tag.TOT_NO_RELATED_SYM, str(len(boards))),
     ]
-    groups: Groups = [(Tag.NO_RELATED_SYM, Tag.SYMBOL, [instrument_row(it) for it in boards])]
+    listed = [instrument_row(it) for it in boards]
+    groups: RepeatingGroups = [(Tag.NO_RELATED_SYM, Tag.SYMBOL, listed)]
     seat.outbound.send(seat, Type.LIST, head, groups)
 
 
-def instrument_row(board: InstrumentBoard) -> Pairs:
+def instrument_row(board: InstrumentBoard) -> FixFields:
     """An instrument in a list."""
     terms = board.terms
-    row: Pairs = [(Tag.SYMBOL, board.identity.instrument)]
+    row: FixFields = [(Tag.SYMBOL, board.identity.instrument)]
     row += [(Tag.CURRENCY, terms.currency)] if CURRENCY.fullmatch(terms.currency) else []
     row += [
         (Tag.MIN_PRICE_INCREMENT, format(terms.grid.tick_size, "f")),

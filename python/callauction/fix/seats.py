@@ -10,21 +10,21 @@ from collections.abc import Awaitable, Callable, Mapping
 from typing import TYPE_CHECKING, Any
 
 from callauction.fix import feeds, requests, singles
-from callauction.fix.commands import HALT_PAUSE, Commands
-from callauction.fix.epochs import Clients, Epoch, Number, key_of
+from callauction.fix.commands import HALT_PAUSE, SessionCommands
+from callauction.fix.epochs import Clients, Epoch, MessageNumber, key_of
 from callauction.fix.feeds import Feeds
 from callauction.fix.order_fields import is_sent_again
 from callauction.fix.orders import CLIENT, Held, Report
 from callauction.fix.refusals import FILLED, MADE_BEFORE, OTHER_DAY, SeatError, given_of, refuse
-from callauction.fix.tags import OTHER_REASON, Given, Pairs, Tag, Type, seconds_of
+from callauction.fix.tags import OTHER_REASON, FixFields, Given, Tag, Type, seconds_of
 from callauction.venue import clock, tokens
 from callauction.venue.fix_terms import VENUE_COMP_ID
 from callauction.venue.instrument_board import InstrumentBoard
 from callauction.venue.log import SOURCE
-from callauction.venue.members import HELLO_BURST, HELLO_RATE, Member
+from callauction.venue.members import HELLO_BURST, HELLO_RATE, VenueMember
 from callauction.venue.messages import MessageError
 from callauction.venue.rates import Bucket
-from callauction.venue.recovery import Entry, Message
+from callauction.venue.recovery import Entry, MemberMessage
 
 if TYPE_CHECKING:
     from callauction.fix.connections import Connections
@@ -41,7 +41,7 @@ CONNECTION_LOST: Given = {}
 """What comes in a session's queue when its connection is lost, whose orders are to end with it."""
 ROUNDED_SECONDS = 1.0
 """Seconds by which the time of a client may be off, whose parts of a second it needn't say."""
-Act = Callable[[Any, Pairs, Given, int], Awaitable[None]]
+Act = Callable[[Any, FixFields, Given, int], Awaitable[None]]
 """What takes the messages of a type: of a seat, by the fields of their groups in their order, all
 fields by their tags, and their number. Raises MessageError.
 """
@@ -54,10 +54,10 @@ class Inbound:
     """
 
     def __init__(
-        self, take: Callable[[Given, Pairs], Awaitable[None]], enters: Callable[[Given], bool]
+        self, take: Callable[[Given, FixFields], Awaitable[None]], enters: Callable[[Given], bool]
     ) -> None:
         self._take, self._enters = take, enters
-        self._came: collections.deque[tuple[Given, Pairs]] = collections.deque()
+        self._came: collections.deque[tuple[Given, FixFields]] = collections.deque()
         self._wakes, self._is_waiting = asyncio.Event(), False
         self.is_held = self.is_taking = False
         self._fault: Exception | None = None
@@ -73,7 +73,7 @@ class Inbound:
         came = (given for given, _ in self._came if given is not CONNECTION_LOST)
         return next((int(given[Tag.MSG_SEQ_NUM]) for given in came), None)
 
-    def put(self, given: Given, rows: Pairs) -> None:
+    def put(self, given: Given, rows: FixFields) -> None:
         """The session says this; it is taken in its `turn`."""
         self._came.append((given, rows))
 
@@ -146,8 +146,9 @@ class Seat:
         self.epoch, self.latest = epoch, 0
         self.cancels, self.behind, self.address = False, 0.0, ""
         self.inbound = Inbound(self._take, self._enters)
-        self.clients, self.commands, self.feeds = Clients(), Commands(self), Feeds(self.venue)
-        self._member: Member | None = None
+        self.clients, self.commands = Clients(), SessionCommands(self)
+        self.feeds = Feeds(self.venue)
+        self._member: VenueMember | None = None
 
     @property
     def is_awaiting(self) -> bool:
@@ -156,7 +157,7 @@ class Seat:
         return bool(self.inbound.is_busy or are_sent)
 
     @property
-    def member(self) -> Member:
+    def member(self) -> VenueMember:
         """Whose session it is. Raises MessageError where the venue hasn't it."""
         if self._member is None:
             self._member = self.venue.members.named(self.name)
@@ -165,7 +166,7 @@ class Seat:
         return self._member
 
     @property
-    def watcher(self) -> Member | None:
+    def watcher(self) -> VenueMember | None:
         """As whom it sees boards: None is as the operator. Raises MessageError."""
         return self.member
 
@@ -210,16 +211,16 @@ class Seat:
         first = [*itertools.islice(self.epoch.awaited, 1), self.inbound.first()]
         return min((it for it in first if it is not None), default=0)
 
-    def entered(self, board: InstrumentBoard, message: Message, entry: Entry | None) -> None:
+    def entered(self, board: InstrumentBoard, message: MemberMessage, entry: Entry | None) -> None:
         """A message of it in the log has its entry, or never had one."""
-        number = Number.of(-message.number)
+        number = MessageNumber.of(-message.number)
         if entry is not None and CLIENT in message.note:
             self.clients.numbers[message.note[CLIENT]] = number
         self.latest = max(self.latest, number.epoch)
         if number.epoch == self.epoch.number:
             self.epoch.entered(board, message, number, entry)
 
-    def recall(self, pairs: Pairs, since: int) -> None:
+    def recall(self, pairs: FixFields, since: int) -> None:
         """Recalls a message that it was sent in an earlier run, since its last reset, as all before
         `since` was settled, or, where that is 0, all before what it answers.
         """
@@ -253,7 +254,7 @@ class Seat:
             SOURCE.reset(before)
         return True
 
-    async def _take(self, given: Given, rows: Pairs) -> None:
+    async def _take(self, given: Given, rows: FixFields) -> None:
         """Takes a message, unless it was taken before."""
         if given is CONNECTION_LOST:
             await self.commands.withdraw()

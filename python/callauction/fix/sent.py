@@ -14,7 +14,7 @@ from collections.abc import Callable, Iterator, Mapping
 from typing import TYPE_CHECKING, NamedTuple
 
 from callauction.fix._quickfix import Engine
-from callauction.fix.tags import Groups, Pairs, event_in, number_of, pairs_of
+from callauction.fix.tags import FixFields, RepeatingGroups, event_in, number_of, pairs_of
 from callauction.venue.fix_terms import SENT
 from callauction.venue.log import Line, Log, line_text, taking
 from callauction.venue.logger import NOTICES
@@ -35,7 +35,7 @@ New = tuple[int, bytes, bool]
 """A message that was stored: its number, its text, and whether it passes."""
 
 
-class Passed(NamedTuple):
+class PassedMessages(NamedTuple):
     """Messages that a session isn't sent again: the numbers of the first one and the last, which
     messages of it they answered, and the first message of it that wasn't settled then.
     """
@@ -46,7 +46,7 @@ class Passed(NamedTuple):
     since: int
 
 
-class Sent:
+class SentMessages:
     """The messages that sessions were sent since they were last reset, and in `former` those from
     before; by CompID, in whichever version of FIX, the epoch that its last reset began, and the
     mark of the last restore before that, if any. `on_fault` of the log is called where it can't be
@@ -59,7 +59,7 @@ class Sent:
         self.marks: collections.defaultdict[str, str] = collections.defaultdict(str)
         self.former: dict[str, list[bytes]] = {}
         self._texts: dict[str, list[tuple[bytes, int]]] = {}
-        self._passed: dict[str, list[Passed]] = {}
+        self._passed: dict[str, list[PassedMessages]] = {}
         self._new: dict[str, list[New]] = {}
         self._safe: collections.Counter[str] = collections.Counter()
         self._firm: dict[str, int] = {}
@@ -82,7 +82,7 @@ class Sent:
             anew, count = staged.pop(session, []), int(line.get("anew", 0))
             self._texts[session] = anew[len(anew) - count :]
         elif line["kind"] == "passed":
-            it = Passed(line["first"], line["last"], line["events"], line["since"])
+            it = PassedMessages(line["first"], line["last"], line["events"], line["since"])
             self._passed.setdefault(session, []).append(it)
         else:
             those = staged if line["kind"] == "anew" else self._texts
@@ -95,7 +95,7 @@ class Sent:
         """
         return {number_of(text): (text, it) for text, it in self._texts.pop(session, [])}
 
-    def passed(self, session: str) -> list[Passed]:
+    def passed(self, session: str) -> list[PassedMessages]:
         """What a session was sent in earlier runs and isn't sent again."""
         return self._passed.pop(session, [])
 
@@ -188,7 +188,9 @@ class Outbound:
 
     engine: Engine
 
-    def __init__(self, sent: Sent, wires: "Mapping[int, Wire]", wake: Callable[[], None]) -> None:
+    def __init__(
+        self, sent: SentMessages, wires: "Mapping[int, Wire]", wake: Callable[[], None]
+    ) -> None:
         self.sent, self._wires, self._wake = sent, wires, wake
         self.seats: "Mapping[str, Seat]" = {}
         self.beginning: "set[Seat]" = set()
@@ -205,7 +207,7 @@ class Outbound:
         return 0 if is_safe else self.sent.firm(seat.session)
 
     def send(
-        self, seat: "Seat", kind: str, pairs: Pairs, groups: Groups,
+        self, seat: "Seat", kind: str, pairs: FixFields, groups: RepeatingGroups,
         promised: int = 0, time: str = "", passes: bool = False,
     ) -> int:
         """Stores a message, and sends it soon where its session is on: its number. It isn't written

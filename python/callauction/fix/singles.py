@@ -11,7 +11,7 @@ from callauction.fix.orders import Held, ended_text
 from callauction.fix.refusals import (
     DUPLICATE, ORDER_ENDED, UNKNOWN_ORDER, UNSUPPORTED, USED, PendingError, SeatError, tell_again,
 )
-from callauction.fix.tags import DAY, Exec, Given, Pairs, Status, Tag, Type
+from callauction.fix.tags import DAY, Exec, FixFields, Given, Status, Tag, Type
 from callauction.venue import messages
 from callauction.venue.messages import MessageError
 from callauction.venue.phases import Phase
@@ -25,7 +25,7 @@ PENDING["delete"] = Status.PENDING_CANCEL
 """What an order is whose command isn't answered yet."""
 
 
-async def enter(seat: "Seat", rows: Pairs, given: Given, number: int) -> None:
+async def enter(seat: "Seat", rows: FixFields, given: Given, number: int) -> None:
     """NewOrderSingle. Raises MessageError."""
     if not await is_known(seat, given, number):
         enter_new(seat, given, number)
@@ -50,7 +50,7 @@ def enter_new(seat: "Seat", given: Given, number: int) -> None:
     seat.commands.submit(given, number, board, messages.enter_record(board.terms, asked), time)
 
 
-async def edit(seat: "Seat", rows: Pairs, given: Given, number: int) -> None:
+async def edit(seat: "Seat", rows: FixFields, given: Given, number: int) -> None:
     """OrderCancelRequest and OrderCancelReplaceRequest. Raises MessageError."""
     if await is_known(seat, given, number):
         return
@@ -74,7 +74,7 @@ async def edit(seat: "Seat", rows: Pairs, given: Given, number: int) -> None:
     seat.commands.submit(given, number, board, messages.order_of(board.terms, asked).record)
 
 
-async def show(seat: "Seat", rows: Pairs, given: Given, number: int) -> None:
+async def show(seat: "Seat", rows: FixFields, given: Given, number: int) -> None:
     """OrderStatusRequest. Raises MessageError."""
     check_beside(given, seat.board(given))
     held, stream = await settled(seat, given, given[Tag.CL_ORD_ID])
@@ -82,7 +82,7 @@ async def show(seat: "Seat", rows: Pairs, given: Given, number: int) -> None:
         raise SeatError(UNKNOWN_ORDER, "there is no order of this ClOrdID in this day")
     check_side(given, held)
     asked = Tag.ORD_STATUS_REQ_ID
-    more: Pairs = [(asked, given[asked])] if asked in given else []
+    more: FixFields = [(asked, given[asked])] if asked in given else []
     tell_status(seat, given, held, stream, number, more)
 
 
@@ -127,7 +127,7 @@ async def is_known(seat: "Seat", given: Given, number: int) -> bool:
 
 
 def tell_status(
-    seat: "Seat", given: Given, held: Held, stream: "Stream", number: int, more: Pairs
+    seat: "Seat", given: Given, held: Held, stream: "Stream", number: int, more: FixFields
 ) -> None:
     """Says what an order is, as the answer to a message."""
     if of_round := former_round(seat, given, stream):

@@ -149,8 +149,8 @@ class Exec(enum.StrEnum):
 
 FIX44, FIXT = "FIX.4.4", "FIXT.1.1"
 """How a message begins: of FIX 4.4, and of FIX 5.0SP2 over its own transport."""
-Pairs = list[tuple[int, str]]
-Groups = list[tuple[int, int, list[Pairs]]]
+FixFields = list[tuple[int, str]]
+RepeatingGroups = list[tuple[int, int, list[FixFields]]]
 """Groups of a message: the tag that counts its rows, the first tag of each, the rows, whose tags
 are in the dictionary's order.
 """
@@ -186,7 +186,7 @@ def number_of(text: bytes) -> int:
     return int(text.partition(b"\x0134=")[2].partition(b"\x01")[0])
 
 
-def pairs_of(text: bytes) -> Pairs:
+def pairs_of(text: bytes) -> FixFields:
     """The tags and values of a message, in their order."""
     parts = (it.partition("=") for it in text.decode("latin-1").split(SOH))
     return [(int(tag), value) for tag, _, value in parts if tag.isdigit()]
@@ -206,14 +206,14 @@ def event_in(given: Given, comp_id: str, epoch: str) -> str:
     return given.get(EVENTS[Type(kind)], "") if kind in EVENTS else ""
 
 
-def body_of(pairs: Pairs) -> tuple[Pairs, Groups]:
+def body_of(pairs: FixFields) -> tuple[FixFields, RepeatingGroups]:
     """What a report says, without what is around it; the sides of a trade apart."""
     body = [it for it in pairs if it[0] not in HEADER_AND_TRAILER]
     place = next((at for at, it in enumerate(body) if it[0] == Tag.NO_SIDES), None)
     if place is None:
         return body, []
     end = place + 1
-    rows: list[Pairs] = []
+    rows: list[FixFields] = []
     while end < len(body) and body[end][0] in OF_SIDES:
         if body[end][0] == Tag.SIDE:
             rows.append([])

@@ -25,7 +25,7 @@ class Seen:
 
     before: Open
     after: Open
-    trades: list[views.Trade]
+    trades: list[views.DayTrade]
     is_over: bool
 
 

@@ -9,7 +9,7 @@ from callauction.fix.seats import Seat
 from callauction.venue.gates import Gate
 from callauction.venue.json_types import Json
 from callauction.venue.logger import NOTICES
-from callauction.venue.members import Member
+from callauction.venue.members import VenueMember
 
 if TYPE_CHECKING:
     from callauction.fix.connections import Connections
@@ -40,7 +40,7 @@ class Wire(asyncio.Protocol):
     def __init__(self, host: "Connections") -> None:
         self._host = host
         self.number, self.role = 0, "member"
-        self.member: Member | None = None
+        self.member: VenueMember | None = None
         self.is_leaving = False
         self.topics: frozenset[str] = frozenset()
         self._is_left = self._is_full = self._is_paused = False

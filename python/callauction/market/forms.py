@@ -38,7 +38,7 @@ UNCROSS = re.compile(
 ENDINGS = [f": {auction} ".encode() for auction in AUCTIONS]
 """What the line of the uncross that ends this auction has in it, and no other line."""
 
-Columns = dict[str, Any]
+RowColumns = dict[str, Any]
 """Some columns of a row by their names."""
 Blocks = Iterator[bytes]
 """The program's output, some whole lines at a time."""
@@ -61,7 +61,7 @@ class Form(NamedTuple):
     """
 
     words: tuple[str, ...]
-    read: Callable[[Blocks], Columns]
+    read: Callable[[Blocks], RowColumns]
     suffix: str
     memory_factor: int = 1
 
@@ -84,7 +84,7 @@ def line_at(block: bytes, place: int) -> bytes:
     return block[block.rfind(b"\n", 0, place) + 1 : block.find(b"\n", place) + 1]
 
 
-def read_audit(blocks: Blocks) -> Columns:
+def read_audit(blocks: Blocks) -> RowColumns:
     """The counts, and the number of the first entry that differs. Raises OutputFault."""
     first, last = ends_of(blocks, AUDIT_END)
     found = AUDIT_TEXT.search(last)
@@ -100,7 +100,7 @@ def ends_of(blocks: Blocks, count: int) -> tuple[bytes, bytes]:
     return first, last
 
 
-def read_counts(text: bytes) -> Columns:
+def read_counts(text: bytes) -> RowColumns:
     """The counts of an audit. Raises OutputFault."""
     counts = COUNTS.fullmatch(text)
     if not counts:
@@ -108,13 +108,13 @@ def read_counts(text: bytes) -> Columns:
     return dict(zip(("entries", "compared", "unlawful"), map(int, counts.groups())))
 
 
-def read_first(block: bytes) -> Columns:
+def read_first(block: bytes) -> RowColumns:
     """The number of the entry that the first line of an audit says to differ, if it does."""
     difference = DIFFERENCE.match(block)
     return {"first_unlawful": int(difference[1]) if difference else None}
 
 
-def read_results(blocks: Blocks) -> Columns:
+def read_results(blocks: Blocks) -> RowColumns:
     """What an audit says, what the auctions that ended gave, and which auction the day is in, if
     the journal isn't a broken copy. Raises OutputFault.
     """
@@ -135,11 +135,11 @@ def read_results(blocks: Blocks) -> Columns:
     return columns | {"day": None if found[5] else day}
 
 
-def read_lines(blocks: Blocks) -> Columns:
+def read_lines(blocks: Blocks) -> RowColumns:
     """How many entries there are, what the auctions that ended gave, and which auction the day is
     in. Raises OutputFault.
     """
-    columns: Columns = {"auctions": 0, "trades": 0}
+    columns: RowColumns = {"auctions": 0, "trades": 0}
     last = b""
     for block in blocks:
         last = block
@@ -154,7 +154,7 @@ def read_lines(blocks: Blocks) -> Columns:
     return columns | {"entries": read_number(last) if last else 0, "day": day}
 
 
-def read_uncross(line: bytes) -> Columns:
+def read_uncross(line: bytes) -> RowColumns:
     """What the line of an uncross that ended an auction says. Raises OutputFault."""
     found = UNCROSS.fullmatch(line)
     if not found:
@@ -163,7 +163,7 @@ def read_uncross(line: bytes) -> Columns:
         return {"trades": 0}
     auction = found["auction"].decode()
     names = ("price", "volume", "surplus")
-    columns: Columns = {f"{auction}_{name}": int(found[name]) for name in names}
+    columns: RowColumns = {f"{auction}_{name}": int(found[name]) for name in names}
     return columns | {f"{auction}_side": found["side"].decode(), "trades": int(found["trades"])}
 
 
@@ -175,7 +175,7 @@ def read_number(block: bytes) -> int:
     return int(found[1])
 
 
-def read_trades(blocks: Blocks) -> Columns:
+def read_trades(blocks: Blocks) -> RowColumns:
     """How many trades there are: the records after the header. Raises OutputFault."""
     records = sum(block.count(b"\n") for block in blocks)
     if records == 0:
@@ -183,7 +183,7 @@ def read_trades(blocks: Blocks) -> Columns:
     return {"trades": records - 1}
 
 
-def read_nothing(blocks: Blocks) -> Columns:
+def read_nothing(blocks: Blocks) -> RowColumns:
     """No columns: the output is for keeping."""
     for _ in blocks:
         pass

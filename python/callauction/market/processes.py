@@ -13,7 +13,7 @@ from collections.abc import Iterator
 
 from callauction import finder
 from callauction.market.rows import Found, found_of
-from callauction.market.task import Answer, Request
+from callauction.market.task import FileResult, Request
 from callauction.market.worker import LENGTH
 from callauction.market.workers import WORKERS_ENDED, MarketError, largest_first
 
@@ -61,7 +61,7 @@ class Worker:
         self.paths.append(path)
         self.send(path)
 
-    def answers(self) -> list[Answer]:
+    def answers(self) -> list[FileResult]:
         """What it says since this was asked. Raises EOFError where it has ended."""
         text = os.read(self.out.fileno(), ANSWERS_BLOCK)
         if not text:

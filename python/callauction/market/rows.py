@@ -15,7 +15,7 @@ from callauction.market.names import guarded, instrument_of, line_of, unguarded
 if TYPE_CHECKING:
     import pandas
 
-    from callauction.market.task import Answer
+    from callauction.market.task import FileResult
 
 
 @dataclasses.dataclass(frozen=True, slots=True)
@@ -77,7 +77,7 @@ class Found:
     """The SHA-256 of the file, empty where it wasn't asked for."""
 
 
-def found_of(answer: "Answer", worker: str) -> Found:
+def found_of(answer: "FileResult", worker: str) -> Found:
     """What this worker found of a file."""
     path, columns, size, digest = answer
     if "fault" in columns:

@@ -19,12 +19,12 @@ if TYPE_CHECKING:
 AUDIT_FORM = ("results",)
 """The form of an audit: the verdict, and the results of the day's auctions."""
 
-Path = str | os.PathLike[str]
-Paths = Path | Iterable[Path]
+FilePath = str | os.PathLike[str]
+FilePaths = FilePath | Iterable[FilePath]
 """A file, or files."""
 
 
-def files_of(paths: Paths) -> dict[str, str]:
+def files_of(paths: FilePaths) -> dict[str, str]:
     """The absolute paths of files by their instruments, in the order of these. Raises MarketError
     where two are of one instrument.
     """
@@ -55,16 +55,16 @@ def _crew_of(client: "Client | None", workers: int | None) -> Workers:
 
 
 def run(
-    paths: Paths,
+    paths: FilePaths,
     what: str | Sequence[str],
     client: "Client | None" = None,
     *,
     workers: int | None = None,
     expect: Iterable[str] | None = None,
-    into: Path | None = None,
+    into: FilePath | None = None,
     memory: int | None = None,
     seconds: int | None = None,
-    program: Path | None = None,
+    program: FilePath | None = None,
 ) -> "pandas.DataFrame":
     """What the program says of each file: a pandas frame of Row's columns, a row an instrument, in
     their order.
@@ -96,14 +96,14 @@ def run(
 
 
 def audit(
-    paths: Paths,
+    paths: FilePaths,
     client: "Client | None" = None,
     *,
     workers: int | None = None,
     expect: Iterable[str] | None = None,
     memory: int | None = None,
     seconds: int | None = None,
-    program: Path | None = None,
+    program: FilePath | None = None,
 ) -> "pandas.DataFrame":
     """Which recorded replies of each journal are unlawful, how many were compared, and the prices
     of its auctions: run with the form of AUDIT_FORM.

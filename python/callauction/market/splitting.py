@@ -23,8 +23,8 @@ if TYPE_CHECKING:
     import dask.dataframe
     import pandas
 
-Table: TypeAlias = (
-    "str | os.PathLike[str] | pandas.DataFrame | dask.dataframe.DataFrame | Iterable[Table]"
+TableSource: TypeAlias = (
+    "str | os.PathLike[str] | pandas.DataFrame | dask.dataframe.DataFrame | Iterable[TableSource]"
 )
 """The path of a CSV or Parquet file, a frame, or several of these."""
 Picker = Callable[[Sequence[str]], Iterable[str]]
@@ -89,7 +89,7 @@ class TableError(Exception):
 # ---- what is read
 
 
-def partitions_of(table: Table) -> "Iterator[pandas.DataFrame]":
+def partitions_of(table: TableSource) -> "Iterator[pandas.DataFrame]":
     """The pandas frames that a table consists of, one at a time, in their order."""
     if isinstance(table, str | os.PathLike):
         yield from frames_of(pathlib.Path(table))
@@ -223,7 +223,7 @@ def records_of(frame: "pandas.DataFrame", by: str) -> Iterator[tuple[str, str]]:
         yield instrument, ",".join(pick(row)) + "\n"
 
 
-def days_of(days: Table, by: str, ignore: Collection[str]) -> dict[str, str]:
+def days_of(days: TableSource, by: str, ignore: Collection[str]) -> dict[str, str]:
     """The day record of each instrument that has a row in this table. Raises TableError."""
     found: dict[str, str] = {}
     for frame in partitions_of(days):
@@ -309,7 +309,7 @@ class Journals:
         return [str(folder / name) for name in names]
 
 
-def table_paths(table: "Table | None") -> list[str]:
+def table_paths(table: "TableSource | None") -> list[str]:
     """The paths of the files that a table consists of; none of what can be read once."""
     if isinstance(table, str | os.PathLike):
         return [os.fspath(table)]
@@ -318,10 +318,10 @@ def table_paths(table: "Table | None") -> list[str]:
 
 
 def split(
-    table: Table,
+    table: TableSource,
     by: str = "instrument",
     *,
-    days: "Table | None" = None,
+    days: "TableSource | None" = None,
     ignore: Collection[str] = (),
     folder: str | os.PathLike[str] = ".",
 ) -> list[str]:

@@ -18,9 +18,9 @@ from callauction.market.forms import (
     FORMS,
     OUTPUT_BLOCK,
     Blocks,
-    Columns,
     Form,
     OutputFault,
+    RowColumns,
     blocks_of,
     read_nothing,
 )
@@ -141,13 +141,13 @@ def fault_of(status: int, errors: bytes, request: Request) -> str:
 
 def read_run(
     output: Output, form: Form, keep: IO[bytes] | None
-) -> tuple[Columns | OutputFault, int]:
+) -> tuple[RowColumns | OutputFault, int]:
     """What a run's output says, or how it is wrong, and the run's status. Raises OSError where it
     can't be kept, ProgramFault where it takes too long.
     """
     blocks = blocks_of(output)
     try:
-        found: Columns | OutputFault = form.read(written(blocks, keep) if keep else blocks)
+        found: RowColumns | OutputFault = form.read(written(blocks, keep) if keep else blocks)
     except OutputFault as fault:
         found = fault
         read_nothing(blocks)  # so that it ends with its own status
@@ -163,7 +163,7 @@ def written(blocks: Blocks, out: IO[bytes]) -> Blocks:
 
 def run_form(
     form: Form, file: IO[bytes], keep: IO[bytes] | None, request: Request
-) -> Generator[Step, None, tuple[Columns, float]]:
+) -> Generator[Step, None, tuple[RowColumns, float]]:
     """Runs the program on an open file, step by step: what its output says, and the seconds that it
     ran. Raises ProgramFault, OutputFault, and OSError where its output can't be kept.
     """
@@ -230,11 +230,11 @@ def digest_of(file: IO[bytes]) -> str:
     return found.hexdigest()
 
 
-Answer = tuple[str, Columns, int | None, str]
+FileResult = tuple[str, RowColumns, int | None, str]
 """A file's path, columns of its row, its bytes, and its SHA-256 where that is asked for. After a
 fault there are no bytes and no SHA-256.
 """
-Examination = Generator[Step, None, Answer]
+Examination = Generator[Step, None, FileResult]
 """The steps of the examination of one file, each of which says what the next one does."""
 
 
@@ -244,7 +244,7 @@ def examine_file(path: str, request: Request) -> Examination:
         before = stamp(file)
         size = before[0]
         digest = digest_of(file) if request.is_logged else ""
-        columns: Columns = {}
+        columns: RowColumns = {}
         seconds = 0.0
         for name in request.forms:
             form = FORMS[name]
@@ -271,7 +271,7 @@ def examined(path: str, request: Request) -> Examination:
     return path, {"fault": text}, None, ""
 
 
-class Turns:
+class Examinations:
     """Examinations of which one at a time runs the program. While it does, the one before is
     finished and the next is made ready, so that none of these costs the files after it time.
     """
@@ -280,7 +280,7 @@ class Turns:
         self.paths = iter(paths)
         self.request = request
         self.ready: collections.deque[Examination] = collections.deque()
-        self.found: list[Answer] = []
+        self.found: list[FileResult] = []
 
     def step(self, examination: Examination) -> Step | None:
         """Goes on with an examination: what it does next, or None, as it is over."""
@@ -309,7 +309,7 @@ class Turns:
         first = self.ready.popleft()
         return first if self.step(first) == Step.READ else None
 
-    def all(self) -> Iterator[Answer]:
+    def all(self) -> Iterator[FileResult]:
         """What was found of each file, as they are done. Of the paths that it has taken two at most
         aren't answered, so that whoever gives one for each answer, after a few in advance, is never
         waited for in vain.
@@ -325,14 +325,14 @@ class Turns:
                 is_more = self.prepare()
             ended = runs if runs and self.step(runs) == Step.FINISH else None
 
-    def taken(self) -> list[Answer]:
+    def taken(self) -> list[FileResult]:
         """What was found since this was asked."""
         found, self.found = self.found, []
         return found
 
 
-def examine_each(paths: Iterable[str], request: Request) -> Iterator[Answer]:
+def examine_each(paths: Iterable[str], request: Request) -> Iterator[FileResult]:
     """What the program, which the request names, says of each of these files, as they are done: a
     bad one gives its fault.
     """
-    return Turns(paths, request).all()
+    return Examinations(paths, request).all()

@@ -199,7 +199,7 @@ def _ending(found: Queue) -> str:
 
 # ---- who trades with whom
 
-Words = Callable[[range], tuple[str, ...]]
+FillTexts = Callable[[range], tuple[str, ...]]
 """What is said of the fills, or trades, with these places: a line each."""
 
 
@@ -264,7 +264,7 @@ def _draw_all_spans(
     return all(drawn)
 
 
-def _words_of_orders(orders: pandas.DataFrame) -> Words:
+def _words_of_orders(orders: pandas.DataFrame) -> FillTexts:
     """What is said of orders that are executed: which, whose, and how many shares."""
     side = orders["side"].iloc[0]
     ids, members, shares = (orders[name].tolist() for name in ("order", "member", "executed"))
@@ -279,7 +279,7 @@ def _words_of_orders(orders: pandas.DataFrame) -> Words:
     return words
 
 
-def _words_of_trades(quantities: list[int]) -> Words:
+def _words_of_trades(quantities: list[int]) -> FillTexts:
     """What is said of trades: their shares, and how many they are."""
 
     def words(places: range) -> tuple[str, ...]:
@@ -289,7 +289,7 @@ def _words_of_trades(quantities: list[int]) -> Words:
     return words
 
 
-def _draw_spans(axes: Axes, place: int, lengths: list[int], words: Words, color: str) -> bool:
+def _draw_spans(axes: Axes, place: int, lengths: list[int], words: FillTexts, color: str) -> bool:
     """Bars end to end with their words, white ones without a colour: whether each of these lengths
     has a bar of its own.
     """
@@ -339,7 +339,7 @@ class _Box:
         return long <= room and high <= self.height
 
 
-def _groups(lengths: list[int], words: Words, box: _Box) -> list[range]:
+def _groups(lengths: list[int], words: FillTexts, box: _Box) -> list[range]:
     """Places that follow one another, together where they are too narrow for their words."""
 
     def holds(group: range, is_upright: bool) -> bool:

@@ -159,7 +159,7 @@ def fronts_of(venue: Venue, program: str) -> list[Front]:
     check_fix()
     from callauction.fix import front
 
-    return [front.Front(venue, venue.day.fix, program)]
+    return [front.FixFront(venue, venue.day.fix, program)]
 
 
 def check_fix() -> None:

@@ -9,12 +9,12 @@ import dataclasses
 from collections.abc import Iterable, Iterator, Mapping
 
 from callauction.venue.gains import (
-    Predicted, Uncovered, Value, gain_in_ticks, most_gain, predicted, used_of,
+    Predicted, ShareValue, Uncovered, gain_in_ticks, most_gain, predicted, used_of,
 )
 
 
 @dataclasses.dataclass(frozen=True, slots=True)
-class Fill:
+class MemberFill:
     """What an order of a member had of a trade."""
 
     trade: int
@@ -29,11 +29,11 @@ class Period:
     """What was handed out, how many trades of the day came before, and who left meanwhile."""
 
     since: int
-    values: dict[str, Value] = dataclasses.field(default_factory=dict)
+    values: dict[str, ShareValue] = dataclasses.field(default_factory=dict)
     gone: set[str] = dataclasses.field(default_factory=set)
 
 
-def position(fills: Iterable[Fill]) -> int:
+def position(fills: Iterable[MemberFill]) -> int:
     """The shares that were bought, less those that were sold."""
     return sum(it.quantity if it.side == "bid" else -it.quantity for it in fills)
 
@@ -47,10 +47,10 @@ class Accounts:
     def __init__(self, uncovered: Uncovered, shares: int | None = None) -> None:
         self.uncovered, self.shares = uncovered, shares
         self.periods = [Period(0)]
-        self.fills: dict[str, list[Fill]] = {}
+        self.fills: dict[str, list[MemberFill]] = {}
 
     @property
-    def values(self) -> dict[str, Value]:
+    def values(self) -> dict[str, ShareValue]:
         """The values that members have now, by their names."""
         return self.periods[-1].values
 
@@ -64,7 +64,7 @@ class Accounts:
         """Whether anybody was handed out a value."""
         return any(it.values for it in self.periods)
 
-    def give(self, values: Mapping[str, Value], is_to_all: bool, trades: int) -> None:
+    def give(self, values: Mapping[str, ShareValue], is_to_all: bool, trades: int) -> None:
         """Hands out values after `trades` trades: where they are to all, nobody else has one."""
         if is_to_all and trades > self.periods[-1].since:
             self.periods.append(Period(trades))
@@ -80,7 +80,7 @@ class Accounts:
         """A member that had left is there again."""
         self.periods[-1].gone.discard(member)
 
-    def fills_of(self, member: str) -> list[Fill]:
+    def fills_of(self, member: str) -> list[MemberFill]:
         """The fills of a member."""
         return self.fills.get(member, [])
 
@@ -130,7 +130,7 @@ class Accounts:
         *_, last = self._spans()
         return predicted([*self._usable(*last)])
 
-    def _usable(self, period: Period, begin: int, end: float) -> Iterator[Value]:
+    def _usable(self, period: Period, begin: int, end: float) -> Iterator[ShareValue]:
         """The values of a period, those of members who left as far as they used them, and those of
         members who sell as far as they may.
         """

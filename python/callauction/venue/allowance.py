@@ -4,7 +4,7 @@ orders, their shares and their value, and commands.
 from collections.abc import Iterable, Mapping
 
 from callauction.venue.bounds import Bound
-from callauction.venue.holdings import Own, Step, Ways, possible_orders
+from callauction.venue.holdings import Own, RecordEffect, Ways, possible_orders
 from callauction.venue.messages import MessageError
 
 
@@ -22,7 +22,7 @@ def check_bound(
         raise above(f"{bound.orders} open orders")
     if bound.quantity is None and bound.value is None:
         return
-    step = Step.of(record, *possible_orders(open_, records))
+    step = RecordEffect.of(record, *possible_orders(open_, records))
     for order in step.after:
         check_open(bound, order, step, high)
 
@@ -39,7 +39,7 @@ def takes_out(record: str, open_: Mapping[int, Own], records: Iterable[str]) -> 
     return word == "delete" and int(number) in open_ and record not in records
 
 
-def check_open(bound: Bound, order: Own, step: Step, high: int) -> None:
+def check_open(bound: Bound, order: Own, step: RecordEffect, high: int) -> None:
     """Raises MessageError where an order can't be open beside others; what lessens it may be."""
     shares, value = sizes(step.others, high)
     least_shares = min((it.quantity for it in step.before), default=-1)

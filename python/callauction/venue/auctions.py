@@ -10,13 +10,13 @@ from typing import Any, Self
 
 from callauction.venue import clock, config, views
 from callauction.venue.background import going_on
-from callauction.venue.book import OPERATOR, Book
+from callauction.venue.book import OPERATOR, MemberBook
 from callauction.venue.chance import CHANCE
 from callauction.venue.engine import Engine
 from callauction.venue.log import SOURCE
 from callauction.venue.messages import MessageError
-from callauction.venue.phases import Phase, PhaseError, State
-from callauction.venue.recovery import Entry, Message
+from callauction.venue.phases import Phase, PhaseError, TimedPhase
+from callauction.venue.recovery import Entry, MemberMessage
 
 UNCROSS = "0,uncross"
 MOST_POINTS = 600
@@ -63,9 +63,9 @@ class Auctions:
     before its members could do anything.
     """
 
-    def __init__(self, plan: config.Plan, engine: Engine, book: Book) -> None:
+    def __init__(self, plan: config.Plan, engine: Engine, book: MemberBook) -> None:
         self.plan, self._engine, self._book = plan, engine, book
-        self.state, self.has_begun, self.is_late = State(), False, False
+        self.state, self.has_begun, self.is_late = TimedPhase(), False, False
         self.began: float | None = None
         self.course: list[Point] = []
         self.results: list[str] = []
@@ -93,14 +93,14 @@ class Auctions:
 
     # ---- what was recorded
 
-    def replay_phase(self, state: State, began: float | None) -> None:
+    def replay_phase(self, state: TimedPhase, began: float | None) -> None:
         """A phase of an earlier run, whose call began then."""
         self.began = began
         if self.state.phase is Phase.WAITING and state.phase is Phase.CALL:
             self.course, self.has_begun = [], True
         self.state = state
 
-    def replay_uncross(self, message: Message, entry: Entry) -> None:
+    def replay_uncross(self, message: MemberMessage, entry: Entry) -> None:
         """An uncross of an earlier run."""
         self._uncrosses = max(self._uncrosses, message.number)
         self.uncrossed(entry)
@@ -138,7 +138,7 @@ class Auctions:
         self.began, self.course, self.has_begun = now, [], True
         self._enter(started)
 
-    def join_call(self, other: State) -> None:
+    def join_call(self, other: TimedPhase) -> None:
         """Begins a call phase that ends as this one of another group. Raises MessageError."""
         self._engine.check_known()
         self.began, self.course, self.has_begun = clock.now(), [], True
@@ -176,7 +176,8 @@ class Auctions:
             self._enter(self.state.ended())
         self._is_uncrossing = True
         self._uncrosses += 1
-        answer = self._engine.submit(Message(OPERATOR, self._uncrosses, UNCROSS, SOURCE.get()))
+        message = MemberMessage(OPERATOR, self._uncrosses, UNCROSS, SOURCE.get())
+        answer = self._engine.submit(message)
         answer.add_done_callback(self._uncross_done)
         return (await asyncio.shield(answer)).reply
 
@@ -198,7 +199,7 @@ class Auctions:
         if self._is_uncrossing:
             raise PhaseError("an uncross is going on")
 
-    def _enter(self, state: State) -> None:
+    def _enter(self, state: TimedPhase) -> None:
         """Another phase, or another end of it. Raises MessageError."""
         self._engine.check_known()
         self.state, self.is_late = state, False

@@ -6,7 +6,7 @@ from callauction.venue.halts import Halts
 from callauction.venue.instrument_board import InstrumentBoard
 from callauction.venue.json_types import Json
 from callauction.venue.log import Log
-from callauction.venue.members import Member, Members
+from callauction.venue.members import Members, VenueMember
 from callauction.venue.payoff_view import Paid
 from callauction.venue.round_view import Standing
 from callauction.venue.rounds import Rounds
@@ -149,7 +149,7 @@ class Audience:
         self.watchers.pop(watcher, None)
         self.show_members()
 
-    def send_away(self, member: Member) -> None:
+    def send_away(self, member: VenueMember) -> None:
         """Ends the connections of a member whose token is another now, or none."""
         for watcher in [*self.watchers]:
             if watcher.member is member:

@@ -12,7 +12,7 @@ OPERATOR = ""
 """The operator's name among members."""
 
 
-class Book:
+class MemberBook:
     """The members of a journal by their numbers, and the open orders of all, as far as they follow
     from the replies, and how many these are: known once they were seen after the last uncross.
     """

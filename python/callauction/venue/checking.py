@@ -19,7 +19,7 @@ from callauction.venue.fix_terms import SENT
 from callauction.venue.halts import PUT_BACK
 from callauction.venue.journal import JOURNAL
 from callauction.venue.log import Line, check_version, read_lines, taking
-from callauction.venue.phases import Phase, State
+from callauction.venue.phases import Phase, TimedPhase
 from callauction.venue.process import OPENED, START_SECONDS, ProcessError
 from callauction.venue.recovery import (
     Entry, RecoveryError, RolledBackError, entries_in, known_entries, mark_of, runs_of, settled,
@@ -256,7 +256,7 @@ def are_over(last: Round, found: Mapping[str, list[Entry]]) -> bool:
 
 def is_over(entries: Iterable[Entry]) -> bool:
     """Whether a day's last auction is among the entries of its journal."""
-    state = State()
+    state = TimedPhase()
     for it in entries:
         state = state.replied(it.reply)
     return state.phase is Phase.OVER

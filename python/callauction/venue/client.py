@@ -19,7 +19,7 @@ import aiohttp
 from callauction.venue.json_types import Json
 from callauction.words import MARKET
 
-Price = str | Decimal
+GivenPrice = str | Decimal
 Awaited = TypeVar("Awaited")
 FIRST_PAUSE, MOST_PAUSE = 0.05, 1.0
 FINAL_ERRORS = ("bad_token",)
@@ -53,7 +53,7 @@ class Answer:
         return self.reply.startswith("refused")
 
 
-def order_fields(side: str, quantity: int, price: Price, peak: int | None, only: str) -> Json:
+def order_fields(side: str, quantity: int, price: GivenPrice, peak: int | None, only: str) -> Json:
     """The fields of a new order."""
     found: Json = {"side": side, "quantity": quantity, "price": str(price)}
     return found | ({"peak": peak} if peak is not None else {}) | ({"only": only} if only else {})
@@ -127,7 +127,7 @@ class AsyncClient:
         self,
         side: str,
         quantity: int,
-        price: Price = MARKET,
+        price: GivenPrice = MARKET,
         *,
         peak: int | None = None,
         only: str = "",
@@ -138,7 +138,12 @@ class AsyncClient:
         return await self.send("enter", instrument, **fields)
 
     async def change(
-        self, order: int, quantity: int, price: Price = MARKET, *, instrument: str | None = None
+        self,
+        order: int,
+        quantity: int,
+        price: GivenPrice = MARKET,
+        *,
+        instrument: str | None = None,
     ) -> Answer:
         """Another open quantity and price of an order."""
         fields = {"order": order, "quantity": quantity, "price": str(price)}
@@ -299,7 +304,7 @@ class Client:
         self,
         side: str,
         quantity: int,
-        price: Price = MARKET,
+        price: GivenPrice = MARKET,
         *,
         peak: int | None = None,
         only: str = "",
@@ -310,7 +315,12 @@ class Client:
         return self._wait(self._client.send("enter", instrument, **fields))
 
     def change(
-        self, order: int, quantity: int, price: Price = MARKET, *, instrument: str | None = None
+        self,
+        order: int,
+        quantity: int,
+        price: GivenPrice = MARKET,
+        *,
+        instrument: str | None = None,
     ) -> Answer:
         """Another open quantity and price of an order."""
         return self._wait(self._client.change(order, quantity, price, instrument=instrument))

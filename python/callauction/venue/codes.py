@@ -4,7 +4,7 @@ from callauction.venue.log import Line, Log
 from callauction.venue.messages import MessageError
 
 
-class Codes:
+class JoinCodes:
     """The codes of a venue by the names of those who have one of their own, that of the day by the
     empty name; by this one new members join while it `is_open`.
     """

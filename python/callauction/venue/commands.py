@@ -6,13 +6,13 @@ from collections.abc import Callable, Collection, Iterable
 from callauction.limits import MOST_MEMBERS
 from callauction.venue import allowance, config, last_quarter
 from callauction.venue.accounts import Accounts
-from callauction.venue.book import Book
+from callauction.venue.book import MemberBook
 from callauction.venue.engine import Engine
 from callauction.venue.holdings import Holding
 from callauction.venue.log import SOURCE
 from callauction.venue.logger import NOTICES
-from callauction.venue.messages import MessageError, Order
-from callauction.venue.recovery import Entry, Message
+from callauction.venue.messages import MessageError, OrderMessage
+from callauction.venue.recovery import Entry, MemberMessage
 from callauction.venue.treatments import Treatment
 
 CODES_SECONDS = 1.0
@@ -35,7 +35,7 @@ class Commands:
         treatment: Treatment,
         day: config.DayTerms,
         engine: Engine,
-        book: Book,
+        book: MemberBook,
         accounts: Accounts,
     ) -> None:
         self._terms, self._reserve, self.limits = terms, day.reserve, terms.limits(treatment)
@@ -45,7 +45,7 @@ class Commands:
         self._codes: Collection[str] = ()
         self._codes_end = 0.0
         self._full: set[str] = set()
-        self._waiting: dict[str, dict[Message, str]] = {}
+        self._waiting: dict[str, dict[MemberMessage, str]] = {}
         self._entering = 0
         self.gone: set[str] = set()
         self._leaving: set[str] = set()
@@ -101,31 +101,33 @@ class Commands:
 
     # ---- what is sent
 
-    def submit(self, member: str, order: Order) -> "asyncio.Future[Entry]":
+    def submit(self, member: str, order: OrderMessage) -> "asyncio.Future[Entry]":
         """Sends a member's order. Raises MessageError."""
         self._check_bound(member, order)
         if not self.limits.are_none:
             self._holding_of(member).check(self.limits, order.record)
         return self._send(member, order)
 
-    def withdraw(self, member: str, order: Order) -> "asyncio.Future[Entry]":
+    def withdraw(self, member: str, order: OrderMessage) -> "asyncio.Future[Entry]":
         """Sends the deletion of an order of a member who is gone, in any phase, also while others'
         messages are held.
         """
         return self._send(member, order, is_first=True)
 
-    def _send(self, member: str, order: Order, is_first: bool = False) -> "asyncio.Future[Entry]":
+    def _send(
+        self, member: str, order: OrderMessage, is_first: bool = False
+    ) -> "asyncio.Future[Entry]":
         """Sends a member's order. Raises MessageError."""
         record = f"{self._number_of(member)},{order.record}"
         self._book.asked(record)
-        message = Message(member, order.number, record, SOURCE.get(), order.note)
+        message = MemberMessage(member, order.number, record, SOURCE.get(), order.note)
         answer = self._engine.submit(message, is_first)
         self._waiting.setdefault(member, {})[message] = order.record
         self._entering += order.record.startswith("enter")
         answer.add_done_callback(lambda _: self.answered(message))
         return answer
 
-    def answered(self, message: Message) -> None:
+    def answered(self, message: MemberMessage) -> None:
         """A member's message was answered, perhaps by a fault."""
         record = self._waiting.get(message.member, {}).pop(message, "")
         self._entering -= record.startswith("enter")
@@ -148,7 +150,7 @@ class Commands:
 
     # ---- what is left
 
-    def _check_bound(self, member: str, order: Order) -> None:
+    def _check_bound(self, member: str, order: OrderMessage) -> None:
         """Raises MessageError where a member would have more of the day than it may, or than there
         is.
         """

@@ -16,7 +16,7 @@ from callauction.prices import BadCellError, Grid, decimal_of
 from callauction.venue import owned
 from callauction.venue.bounds import Bounds, bounds_from
 from callauction.venue.fields import TITLE, ConfigError, Fields
-from callauction.venue.fix_terms import Terms, terms_from
+from callauction.venue.fix_terms import FixTerms, terms_from
 from callauction.venue.gains import Uncovered
 from callauction.venue.handing import HandError, ListError, ListedValue
 from callauction.venue.names import folded, is_role, is_seen
@@ -171,7 +171,7 @@ class DayTerms:
     payoff: PayoffTerms = PayoffTerms()
     rounds: tuple[Treatment, ...] = (Treatment(),)
     bounds: Bounds = Bounds()
-    fix: Terms | None = None
+    fix: FixTerms | None = None
 
     @property
     def group(self) -> int:
@@ -277,7 +277,7 @@ def check_rounds_of_rows(day: DayTerms, rows: tuple[ListedValue, ...]) -> None:
             raise ListError(f"round {row.round} has another list, or none", row)
 
 
-def fix_from(fields: Fields) -> Terms | None:
+def fix_from(fields: Fields) -> FixTerms | None:
     """The FIX front, None where the day has none. Raises ConfigError."""
     return terms_from(fields.table("fix")) if fields.has("fix") else None
 

@@ -14,7 +14,7 @@ from callauction.venue import messages
 from callauction.venue.frames import Socket
 from callauction.venue.gates import Gate, Gates
 from callauction.venue.json_types import Json
-from callauction.venue.members import Member
+from callauction.venue.members import VenueMember
 from callauction.venue.messages import MessageError
 from callauction.venue.rates import Bucket
 from callauction.venue.recovery import Entry
@@ -77,7 +77,7 @@ class Connection:
     def __init__(self, venue: Venue, socket: web.WebSocketResponse, gate: Gate) -> None:
         self._venue, self._socket, self._gate = venue, socket, gate
         self.role = ""
-        self.member: Member | None = None
+        self.member: VenueMember | None = None
         self.topics: frozenset[str] = frozenset()
         self._answers: collections.deque[Json] = collections.deque()
         self._shown: dict[str, Json] = {}

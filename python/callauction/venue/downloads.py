@@ -19,7 +19,7 @@ from urllib.parse import quote
 
 from callauction.venue import config, results
 from callauction.venue.instrument_board import InstrumentBoard
-from callauction.venue.members import Member, Members
+from callauction.venue.members import Members, VenueMember
 from callauction.venue.names import plain
 from callauction.venue.rounds import Round
 from callauction.venue.sheets import PLAIN, SheetRow, table
@@ -224,7 +224,7 @@ def result_rows(lesson: Lesson) -> Iterator[SheetRow]:
         yield paid | {"payoff": it.paid, "removed": NO_OR_YES[it.is_removed]}
 
 
-def parts_of(lesson: Lesson) -> Iterator[tuple[Member, SheetRow]]:
+def parts_of(lesson: Lesson) -> Iterator[tuple[VenueMember, SheetRow]]:
     """The members of each board, with what each came to there: who was removed where it had a part
     alone.
     """

@@ -12,16 +12,16 @@ import re
 from collections.abc import Callable, Sequence
 from typing import Any
 
-from callauction.venue.journal import Journal
+from callauction.venue.journal import InstrumentJournal
 from callauction.venue.leftovers import Program
 from callauction.venue.log import Log
 from callauction.venue.logger import NOTICES
 from callauction.venue.messages import MessageError
-from callauction.venue.outbox import Outbox, Sent
+from callauction.venue.outbox import Outbox, UnansweredMessage
 from callauction.venue.owned import OwnerError
 from callauction.venue.process import Process, ProcessError
 from callauction.venue.recovery import (
-    Entry, Mark, Message, RecoveryError, Run, Settled, matched, settled,
+    Entry, JournalMark, MemberMessage, RecoveryError, Run, Settled, matched, settled,
 )
 from callauction.venue.runs import MOST_ENDS, RETRY_SECONDS, InUseError, Runs
 
@@ -38,7 +38,7 @@ class Engine:
 
     def __init__(self, name: str, words: Sequence[str], journal: pathlib.Path, log: Log) -> None:
         self.name, self._log = name, log
-        self.journal = Journal(name, journal, log)
+        self.journal = InstrumentJournal(name, journal, log)
         self.runs = Runs(words, self.journal, self._ended)
         self.outbox = Outbox(name, log, self._answered)
         self.halted: str | None = None
@@ -51,7 +51,7 @@ class Engine:
     # ---- begin and end
 
     async def open(
-        self, runs: Sequence[Run], mark: Mark, left: Program | None = None
+        self, runs: Sequence[Run], mark: JournalMark, left: Program | None = None
     ) -> Settled:
         """Starts the program: what became of the messages of earlier runs. `mark` is the last that
         the log has, and `left` the program of the last run. Raises ProcessError, RecoveryError,
@@ -84,7 +84,7 @@ class Engine:
 
     # ---- messages and views
 
-    def submit(self, message: Message, is_first: bool = False) -> "asyncio.Future[Entry]":
+    def submit(self, message: MemberMessage, is_first: bool = False) -> "asyncio.Future[Entry]":
         """Sends a message that wasn't sent before, `is_first` before those that are held: its
         entry, once it is there. The future's exception is a MessageError where the program takes no
         more commands, or halts while the message is held. Raises MessageError until it is open.
@@ -120,7 +120,7 @@ class Engine:
         start = self.journal.line("start", first=self.journal.first, **kept)
         self.outbox.begin(process, start, lambda: self.on_change())
 
-    def _answered(self, sent: Sent, line: str) -> None:
+    def _answered(self, sent: UnansweredMessage, line: str) -> None:
         """Takes the answer to a message, unless the program is no longer trusted; one that has lost
         an entry, or made one up, isn't.
         """
@@ -138,7 +138,7 @@ class Engine:
         code = "no_calls" if text in NO_CALLS else "bad_message"
         self.outbox.refuse(sent, MessageError(code))
 
-    def _settle(self, sent: Sent, entry: Entry) -> None:
+    def _settle(self, sent: UnansweredMessage, entry: Entry) -> None:
         """A message has its entry; an uncross is marked before the lines of what follows it."""
         self.journal.add(entry, is_marked=not sent.message.member)
         self.outbox.settle(sent, entry)

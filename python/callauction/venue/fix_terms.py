@@ -16,7 +16,7 @@ DEFAULT_HOST, DEFAULT_PORT = "127.0.0.1", 9878
 
 
 @dataclasses.dataclass(frozen=True)
-class Terms:
+class FixTerms:
     """Where it listens, the name of the member of each CompID, and the CompID of the operator, who
     is sent a copy of each trade, empty for none; the CompIDs that speak FIX 5.0SP2, in order, as a
     sum of this tells days apart.
@@ -29,7 +29,7 @@ class Terms:
     fix50: tuple[str, ...] = ()
 
 
-def terms_from(table: dict[str, Any]) -> Terms:
+def terms_from(table: dict[str, Any]) -> FixTerms:
     """The front of a table. Raises ConfigError."""
     fields = Fields("fix", table)
     host, port = address_from(fields)
@@ -42,7 +42,7 @@ def terms_from(table: dict[str, Any]) -> Terms:
     for comp_id in fix50:
         if comp_id not in (copy, *members):
             raise fields.fault("fix50", f"{comp_id!r} is no CompID of the sessions")
-    return Terms(members, host, port, copy, tuple(sorted(fix50)))
+    return FixTerms(members, host, port, copy, tuple(sorted(fix50)))
 
 
 def address_from(fields: Fields) -> tuple[str, int]:

@@ -11,7 +11,7 @@ Fills = Iterable[tuple[str, int, int]]
 
 
 @dataclasses.dataclass(frozen=True)
-class Value:
+class ShareValue:
     """What a member was handed out: it may buy (`bid`) or sell (`ask`) `quantity` shares, each of
     which is worth this, in ticks, or costs it.
     """
@@ -36,7 +36,7 @@ class Uncovered:
         return self.bought <= tick <= self.sold
 
 
-def worth_of(value: Value | None, shares: int, uncovered: Uncovered) -> int:
+def worth_of(value: ShareValue | None, shares: int, uncovered: Uncovered) -> int:
     """What a member's shares are worth, bought less sold, in ticks times shares: below 0 where more
     were sold. Who was handed out nothing has no share covered.
     """
@@ -48,7 +48,7 @@ def worth_of(value: Value | None, shares: int, uncovered: Uncovered) -> int:
     return covered * own + rest * (uncovered.bought if rest > 0 else uncovered.sold)
 
 
-def gain_in_ticks(value: Value | None, fills: Fills, uncovered: Uncovered) -> int:
+def gain_in_ticks(value: ShareValue | None, fills: Fills, uncovered: Uncovered) -> int:
     """What these fills gain, in ticks times shares: each counts, whatever its side."""
     shares = money = 0
     for side, quantity, tick in fills:
@@ -58,13 +58,13 @@ def gain_in_ticks(value: Value | None, fills: Fills, uncovered: Uncovered) -> in
     return money + worth_of(value, shares, uncovered)
 
 
-def used_of(value: Value, fills: Fills) -> int:
+def used_of(value: ShareValue, fills: Fills) -> int:
     """How many of a value's shares these fills have used."""
     held = sum(quantity if side == value.side else -quantity for side, quantity, _ in fills)
     return min(max(held, 0), value.quantity)
 
 
-def most_gain(values: Sequence[Value]) -> int:
+def most_gain(values: Sequence[ShareValue]) -> int:
     """The most that all could gain together, whatever they traded: above each cost and below each
     value, as many shares as can meet there.
     """
@@ -85,7 +85,7 @@ class Predicted:
     most: int
 
 
-def predicted(values: Sequence[Value]) -> Predicted | None:
+def predicted(values: Sequence[ShareValue]) -> Predicted | None:
     """What would be traded if all bid and asked their values, None where nobody gains by it."""
     ticks = sorted({it.tick for it in values})
     volume = max((shares_at(values, tick) for tick in ticks), default=0)
@@ -99,7 +99,7 @@ def predicted(values: Sequence[Value]) -> Predicted | None:
     return Predicted(low, high, volume, min(bought, sold))
 
 
-def steps_of(values: Sequence[Value], side: str) -> list[tuple[int, int]]:
+def steps_of(values: Sequence[ShareValue], side: str) -> list[tuple[int, int]]:
     """The ticks of the values of a side, the best first, and the shares up to each."""
     ordered = sorted((it for it in values if it.side == side), key=lambda it: it.tick)
     if side == "bid":
@@ -113,7 +113,7 @@ def tick_at(steps: Sequence[tuple[int, int]], share: int, default: int = 0) -> i
     return next((tick for tick, total in steps if total >= share), default)
 
 
-def shares_at(values: Sequence[Value], tick: int) -> int:
+def shares_at(values: Sequence[ShareValue], tick: int) -> int:
     """The shares that can meet above this tick: worth more to who buys, and costing no more."""
     bids = sum(it.quantity for it in values if it.side == "bid" and it.tick > tick)
     asks = sum(it.quantity for it in values if it.side == "ask" and it.tick <= tick)

@@ -2,10 +2,10 @@
 import asyncio
 import contextlib
 
-from callauction.venue.gains import Value
+from callauction.venue.gains import ShareValue
 from callauction.venue.instrument_board import InstrumentBoard
 from callauction.venue.logger import NOTICES
-from callauction.venue.members import Member
+from callauction.venue.members import VenueMember
 from callauction.venue.messages import MessageError
 from callauction.venue.parts import Parts
 from callauction.venue.phases import Phase, PhaseError
@@ -25,7 +25,7 @@ class Groups:
         self._audience, self._values, self._starts = parts.audience, parts.values, starts
         self._changing = asyncio.Lock()
 
-    async def place(self, newcomers: list[Member]) -> None:
+    async def place(self, newcomers: list[VenueMember]) -> None:
         """Puts new members into the smallest groups that have room; opens one more where none has,
         and before the first call phase of a round deals all members again then. Says who has
         few others.
@@ -48,7 +48,7 @@ class Groups:
         self._say_late(newcomers)
         self._values.give_listed(newcomers)
 
-    async def place_again(self, member: Member) -> None:
+    async def place_again(self, member: VenueMember) -> None:
         """Puts a member that was removed, and comes again, into the group in which it was, or where
         there is room, if that has none or isn't there any more.
         """
@@ -111,18 +111,18 @@ class Groups:
 
     # ---- who is where
 
-    def _sizes(self, newcomer: Member) -> dict[int, int]:
+    def _sizes(self, newcomer: VenueMember) -> dict[int, int]:
         """How many members each group has, without this one."""
         others = [it for it in self._members.everybody if it is not newcomer]
         there = [it.group for it in others if not it.is_removed or self._has_number(it)]
         return {group: there.count(group) for group in range(1, self._rounds.now.groups + 1)}
 
-    def _has_room(self, member: Member) -> bool:
+    def _has_room(self, member: VenueMember) -> bool:
         """Whether a member may stay in its group: it has a number there, or there is room."""
         size = self._sizes(member).get(member.group, self._day.group)
         return size < self._day.group or self._has_number(member)
 
-    def _has_number(self, member: Member) -> bool:
+    def _has_number(self, member: VenueMember) -> bool:
         """Whether a member has a number in a journal of this round that nobody else may have."""
         boards = self._rounds.now.boards.values()
         return any(it.commands.keeps_number(member.name) for it in boards)
@@ -147,7 +147,7 @@ class Groups:
                     board.auctions.join_call(state)
                 return
 
-    def _say_late(self, newcomers: list[Member]) -> None:
+    def _say_late(self, newcomers: list[VenueMember]) -> None:
         """Says which new members came into a group that is small, once the round had begun."""
         if not self._rounds.now.has_begun:
             return
@@ -157,7 +157,7 @@ class Groups:
                 size = sizes[member.group]
                 NOTICES.warning(JOINED_LATE, member.title, member.group, size, max(sizes.values()))
 
-    def _deal_all(self, values: dict[str, Value]) -> None:
+    def _deal_all(self, values: dict[str, ShareValue]) -> None:
         """Deals all members to the groups, with as many in each who have values of one side."""
         names = by_side((it.name for it in self._members.all), values)
         self._deal(dealt(names, self._rounds.now.groups))

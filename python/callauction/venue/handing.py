@@ -8,7 +8,7 @@ from collections.abc import Iterable, Mapping, Sequence
 from typing import Protocol
 
 from callauction.venue.chance import CHANCE
-from callauction.venue.gains import Value
+from callauction.venue.gains import ShareValue
 from callauction.venue.names import folded
 from callauction.words import SIDES
 
@@ -91,10 +91,10 @@ class Rule:
     def dealt(
         self,
         names: Sequence[str],
-        before: Mapping[str, Value],
+        before: Mapping[str, ShareValue],
         tick_of: Prices,
         number: int = 1,
-    ) -> dict[str, Value]:
+    ) -> dict[str, ShareValue]:
         """The values of a group's members, who had others before, in the round of this number.
         Raises HandError.
         """
@@ -119,11 +119,14 @@ class Rule:
 
     def _in_turn(
         self, names: Sequence[str], slots: Sequence[tuple[str, int]]
-    ) -> dict[str, Value]:
+    ) -> dict[str, ShareValue]:
         """A value for each name, in an order by chance; the first again where there are no more."""
         order = CHANCE.sample([*names], len(names))
         places = (slots[place % len(slots)] for place in range(len(order)))
-        return {name: Value(side, tick, self.quantity) for name, (side, tick) in zip(order, places)}
+        return {
+            name: ShareValue(side, tick, self.quantity)
+            for name, (side, tick) in zip(order, places)
+        }
 
 
 def in_turn(demand: Sequence[int], supply: Sequence[int]) -> list[tuple[str, int]]:
@@ -140,11 +143,11 @@ def in_turn(demand: Sequence[int], supply: Sequence[int]) -> list[tuple[str, int
 
 def values_of(
     rows: Iterable[ListedValue], names: Iterable[str], tick_of: Prices, number: int
-) -> dict[str, Value]:
+) -> dict[str, ShareValue]:
     """What the rows of a round say of these members."""
     there = {folded(name): name for name in names}
     return {
-        there[member]: Value(row.side, tick_of(row.price), row.quantity)
+        there[member]: ShareValue(row.side, tick_of(row.price), row.quantity)
         for row in rows
         if (member := folded(row.member)) in there and row.round in (None, number)
     }

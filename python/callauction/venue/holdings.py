@@ -9,8 +9,8 @@ from collections.abc import Iterable, Mapping
 from decimal import Decimal
 from typing import Self
 
-from callauction.venue.accounts import Fill, position
-from callauction.venue.gains import Value
+from callauction.venue.accounts import MemberFill, position
+from callauction.venue.gains import ShareValue
 from callauction.venue.messages import MessageError
 from callauction.venue.treatments import Limits
 from callauction.words import MARKET
@@ -78,7 +78,7 @@ def possible_orders(
 
 
 @dataclasses.dataclass(frozen=True)
-class Step:
+class RecordEffect:
     """What a record makes: what its order may be after it, nothing where it makes none larger;
     what it may be before, nothing where it is new; all other orders.
     """
@@ -110,9 +110,9 @@ class Holding:
     is in money.
     """
 
-    value: Value | None
-    fills: list[Fill]
-    since: list[Fill]
+    value: ShareValue | None
+    fills: list[MemberFill]
+    since: list[MemberFill]
     orders: dict[int, Own]
     waiting: list[str]
     high: int
@@ -120,11 +120,11 @@ class Holding:
 
     def check(self, limits: Limits, record: str) -> None:
         """Raises MessageError where the limits refuse the record of a message."""
-        step = Step.of(record, *possible_orders(self.orders, self.waiting))
+        step = RecordEffect.of(record, *possible_orders(self.orders, self.waiting))
         for order in step.after:
             self._check(limits, order, step)
 
-    def _check(self, limits: Limits, order: Own, step: Step) -> None:
+    def _check(self, limits: Limits, order: Own, step: RecordEffect) -> None:
         """Raises MessageError where an order can't be beside others; what lessens it may be."""
         others = step.others
         if not limits.has_own_trades and any(order.meets(it) for ways in others for it in ways):
@@ -169,6 +169,6 @@ def shares_of(orders: Iterable[Ways], side: str) -> int:
     return sum(max((it.quantity for it in ways if it.side == side), default=0) for ways in orders)
 
 
-def spent(fills: Iterable[Fill]) -> int:
+def spent(fills: Iterable[MemberFill]) -> int:
     """What was paid less what came in, in ticks times shares."""
     return sum(it.tick * (it.quantity if it.side == "bid" else -it.quantity) for it in fills)

@@ -23,7 +23,7 @@ from callauction.venue.instrument_board import InstrumentBoard
 from callauction.venue.json_types import Json
 from callauction.venue.log import SOURCE
 from callauction.venue.logger import NOTICES
-from callauction.venue.members import Member
+from callauction.venue.members import VenueMember
 from callauction.venue.messages import MessageError
 from callauction.venue.phases import PhaseError
 from callauction.venue.rates import Guesses
@@ -259,7 +259,7 @@ class Site:
 
     # ---- looks
 
-    def _member_of(self, request: web.Request) -> Member | None:
+    def _member_of(self, request: web.Request) -> VenueMember | None:
         """The member who asks, None where the operator looks at a state. Raises MessageError."""
         role, member = self._venue.role_of(token_of(request))
         if member is None:

@@ -12,19 +12,19 @@ from collections.abc import Callable, Iterable, Mapping
 from callauction.venue import clock, config, ending
 from callauction.venue.accounts import Accounts
 from callauction.venue.auctions import Auctions, Point
-from callauction.venue.book import OPERATOR, Book
+from callauction.venue.book import OPERATOR, MemberBook
 from callauction.venue.commands import Commands
 from callauction.venue.engine import Engine
-from callauction.venue.gains import Value
+from callauction.venue.gains import ShareValue
 from callauction.venue.handing import Rule
 from callauction.venue.journal import JOURNAL
 from callauction.venue.log import Line, Log
 from callauction.venue.looks import Looks
-from callauction.venue.members import Member
-from callauction.venue.messages import Order
-from callauction.venue.phases import State
+from callauction.venue.members import VenueMember
+from callauction.venue.messages import OrderMessage
+from callauction.venue.phases import TimedPhase
 from callauction.venue.process import ProcessError
-from callauction.venue.recovery import Entry, Message
+from callauction.venue.recovery import Entry, MemberMessage
 from callauction.venue.treatments import Treatment
 
 LAST_SECONDS = 0.5
@@ -84,12 +84,12 @@ class InstrumentBoard:
         engine = Engine(identity.key, [*words, *terms.words()], journal, common.log)
         self.identity, self.terms, self.engine = identity, terms, engine
         self._restores, self.has_run = common.restores, False
-        self.book, self.accounts = Book(), Accounts(terms.uncovered, treatment.shares)
+        self.book, self.accounts = MemberBook(), Accounts(terms.uncovered, treatment.shares)
         self.commands = Commands(terms, treatment, day, engine, self.book, self.accounts)
         self.auctions = Auctions(plan_of(day.plan, treatment), engine, self.book)
         self.looks = Looks(terms, engine, self.book, self.accounts, self.auctions)
         self._tasks: list[asyncio.Task[None]] = []
-        self.on_entry: Callable[[Message, Entry | None], None] = lambda message, entry: None
+        self.on_entry: Callable[[MemberMessage, Entry | None], None] = lambda message, entry: None
         engine.outbox.on_entry = self._entered
         self.auctions.on_change = self.looks.touch
 
@@ -141,12 +141,12 @@ class InstrumentBoard:
 
     # ---- messages and their entries
 
-    def submit(self, member: str, order: Order) -> "asyncio.Future[Entry]":
+    def submit(self, member: str, order: OrderMessage) -> "asyncio.Future[Entry]":
         """Sends a member's order. Raises MessageError."""
         self.auctions.check_open()
         return self.commands.submit(member, order)
 
-    def _entered(self, message: Message, entry: Entry) -> None:
+    def _entered(self, message: MemberMessage, entry: Entry) -> None:
         """A message has its entry."""
         self.commands.answered(message)
         if message.member == OPERATOR:
@@ -159,7 +159,7 @@ class InstrumentBoard:
         self.commands.say_full()
         self.on_entry(message, entry)
 
-    def replay(self, message: Message, entry: Entry) -> None:
+    def replay(self, message: MemberMessage, entry: Entry) -> None:
         """A message of an earlier run, and its entry."""
         self.book.take(entry)
         if message.member == OPERATOR:
@@ -171,13 +171,13 @@ class InstrumentBoard:
         if kind == "number":
             self.book.give(line["member"], line["number"])
         elif kind == "phase":
-            self.auctions.replay_phase(State.of(line), line.get("began"))
+            self.auctions.replay_phase(TimedPhase.of(line), line.get("began"))
         elif kind == "clock":
             self.auctions.set_back(line["behind"])
         elif kind == "point":
             self.auctions.keep_point(Point.of(line))
         elif kind == "values":
-            values = {name: Value(*rest) for name, *rest in line["values"]}
+            values = {name: ShareValue(*rest) for name, *rest in line["values"]}
             self.accounts.give(values, line["all"], line["since"])
         elif kind == "left":
             self.commands.gone.add(line["member"])
@@ -195,18 +195,18 @@ class InstrumentBoard:
         self.auctions.plan = plan_of(plan, treatment)
 
     def dealt(
-        self, rule: Rule, members: Iterable[Member], before: Mapping[str, Value]
-    ) -> dict[str, Value]:
+        self, rule: Rule, members: Iterable[VenueMember], before: Mapping[str, ShareValue]
+    ) -> dict[str, ShareValue]:
         """The values by a rule of those of these members who are on the board. Raises HandError."""
         names = [it.name for it in members if it.group == self.identity.group]
         return rule.dealt(names, before, self.terms.value_tick, self.identity.round)
 
-    async def give(self, values: Mapping[str, Value], is_to_all: bool) -> None:
+    async def give(self, values: Mapping[str, ShareValue], is_to_all: bool) -> None:
         """Hands out values, after all trades so far. Raises MessageError."""
         await self.looks.refresh()
         self.hand(values, is_to_all)
 
-    def hand(self, values: Mapping[str, Value], is_to_all: bool) -> None:
+    def hand(self, values: Mapping[str, ShareValue], is_to_all: bool) -> None:
         """Hands out values, after all trades that were seen."""
         since = len(self.looks.trades)
         self.accounts.give(values, is_to_all, since)

@@ -13,7 +13,7 @@ from typing import Any, ParamSpec, TypeVar
 from callauction.venue import ending, owned
 from callauction.venue.log import Log, line_text
 from callauction.venue.recovery import (
-    OTHER_FIRST, Entry, Mark, RolledBackError, Sum, journal_sums, known_entries,
+    OTHER_FIRST, Entry, JournalMark, RolledBackError, Sum, journal_sums, known_entries,
 )
 
 JOURNAL = ".journal.csv"
@@ -22,10 +22,10 @@ MARK_SECONDS = 0.05
 """How long after an entry the log has a mark of it."""
 
 Parameters = ParamSpec("Parameters")
-Result = TypeVar("Result")
+Returned = TypeVar("Returned")
 
 
-class Journal:
+class InstrumentJournal:
     """The journal of the instrument of this name; `first` is the SHA-256 of its first line, empty
     until that is known.
     """
@@ -42,7 +42,7 @@ class Journal:
         return self._sum.count
 
     @property
-    def mark(self) -> Mark:
+    def mark(self) -> JournalMark:
         """The mark of these entries, and of its first line, as far as that is known."""
         return dataclasses.replace(self._sum.mark, first=self.first)
 
@@ -74,7 +74,7 @@ class Journal:
 
     # ---- what is on the disk
 
-    async def known_entries(self, mark: Mark) -> list[Entry]:
+    async def known_entries(self, mark: JournalMark) -> list[Entry]:
         """The entries that it has, which begin with those of the mark. Raises RolledBackError where
         they don't, RecoveryError where others have added some, OwnerError where it is another
         user's, OSError.
@@ -108,13 +108,13 @@ class Journal:
         return {it.name for it in self.path.parent.glob(f"{names}.cut-*")}
 
     async def in_thread(
-        self, work: Callable[Parameters, Result], *args: Parameters.args, **kw: Parameters.kwargs
-    ) -> Result:
+        self, work: Callable[Parameters, Returned], *args: Parameters.args, **kw: Parameters.kwargs
+    ) -> Returned:
         """What some work comes to that takes long where there are many entries: others' orders are
         served meanwhile. Raises what it raises, and OSError where there is no thread.
         """
 
-        def done() -> Result:
+        def done() -> Returned:
             with ending.until_done(lambda: f"the journal of {self.name}"):
                 return work(*args, **kw)
 

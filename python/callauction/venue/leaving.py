@@ -5,8 +5,8 @@ from collections.abc import Coroutine
 from typing import Any
 
 from callauction.venue.instrument_board import InstrumentBoard
-from callauction.venue.members import Done, Member
-from callauction.venue.messages import Order
+from callauction.venue.members import Done, VenueMember
+from callauction.venue.messages import OrderMessage
 from callauction.venue.recovery import Entry
 
 
@@ -14,7 +14,7 @@ from callauction.venue.recovery import Entry
 class Deletion:
     """The deletion of an order of a member who was removed, on a board of this name."""
 
-    member: Member
+    member: VenueMember
     board: str
     order: int
     answer: "asyncio.Future[Entry]"
@@ -31,7 +31,7 @@ class Removal:
     that have halted, where that is done once they go on.
     """
 
-    members: list[Member]
+    members: list[VenueMember]
     deleted: list[Deletion] = dataclasses.field(default_factory=list)
     halted: list[str] = dataclasses.field(default_factory=list)
 
@@ -56,18 +56,20 @@ class Removal:
         return taken_out()
 
 
-def withdrawn(member: Member, board: InstrumentBoard) -> list[Deletion]:
+def withdrawn(member: VenueMember, board: InstrumentBoard) -> list[Deletion]:
     """Deletes the open orders of a member who was removed, each once, where that can be."""
     asked = {it.record: it.answer for it in member.waiting(board.identity.instrument)}
     found = []
     for order in board.commands.open_orders(member.name) if board.engine.is_open else ():
-        sent = Order(member.last + 1, board.terms.name, f"delete,{order}")
+        sent = OrderMessage(member.last + 1, board.terms.name, f"delete,{order}")
         answer = asked.get(sent.record) or withdraw(member, board, sent)
         found.append(Deletion(member, board.identity.name, order, answer))
     return found
 
 
-def withdraw(member: Member, board: InstrumentBoard, order: Order) -> "asyncio.Future[Entry]":
+def withdraw(
+    member: VenueMember, board: InstrumentBoard, order: OrderMessage
+) -> "asyncio.Future[Entry]":
     """Sends the deletion of an order of a member in any phase. Raises MessageError."""
     answer = board.commands.withdraw(member.name, order)
     member.keep(order.number, Done(board.identity.instrument, order.record, answer))

@@ -9,7 +9,7 @@ from collections.abc import Callable
 from callauction.venue.background import going_on
 from callauction.venue.gates import HEAD_SECONDS, Gate, Gates
 from callauction.venue.logger import NOTICES
-from callauction.venue.passing import Passed, Secured
+from callauction.venue.passing import PassingProtocol, Secured
 from callauction.venue.rates import network_of
 
 SWEEP_SECONDS = 0.5
@@ -87,7 +87,7 @@ class Listener:
 
     async def _serve(self, gate: Gate) -> None:
         """Begins to serve a connection; what is wrong with its TLS is nobody else's matter."""
-        inner = Passed(self._gates, gate, self._protocol())
+        inner = PassingProtocol(self._gates, gate, self._protocol())
         try:
             await self._begin(gate, inner)
         except (OSError, asyncio.CancelledError):
@@ -96,7 +96,7 @@ class Listener:
             self._gates.leave(gate)
             gate.socket.close()
 
-    async def _begin(self, gate: Gate, inner: Passed) -> None:
+    async def _begin(self, gate: Gate, inner: PassingProtocol) -> None:
         """Connects who serves a connection, after the handshake where there is TLS. Raises OSError.
         """
         loop = asyncio.get_running_loop()

@@ -11,7 +11,7 @@ from callauction.venue.instrument_board import InstrumentBoard
 from callauction.venue.log import Line, taking
 from callauction.venue.members import Done
 from callauction.venue.parts import Parts
-from callauction.venue.recovery import Entry, Message, Settled
+from callauction.venue.recovery import Entry, MemberMessage, Settled
 from callauction.venue.rounds import Round
 from callauction.venue.timekeeping import is_shift
 from callauction.venue.treatments import Treatment
@@ -92,7 +92,7 @@ class Past:
             self._values.replay(round_, line)
 
     def _replay_message(
-        self, board: InstrumentBoard, message: Message, entry: Entry | None
+        self, board: InstrumentBoard, message: MemberMessage, entry: Entry | None
     ) -> None:
         """Takes a message of an earlier run, and its entry; one that wasn't executed never was."""
         if entry is not None:

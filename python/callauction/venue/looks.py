@@ -6,10 +6,10 @@ import time
 from collections.abc import Callable, Iterable, Sequence
 
 from callauction.venue import config, views
-from callauction.venue.accounts import Accounts, Fill
+from callauction.venue.accounts import Accounts, MemberFill
 from callauction.venue.auctions import TICK, Auctions
 from callauction.venue.background import going_on
-from callauction.venue.book import Book
+from callauction.venue.book import MemberBook
 from callauction.venue.engine import Engine
 from callauction.venue.messages import MessageError
 from callauction.venue.process import ProcessError
@@ -31,7 +31,7 @@ class Looks:
         self,
         terms: config.InstrumentTerms,
         engine: Engine,
-        book: Book,
+        book: MemberBook,
         accounts: Accounts,
         auctions: Auctions,
     ) -> None:
@@ -41,7 +41,7 @@ class Looks:
         self.day = views.DayView("opening", terms.reference, 0, terms.calls)
         self.levels: list[views.Level] = []
         self.visible_levels: list[views.Level] = []
-        self.trades: list[views.Trade] = []
+        self.trades: list[views.DayTrade] = []
         self.orders: dict[str, list[views.MemberOrder]] = {}
         self.is_seen = self.is_ladder_seen = False
         self._listed = -1  # how many entries the journal had when the book was listed last
@@ -174,10 +174,10 @@ class Looks:
         self._add_trades(trades := views.trades_in_view(found[2]))
         return bool(trades)
 
-    def _add_trades(self, trades: Iterable[views.Trade]) -> None:
+    def _add_trades(self, trades: Iterable[views.DayTrade]) -> None:
         """Trades that weren't known, and whose they are."""
         for it in trades:
             self.trades.append(it)
             for side, order in (("bid", it.bid), ("ask", it.ask)):
-                fill = Fill(it.number, order, side, it.quantity, it.tick)
+                fill = MemberFill(it.number, order, side, it.quantity, it.tick)
                 self._accounts.fills.setdefault(self._book.of_order(order), []).append(fill)

@@ -9,7 +9,7 @@ from collections.abc import Mapping
 
 from callauction.venue import arrivals, config, fields, tokens
 from callauction.venue.arrivals import Arrivals
-from callauction.venue.codes import Codes
+from callauction.venue.codes import JoinCodes
 from callauction.venue.log import Line, Log
 from callauction.venue.logger import NOTICES
 from callauction.venue.messages import MessageError
@@ -36,7 +36,7 @@ class Done:
 
 
 @dataclasses.dataclass(eq=False)
-class Member:
+class VenueMember:
     """A member: its name, what is kept of its token, and its messages by their numbers; its title,
     its group in this round, the kind of robot that it is, whether it was removed, how many tokens
     it had, each for another device, and whether nobody was given any of them.
@@ -76,19 +76,19 @@ class Members:
 
     def __init__(self, terms: config.MemberTerms, log: Log) -> None:
         self._terms, self._log = terms, log
-        self._by_name: dict[str, Member] = {}
-        self._by_token: dict[str, Member] = {}
+        self._by_name: dict[str, VenueMember] = {}
+        self._by_token: dict[str, VenueMember] = {}
         self._former: set[str] = set()
-        self.codes = Codes(terms, log)
+        self.codes = JoinCodes(terms, log)
         self.arrivals = Arrivals(terms.joins)
 
     @property
-    def everybody(self) -> list[Member]:
+    def everybody(self) -> list[VenueMember]:
         """All members, also those that were removed, in the order in which they came."""
         return [*self._by_name.values()]
 
     @property
-    def all(self) -> list[Member]:
+    def all(self) -> list[VenueMember]:
         """All members that weren't removed, in the order in which they came."""
         return [it for it in self.everybody if not it.is_removed]
 
@@ -97,11 +97,11 @@ class Members:
         """How many members each group has that has any, without those who were removed."""
         return dict(collections.Counter(it.group for it in self.all))
 
-    def named(self, name: str) -> Member | None:
+    def named(self, name: str) -> VenueMember | None:
         """The member of this name."""
         return self._by_name.get(name)
 
-    def called(self, title: object) -> Member:
+    def called(self, title: object) -> VenueMember:
         """The member of this title. Raises MessageError."""
         for it in self.everybody:
             if it.title == title:
@@ -113,7 +113,7 @@ class Members:
         found = self._by_name.get(name)
         return found.title if found else name
 
-    def of_token(self, token: str) -> Member | None:
+    def of_token(self, token: str) -> VenueMember | None:
         """The member whose token this is."""
         return self._by_token.get(tokens.digest(token))
 
@@ -128,7 +128,7 @@ class Members:
 
     # ---- joining
 
-    def join(self, code: str, name: str, address: str = "") -> tuple[Member, str]:
+    def join(self, code: str, name: str, address: str = "") -> tuple[VenueMember, str]:
         """A member and its new token: a new member by the day's code, or one that comes again by a
         code of its own, from this address. Raises MessageError.
         """
@@ -145,7 +145,7 @@ class Members:
         self.arrivals.came(address, title)
         return found
 
-    def join_robot(self, name: str, robot: str) -> Member:
+    def join_robot(self, name: str, robot: str) -> VenueMember:
         """A robot of the venue itself, whose token nobody has. Raises MessageError."""
         return self._come_again(self._new_title(name), robot)[0]
 
@@ -163,14 +163,14 @@ class Members:
             raise NameTakenError("name_taken")
         return wanted
 
-    def _come_again(self, name: str, robot: str = "") -> tuple[Member, str]:
+    def _come_again(self, name: str, robot: str = "") -> tuple[VenueMember, str]:
         """A member of this name with a new token, new where there is none. Raises MessageError."""
         if (found := self._by_name.get(name)) and not found.hellos.takes():
             raise MessageError("too_fast")
         token = tokens.new_token()
         return self.admit(name, token, robot), token
 
-    def admit(self, name: str, token: str, robot: str = "") -> Member:
+    def admit(self, name: str, token: str, robot: str = "") -> VenueMember:
         """The member of this name, new where there is none, whose token is this one from now on.
         Raises MessageError.
         """
@@ -198,12 +198,12 @@ class Members:
         if self.is_full:
             raise MessageError("venue_full")
 
-    def learn(self, name: str, token: str, robot: str = "") -> Member:
+    def learn(self, name: str, token: str, robot: str = "") -> VenueMember:
         """The member with this name has this token from now on."""
         found = self._by_name.get(name)
         if found is None:
             bucket = Bucket(self._terms.rate, self._terms.burst)
-            found = Member(name, token, bucket, name, robot=robot)
+            found = VenueMember(name, token, bucket, name, robot=robot)
             self._by_name[name] = found
         if self._by_token.pop(found.token, None):
             self._former.add(found.token)
@@ -213,7 +213,7 @@ class Members:
 
     # ---- what the operator does with them
 
-    def rename(self, member: Member, title: str) -> None:
+    def rename(self, member: VenueMember, title: str) -> None:
         """Gives a member another title. Raises MessageError."""
         before, member.title = member.title, ""
         try:
@@ -224,7 +224,7 @@ class Members:
         member.title = wanted
         self._log.note(kind="rename", name=member.name, title=wanted)
 
-    def remove(self, member: Member) -> None:
+    def remove(self, member: VenueMember) -> None:
         """Nobody is this member any more."""
         self.forget(member.name)
         self._log.note(kind="removed", name=member.name)

@@ -67,7 +67,7 @@ class MessageError(ValueError):
 
 
 @dataclasses.dataclass(frozen=True, slots=True)
-class Order:
+class OrderMessage:
     """A message that becomes a command: its number, its instrument, and the rest of its record
     after the member. `note` is what the log keeps beside it.
     """
@@ -165,7 +165,7 @@ def quantity_of(terms: InstrumentTerms, message: dict[str, Any]) -> int:
     return found
 
 
-def order_of(terms: InstrumentTerms, message: dict[str, Any]) -> Order:
+def order_of(terms: InstrumentTerms, message: dict[str, Any]) -> OrderMessage:
     """The command that a message asks for. Raises MessageError."""
     kind = message["type"]
     for name in message.keys() - ORDER_FIELDS[kind] - {"type", "number", "instrument"}:
@@ -178,7 +178,7 @@ def order_of(terms: InstrumentTerms, message: dict[str, Any]) -> Order:
     if kind == "change":
         limit = limit_text(terms, message.get("price"))
         rest += f",{quantity_of(terms, message)},{limit}"
-    return Order(number, terms.name, rest)
+    return OrderMessage(number, terms.name, rest)
 
 
 def enter_record(terms: InstrumentTerms, message: dict[str, Any]) -> str:

@@ -35,7 +35,7 @@ from callauction.venue.instrument_board import InstrumentBoard
 from callauction.venue.json_types import Json
 from callauction.venue.log import SOURCE
 from callauction.venue.logger import NOTICES
-from callauction.venue.members import Member
+from callauction.venue.members import VenueMember
 from callauction.venue.messages import MessageError, number_of, text_of
 from callauction.venue.phases import PhaseError
 from callauction.venue.robots import MOST_ROBOTS, ROBOT_KINDS
@@ -51,7 +51,7 @@ STEPS = {
     "freeze": Auctions.freeze,
     "thaw": Auctions.thaw,
 }
-Words = dict[str, Callable[[Venue, dict[str, Any]], Awaitable[Json]]]
+Actions = dict[str, Callable[[Venue, dict[str, Any]], Awaitable[Json]]]
 
 
 async def done(venue: Venue, message: dict[str, Any]) -> Json:
@@ -252,7 +252,7 @@ async def remove(venue: Venue, message: dict[str, Any]) -> Json:
     return await removed(venue, members)
 
 
-async def removed(venue: Venue, members: list[Member]) -> Json:
+async def removed(venue: Venue, members: list[VenueMember]) -> Json:
     """Removes members: how many, and their orders that were deleted; the instruments that have
     halted, where they are once these go on.
     """
@@ -323,7 +323,7 @@ async def give(venue: Venue, message: dict[str, Any]) -> Json:
 
 
 def losing_values(
-    venue: Venue, members: list[Member], held: Container[str], count: int
+    venue: Venue, members: list[VenueMember], held: Container[str], count: int
 ) -> MessageError:
     """What is said where as many members would lose a value: who would have a new one, and who
     would keep its own.
@@ -336,7 +336,7 @@ def losing_values(
 
 def receivers(
     venue: Venue, rule: Rule, message: dict[str, Any], whom: str, held: Container[str]
-) -> list[Member]:
+) -> list[VenueMember]:
     """Who is handed out a value. Raises MessageError."""
     if whom == "named" and rule.how == "list":
         names = {row.member for row in rule.rows}
@@ -396,7 +396,7 @@ async def reset(venue: Venue, message: dict[str, Any]) -> Json:
     return {}
 
 
-ACTS: Words = {
+ACTS: Actions = {
     "reset": reset,
     "next": begin_round,
     "treat": treat,

@@ -9,14 +9,14 @@ from callauction.venue.latency import Times
 from callauction.venue.log import Log, sent_text
 from callauction.venue.messages import MessageError
 from callauction.venue.process import Process
-from callauction.venue.recovery import Entry, Message
+from callauction.venue.recovery import Entry, MemberMessage
 
 
 @dataclasses.dataclass(slots=True, eq=False)
-class Sent:
+class UnansweredMessage:
     """A message that isn't answered yet, and who waits for its entry."""
 
-    message: Message
+    message: MemberMessage
     answer: "asyncio.Future[Entry]"
     since: float
 
@@ -32,18 +32,21 @@ class Outbox:
     each message and its entry before who sent it is answered.
     """
 
-    def __init__(self, name: str, log: Log, answered: Callable[[Sent, str], None]) -> None:
+    def __init__(
+        self, name: str, log: Log, answered: Callable[[UnansweredMessage, str], None]
+    ) -> None:
         self._name, self._log, self._answered = name, log, answered
         self.process: Process | None = None
         self.times = Times()
-        self.on_entry: Callable[[Message, Entry], None] = lambda message, entry: None
-        self._pending: dict[Message, Sent] = {}
-        self._held: list[Sent] = []
+        self.on_entry: Callable[[MemberMessage, Entry], None] = lambda message, entry: None
+        self._pending: dict[MemberMessage, UnansweredMessage] = {}
+        self._held: list[UnansweredMessage] = []
         self._holds = 0
-        self._batch: list[Sent] = []  # another one for each run, and while none goes on
+        # another one for each run, and while none goes on
+        self._batch: list[UnansweredMessage] = []
 
     @property
-    def unanswered(self) -> list[Sent]:
+    def unanswered(self) -> list[UnansweredMessage]:
         """The messages that were sent, in their order."""
         return [*self._pending.values()]
 
@@ -54,12 +57,12 @@ class Outbox:
 
     # ---- what comes
 
-    def put(self, message: Message, is_first: bool = False) -> "asyncio.Future[Entry]":
+    def put(self, message: MemberMessage, is_first: bool = False) -> "asyncio.Future[Entry]":
         """Sends a message that wasn't sent before, `is_first` before those that are held: its
         entry, once it is there.
         """
         loop = asyncio.get_running_loop()
-        sent = Sent(message, loop.create_future(), loop.time())
+        sent = UnansweredMessage(message, loop.create_future(), loop.time())
         if self._holds and not is_first:
             self._held.append(sent)
         else:
@@ -77,7 +80,7 @@ class Outbox:
             for sent in self.let_go():
                 self._take(sent)
 
-    def let_go(self) -> list[Sent]:
+    def let_go(self) -> list[UnansweredMessage]:
         """What was held, and no longer is."""
         held, self._held = self._held, []
         return held
@@ -105,17 +108,17 @@ class Outbox:
         """Sends nothing more, until another run begins, which is sent all of it."""
         self.process, self._batch = None, []
 
-    def _take(self, sent: Sent) -> None:
+    def _take(self, sent: UnansweredMessage) -> None:
         """Sends a message once it is on the log's disk."""
         self._pending[sent.message] = sent
         self._log.append(self._line(sent.message), lambda: self._send(sent))
 
-    def _line(self, message: Message) -> str:
+    def _line(self, message: MemberMessage) -> str:
         """The log's line of a message."""
         of, it = self._name, message
         return sent_text(of, it.member, it.number, it.record, it.source, it.note)
 
-    def _send(self, sent: Sent) -> None:
+    def _send(self, sent: UnansweredMessage) -> None:
         """Sends what is on the log's disk, unless no run goes on: the next one is sent it as that
         begins. What comes at once is sent at once.
         """
@@ -125,7 +128,7 @@ class Outbox:
             asyncio.get_running_loop().call_soon(self._send_batch, self._batch)
         self._batch.append(sent)
 
-    def _send_batch(self, batch: list[Sent]) -> None:
+    def _send_batch(self, batch: list[UnansweredMessage]) -> None:
         """Sends what has come together, unless its run has ended since."""
         if batch and batch is self._batch and self.process is not None:
             answers = [lambda lines, sent=sent: self._answered(sent, lines[0]) for sent in batch]
@@ -134,7 +137,7 @@ class Outbox:
 
     # ---- what is answered
 
-    def settle(self, sent: Sent, entry: Entry) -> None:
+    def settle(self, sent: UnansweredMessage, entry: Entry) -> None:
         """A message has its entry."""
         del self._pending[sent.message]
         self.times.add(asyncio.get_running_loop().time() - sent.since)
@@ -142,7 +145,7 @@ class Outbox:
         if not sent.answer.done():
             sent.answer.set_result(entry)
 
-    def refuse(self, sent: Sent, fault: MessageError) -> None:
+    def refuse(self, sent: UnansweredMessage, fault: MessageError) -> None:
         """A message has no entry."""
         del self._pending[sent.message]
         sent.refuse(fault)

@@ -27,7 +27,7 @@ begun; how long after as much had no message.
 """
 
 
-class Passed(asyncio.Protocol):
+class PassingProtocol(asyncio.Protocol):
     """The protocol of a connection, which says what comes of it to the gates, and passes it on in
     slices, no sooner than it may say more: aiohttp bounds neither the requests nor the empty
     messages that wait.

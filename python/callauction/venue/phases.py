@@ -30,7 +30,7 @@ class PhaseError(ValueError):
 
 
 @dataclasses.dataclass(frozen=True)
-class State:
+class TimedPhase:
     """The phase of the current auction. Times are seconds of the epoch: `ends` is the end that is
     shown, None for none; `latest` the last at which a random end may come; `real` the end that was
     drawn, which nobody is shown. While it is frozen since `frozen`, the clock is held.

@@ -58,7 +58,7 @@ class Entry:
 
 
 @dataclasses.dataclass(frozen=True, slots=True)
-class Message:
+class MemberMessage:
     """A message of a member, by its name and its own number, and the record that it became. The
     operator's name is empty. `source` is the address from which it came, and `note` what the log
     keeps beside it.
@@ -72,7 +72,7 @@ class Message:
 
 
 @dataclasses.dataclass(frozen=True, slots=True)
-class Mark:
+class JournalMark:
     """How many entries a journal had, and their SHA-256, and that of its first line; no digest
     where none was written down. `earlier` are such counts with their digests of some beginnings of
     it, the shortest first.
@@ -144,9 +144,9 @@ class Sum:
             self._next += 1 + self.count // 50
 
     @property
-    def mark(self) -> Mark:
+    def mark(self) -> JournalMark:
         """What is written down of these entries."""
-        return Mark(self.count, self._sum.hexdigest(), earlier=self._earlier)
+        return JournalMark(self.count, self._sum.hexdigest(), earlier=self._earlier)
 
 
 def journal_sums(path: pathlib.Path, size: int) -> tuple[str, str]:
@@ -159,7 +159,7 @@ def journal_sums(path: pathlib.Path, size: int) -> tuple[str, str]:
     return first.hexdigest(), rest.hexdigest()
 
 
-def known_entries(path: pathlib.Path, mark: Mark) -> list[Entry]:
+def known_entries(path: pathlib.Path, mark: JournalMark) -> list[Entry]:
     """The entries of a journal, which begin with those of a mark. Raises RolledBackError where they
     don't, RecoveryError where others have added some, and OSError.
     """
@@ -204,12 +204,12 @@ def entries_in(text: str) -> list[Entry]:
     return found
 
 
-Settled = list[tuple[Message, Entry | None]]
+Settled = list[tuple[MemberMessage, Entry | None]]
 """Messages with their entries, None for one that was not executed."""
 
 
 def matched(
-    messages: Iterable[Message], entries: Sequence[Entry], is_last: bool = True
+    messages: Iterable[MemberMessage], entries: Sequence[Entry], is_last: bool = True
 ) -> Settled:
     """Each message with its entry, where `is_last` of all up to the journal's end. Raises
     RecoveryError where an entry is left.
@@ -232,7 +232,7 @@ class Run:
     """What was sent to a program while it ran, after its journal had as many entries."""
 
     begin: int
-    messages: list[Message] = dataclasses.field(default_factory=list)
+    messages: list[MemberMessage] = dataclasses.field(default_factory=list)
 
 
 def settled(runs: Sequence[Run], entries: Sequence[Entry]) -> Settled:
@@ -257,18 +257,18 @@ def runs_of(lines: Iterable[Line]) -> dict[str, list[Run]]:
         elif line["kind"] == "sent":
             with taking(line):
                 note = dict(line.get("note", {}))
-                message = Message(line["member"], line["number"], line["record"], note=note)
+                message = MemberMessage(line["member"], line["number"], line["record"], note=note)
                 found[line["instrument"]][-1].messages.append(message)
     return found
 
 
-def mark_of(lines: Iterable[Line]) -> Mark:
+def mark_of(lines: Iterable[Line]) -> JournalMark:
     """The last mark of a journal that its lines of the log have, with those before it."""
-    found, earlier = Mark(), list[tuple[int, str]]()
+    found, earlier = JournalMark(), list[tuple[int, str]]()
     for line in lines:
         if line["kind"] in ("start", "mark"):
             first = line.get("first", found.first)
-            found = Mark(line["entries"], line.get("sha256", ""), first, earlier)
+            found = JournalMark(line["entries"], line.get("sha256", ""), first, earlier)
             earlier.append((found.entries, found.sha256))
     return found
 

@@ -17,15 +17,13 @@ from decimal import Decimal
 import pandas
 
 from callauction import plot
-from callauction.pages import FIRST, html_image, html_page, html_table, new_figure
+from callauction.pages import FIRST, Section, html_image, html_page, html_table, new_figure
 from callauction.program import Day
 from callauction.reasons import explain
 from callauction.tables import audit_of, book_at, books_of
 from callauction.venue import german, sheets
 from callauction.venue.json_types import Json
 
-Part = tuple[str, str]
-"""A section: its heading and its HTML."""
 PRICED = re.compile(r"(opening|intraday|closing|interrupted) price (\d+) volume (\d+)")
 REPORT_MEMBERS = (
     *("name", "side", "value", "quantity"),
@@ -85,7 +83,7 @@ FIRST_ROWS = re.compile(re.escape(FIRST).replace(r"\{\}", r"([\d,]+)"))
 """What the caption of a table says that isn't whole."""
 
 
-class Number:
+class WrittenNumber:
     """A decimal number in a table, as it is written."""
 
     def __init__(self, text: str) -> None:
@@ -119,7 +117,7 @@ def in_german(page: str) -> str:
     return FIRST_ROWS.sub(lambda it: german.number(f" (die ersten {it[1]} von {it[2]})"), page)
 
 
-def paid_part(asked: Json) -> list[Part]:
+def paid_part(asked: Json) -> list[Section]:
     """What members are paid, who gained most first."""
     rows = [marked(asked, row) for row in asked["results"] if row["round"] == "all"]
     if not rows:
@@ -129,7 +127,7 @@ def paid_part(asked: Json) -> list[Part]:
     return [(said(asked, "result"), table)]
 
 
-def board_part(asked: Json, board: Json) -> list[Part]:
+def board_part(asked: Json, board: Json) -> list[Section]:
     """The part of a board: its audit, its members, its auctions."""
     day = Day(pathlib.Path(board["journal"]).read_bytes())
     text = audited(asked, day) + efficiency(asked, board) + members_part(asked, board)
@@ -190,7 +188,7 @@ def table_of(
 def cell_of(column: str, value: str, language: str) -> object:
     """A cell: a decimal number goes to the right in its column, also where it is below 0."""
     text = sheets.cell(column, value, language)
-    return Number(text) if text and column in sheets.DECIMAL_COLUMNS else text
+    return WrittenNumber(text) if text and column in sheets.DECIMAL_COLUMNS else text
 
 
 def auctions_of(day: Day) -> list[tuple[int, pandas.DataFrame]]:

@@ -5,7 +5,7 @@ from decimal import ROUND_HALF_UP, Decimal
 
 from callauction.venue import config
 from callauction.venue.instrument_board import InstrumentBoard
-from callauction.venue.members import Member
+from callauction.venue.members import VenueMember
 from callauction.venue.rounds import Round
 
 CENT = Decimal("0.01")
@@ -50,7 +50,7 @@ def gain_in(round_: Round, member: str) -> Decimal | None:
     return sum((amount_of(it, it.accounts.gain_of(member)) for it in boards), Decimal(0))
 
 
-def payoff_to(day: config.DayTerms, rounds: Iterable[Round], member: Member) -> Payoff:
+def payoff_to(day: config.DayTerms, rounds: Iterable[Round], member: VenueMember) -> Payoff:
     """What a member is paid; its rank isn't known yet."""
     gains = tuple(
         Gain(it.number, it.treatment.title, it.treatment.is_practice, gain_in(it, member.name))
@@ -66,7 +66,7 @@ def payoff_to(day: config.DayTerms, rounds: Iterable[Round], member: Member) -> 
 
 
 def payoffs(
-    day: config.DayTerms, rounds: Sequence[Round], members: Iterable[Member]
+    day: config.DayTerms, rounds: Sequence[Round], members: Iterable[VenueMember]
 ) -> list[Payoff]:
     """What members are paid, who has most first, robots aside."""
     paid = [payoff_to(day, rounds, it) for it in members if not it.robot]

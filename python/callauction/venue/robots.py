@@ -7,11 +7,11 @@ from collections.abc import Callable, Iterator
 from callauction.venue import clock
 from callauction.venue.background import going_on
 from callauction.venue.chance import CHANCE
-from callauction.venue.gains import Value
+from callauction.venue.gains import ShareValue
 from callauction.venue.halts import Halts
 from callauction.venue.instrument_board import InstrumentBoard
-from callauction.venue.members import Member, Members
-from callauction.venue.messages import MessageError, Order
+from callauction.venue.members import Members, VenueMember
+from callauction.venue.messages import MessageError, OrderMessage
 from callauction.venue.recovery import Entry
 from callauction.venue.rounds import Rounds
 
@@ -28,7 +28,7 @@ it.
 MOST_SHARE = 0.7
 MOST_ROBOTS = 200
 QUANTITIES = range(10, 101, 10)
-Submit = Callable[[Member, Order], "tuple[asyncio.Future[Entry], bool]"]
+Submit = Callable[[VenueMember, OrderMessage], "tuple[asyncio.Future[Entry], bool]"]
 """What sends a message of a member. Raises MessageError."""
 Turn = tuple[str, str, str]
 """A robot's turn: its name, the key of its board, the auction."""
@@ -49,7 +49,7 @@ class Robots:
                 for member, board in self._turns():
                     self._look(member, board)
 
-    def _look(self, member: Member, board: InstrumentBoard) -> None:
+    def _look(self, member: VenueMember, board: InstrumentBoard) -> None:
         """Enters a robot's order where its time has come."""
         turn = member.name, board.identity.key, board.auctions.state.auction
         if turn not in self._due:
@@ -58,7 +58,7 @@ class Robots:
             self._due[turn] = float("inf")
             self._play(member, board)
 
-    def _turns(self) -> Iterator[tuple[Member, InstrumentBoard]]:
+    def _turns(self) -> Iterator[tuple[VenueMember, InstrumentBoard]]:
         """The robots that may enter an order, and where."""
         robots = [it for it in self._members.all if it.robot]
         for board in self._rounds.now.boards.values():
@@ -67,7 +67,7 @@ class Robots:
                 here = (it for it in robots if it.group == board.identity.group)
                 yield from ((it, board) for it in here if not waits(it, board))
 
-    def _play(self, member: Member, board: InstrumentBoard) -> None:
+    def _play(self, member: VenueMember, board: InstrumentBoard) -> None:
         """Enters a robot's order, unless it has one."""
         if board.commands.open_orders(member.name):
             return
@@ -75,14 +75,14 @@ class Robots:
         if record is None:
             return
         try:
-            order = Order(member.last + 1, board.terms.name, record)
+            order = OrderMessage(member.last + 1, board.terms.name, record)
             answer, _ = self._submit(member, order)
         except MessageError:
             return  # such as one that the limits of the round refuse
         answer.add_done_callback(lambda it: it.cancelled() or it.exception())
 
 
-def waits(robot: Member, board: InstrumentBoard) -> bool:
+def waits(robot: VenueMember, board: InstrumentBoard) -> bool:
     """Whether a robot does nothing until it has a value."""
     return robot.robot != "zero" and robot.name not in board.accounts.values
 
@@ -105,7 +105,7 @@ def record_of(kind: str, board: InstrumentBoard, member: str) -> str | None:
     return f"enter,{value.side},{min(left, board.terms.most_quantity)},{tick}"
 
 
-def robot_limit(kind: str, value: Value, board: InstrumentBoard) -> int:
+def robot_limit(kind: str, value: ShareValue, board: InstrumentBoard) -> int:
     """The limit of a robot with a value."""
     is_bid = value.side == "bid"
     if kind == "truthful":

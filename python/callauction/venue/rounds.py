@@ -6,10 +6,10 @@ import pathlib
 from collections.abc import Callable, Iterable, Mapping, Sequence
 
 from callauction.venue import config
-from callauction.venue.gains import Value
+from callauction.venue.gains import ShareValue
 from callauction.venue.instrument_board import BoardIdentity, Common, InstrumentBoard
 from callauction.venue.log import Line, Log, taking
-from callauction.venue.members import Member
+from callauction.venue.members import VenueMember
 from callauction.venue.messages import MessageError
 from callauction.venue.phases import Phase, PhaseError
 from callauction.venue.treatments import Treatment
@@ -67,9 +67,9 @@ class Round:
         """The boards of an instrument."""
         return [it for it in self.boards.values() if it.identity.instrument == instrument]
 
-    def values(self, instrument: str) -> dict[str, Value]:
+    def values(self, instrument: str) -> dict[str, ShareValue]:
         """The values that members have in an instrument."""
-        found: dict[str, Value] = {}
+        found: dict[str, ShareValue] = {}
         for it in self.of_instrument(instrument):
             found |= it.accounts.values
         return found
@@ -176,11 +176,11 @@ class Rounds:
         """The boards of all rounds, by their keys."""
         return {it.identity.key: it for round_ in self.all for it in round_.boards.values()}
 
-    def boards_of(self, member: Member | None) -> dict[str, InstrumentBoard]:
+    def boards_of(self, member: VenueMember | None) -> dict[str, InstrumentBoard]:
         """The boards that somebody sees: a member those of its group."""
         return self.now.boards if member is None else self.now.of_group(member.group)
 
-    def named_board(self, name: object, member: Member | None = None) -> InstrumentBoard:
+    def named_board(self, name: object, member: VenueMember | None = None) -> InstrumentBoard:
         """The board of this name, or the only one; for a member, that of its own group. Raises
         MessageError.
         """
@@ -256,6 +256,6 @@ def small(sizes: Mapping[int, int]) -> list[int]:
     return [group for group, size in sizes.items() if size <= FEW_MEMBERS and 2 * size <= most]
 
 
-def by_side(names: Iterable[str], values: Mapping[str, Value]) -> list[str]:
+def by_side(names: Iterable[str], values: Mapping[str, ShareValue]) -> list[str]:
     """Names with those of one side together, so that groups that are dealt have as many of each."""
     return sorted(names, key=lambda it: values[it].side if it in values else "")

@@ -9,12 +9,12 @@ from collections.abc import Callable, Sequence
 
 from callauction.statuses import FAILED
 from callauction.venue import leftovers
-from callauction.venue.journal import JOURNAL, Journal
+from callauction.venue.journal import JOURNAL, InstrumentJournal
 from callauction.venue.leftovers import Program
 from callauction.venue.logger import NOTICES
 from callauction.venue.owned import OwnerError
 from callauction.venue.process import IN_USE, Process, ProcessError
-from callauction.venue.recovery import Entry, Mark, RecoveryError, RolledBackError, first_of
+from callauction.venue.recovery import Entry, JournalMark, RecoveryError, RolledBackError, first_of
 
 CUT_OFF = "%s: the end of its journal was no whole line, and was put aside: %s has it"
 LEFT = "%s: process %s, the program of the last run, has its journal and doesn't end: it was ended"
@@ -43,13 +43,16 @@ class Runs:
     """
 
     def __init__(
-        self, words: Sequence[str], journal: Journal, on_end: Callable[[ProcessError], None]
+        self,
+        words: Sequence[str],
+        journal: InstrumentJournal,
+        on_end: Callable[[ProcessError], None],
     ) -> None:
         self.words, self._journal, self._on_end = [*words], journal, on_end
         self.left: Program | None = None
         self._last: Process | None = None
 
-    async def begin(self, mark: Mark) -> tuple[Process, list[Entry]]:
+    async def begin(self, mark: JournalMark) -> tuple[Process, list[Entry]]:
         """A run of the program, and the entries of its journal, which are those of which the log
         knows, before it began and after. Raises ProcessError, RecoveryError, OwnerError, and
         OSError where the journal can't be read.

@@ -3,7 +3,7 @@ from collections.abc import Callable
 
 from callauction.venue import addresses
 from callauction.venue.json_types import Json
-from callauction.venue.members import Member, Members
+from callauction.venue.members import Members, VenueMember
 from callauction.venue.messages import MessageError
 from callauction.venue.rounds import Rounds
 
@@ -32,7 +32,7 @@ class Screen:
             raise MessageError("bad_message", f"shows is one of {', '.join(SHOWN)}")
         self.shows = what
 
-    def shown(self, there: set[Member | None], payoffs: str) -> Json:
+    def shown(self, there: set[VenueMember | None], payoffs: str) -> Json:
         """What it shows of the venue: the address at which to join, a QR code of it that has the
         code too, all other addresses, how many have joined, how many robots there are, how many
         members are there, and what is shown of payoffs.

@@ -1,16 +1,16 @@
 """What is shown of an instrument, as JSON: prices as decimal texts, quantities in shares."""
 from collections.abc import Callable, Container, Iterable
 
-from callauction.venue.accounts import Fill
+from callauction.venue.accounts import MemberFill
 from callauction.venue.arrivals import last_of
 from callauction.venue.auctions import trades_in
 from callauction.venue.instrument_board import InstrumentBoard
 from callauction.venue.json_types import Json
-from callauction.venue.members import Member, Members
+from callauction.venue.members import Members, VenueMember
 from callauction.venue.results import Payoff
 from callauction.venue.rounds import Round, Rounds, small
 from callauction.venue.treatments import Treatment
-from callauction.venue.views import Indication, Trade
+from callauction.venue.views import DayTrade, Indication
 
 UNKNOWN: Json = dict.fromkeys(("phase", "auction"), "unknown") | dict.fromkeys(
     ("ends", "latest", "reference", "indication", "results", "trades", "left")
@@ -104,7 +104,7 @@ def orders_of(board: InstrumentBoard, member: str) -> Json:
     return {"type": "orders", "instrument": board.terms.name, "orders": orders}
 
 
-def fill_of(board: InstrumentBoard, it: Fill) -> Json:
+def fill_of(board: InstrumentBoard, it: MemberFill) -> Json:
     """A fill."""
     return {
         "trade": it.trade,
@@ -150,7 +150,7 @@ def fills_of(board: InstrumentBoard, member: str) -> Json:
 
 
 def trades_of(
-    board: InstrumentBoard, trades: Iterable[Trade], title_of: Callable[[str], str] | None = None
+    board: InstrumentBoard, trades: Iterable[DayTrade], title_of: Callable[[str], str] | None = None
 ) -> Json:
     """Trades, with who traded with whom where that is to be seen, by the titles of the members."""
     found, party = [], board.book.of_order
@@ -242,7 +242,7 @@ def halt_of(board: InstrumentBoard, why: str) -> Json:
     return {"instrument": identity.name, "round": identity.round, "why": why}
 
 
-def member_of(member: Member, is_there: bool, rounds: Rounds) -> Json:
+def member_of(member: VenueMember, is_there: bool, rounds: Rounds) -> Json:
     """A member, whether it is connected, and its values and gains."""
     return {
         "name": member.title,
@@ -257,7 +257,7 @@ def member_of(member: Member, is_there: bool, rounds: Rounds) -> Json:
     }
 
 
-def members_of(members: Members, there: Container[Member | None], rounds: Rounds) -> Json:
+def members_of(members: Members, there: Container[VenueMember | None], rounds: Rounds) -> Json:
     """Who is a member, and who is connected; the codes by which they come, how many there may be,
     and the addresses whose new members are slowed, with how many came from there and who did last;
     the small groups of a round that has begun, with who is there.

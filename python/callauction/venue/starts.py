@@ -15,7 +15,7 @@ from callauction.venue.owned import OwnerError
 from callauction.venue.parts import Parts
 from callauction.venue.process import ProcessError
 from callauction.venue.recovery import (
-    Mark, RecoveryError, RolledBackError, Settled, mark_of, program_of, runs_of,
+    JournalMark, RecoveryError, RolledBackError, Settled, mark_of, program_of, runs_of,
 )
 from callauction.venue.timekeeping import is_shift
 
@@ -61,7 +61,7 @@ class Starts:
     async def open_new(self, board: InstrumentBoard) -> None:
         """Starts the program of a new board, which halts where that fails."""
         try:
-            await board.engine.open([], Mark())
+            await board.engine.open([], JournalMark())
             await self._log.written()  # the program runs from then on
             await board.begin()
             board.run()

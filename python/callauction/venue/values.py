@@ -3,11 +3,11 @@
 import dataclasses
 
 from callauction.venue.audience import Audience
-from callauction.venue.gains import Value
+from callauction.venue.gains import ShareValue
 from callauction.venue.handing import ListedValue, Rule, rows_of_members
 from callauction.venue.instrument_board import InstrumentBoard
 from callauction.venue.log import Line, Log
-from callauction.venue.members import Member, Members
+from callauction.venue.members import Members, VenueMember
 from callauction.venue.names import folded
 from callauction.venue.rounds import Round, Rounds
 
@@ -56,7 +56,7 @@ class Values:
         for board in boards:
             await board.looks.refresh()
 
-    def give_round(self, before: dict[str, dict[str, Value]]) -> None:
+    def give_round(self, before: dict[str, dict[str, ShareValue]]) -> None:
         """Hands out the values of a round before its first call, once, where members had others
         before, by instruments.
         """
@@ -73,8 +73,8 @@ class Values:
         self,
         instrument: str,
         rule: Rule,
-        members: list[Member],
-        before: dict[str, Value],
+        members: list[VenueMember],
+        before: dict[str, ShareValue],
         is_to_all: bool,
     ) -> int:
         """Hands out values to members, who had others before: to how many. Raises MessageError, and
@@ -122,7 +122,7 @@ class Values:
             return self._listed_in(self._rounds.all[round_.number - 2], instrument)
         return ()
 
-    def give_listed(self, newcomers: list[Member]) -> None:
+    def give_listed(self, newcomers: list[VenueMember]) -> None:
         """Hands out to members who have no value the one that waits for them in a list."""
         titles = {it.title: it.name for it in newcomers}
         for board in self._rounds.now.boards.values():

@@ -19,10 +19,10 @@ from callauction.venue.leaving import Removal
 from callauction.venue.log import VERSION, Line, Log, check_version
 from callauction.venue.log_replay import Past
 from callauction.venue.logger import NOTICES
-from callauction.venue.members import Done, Member, Members, NameTakenError
-from callauction.venue.messages import MessageError, Order
+from callauction.venue.members import Done, Members, NameTakenError, VenueMember
+from callauction.venue.messages import MessageError, OrderMessage
 from callauction.venue.parts import Parts
-from callauction.venue.recovery import Entry, Message, Settled
+from callauction.venue.recovery import Entry, MemberMessage, Settled
 from callauction.venue.robots import Robots
 from callauction.venue.rounds import Rounds
 from callauction.venue.sheets import SIGNATURE
@@ -36,7 +36,7 @@ CLOSE_SECONDS, LOG_SECONDS = 3.25, 0.5
 """How long the end of the venue waits for its programs and fronts, then for the log's last lines.
 """
 LOG = "venue.log"
-Heard = Callable[[InstrumentBoard, Message, Entry | None], None]
+Heard = Callable[[InstrumentBoard, MemberMessage, Entry | None], None]
 """What is called with each message of a board once it has its entry; also with those of earlier
 runs, as the venue opens, and then with None for one that was never executed.
 """
@@ -257,7 +257,7 @@ class Venue:
 
     # ---- members
 
-    def role_of(self, token: str) -> tuple[str, Member | None]:
+    def role_of(self, token: str) -> tuple[str, VenueMember | None]:
         """Whose a token is. Raises MessageError."""
         for role, secret in self.secrets.items():
             if tokens.is_same_secret(token, secret):
@@ -267,7 +267,7 @@ class Venue:
             raise MessageError("bad_token", OTHER_DEVICE * self.members.was_token(token))
         return "member", member
 
-    async def join(self, code: str, name: str, address: str = "") -> tuple[Member, str]:
+    async def join(self, code: str, name: str, address: str = "") -> tuple[VenueMember, str]:
         """A member and its token, for somebody at this address. Raises MessageError."""
         self.halts.check_running()
         before = {it.name: it.is_removed for it in self.members.everybody}
@@ -289,7 +289,7 @@ class Venue:
         self.audience.show_members()
         return member, token
 
-    async def admit(self, name: str, token: str) -> Member:
+    async def admit(self, name: str, token: str) -> VenueMember:
         """The member of this name; where there is none, a new one with this token. Raises
         MessageError, also where the log can't be written now: it is a member once it can.
         """
@@ -301,7 +301,7 @@ class Venue:
         await self.halts.noted()
         return member
 
-    async def remove(self, members: list[Member]) -> Removal:
+    async def remove(self, members: list[VenueMember]) -> Removal:
         """Removes members, whose open orders are deleted, also those that aren't answered yet,
         before the next command of anybody is taken; waits for that but where it has halted.
         """
@@ -326,7 +326,7 @@ class Venue:
     async def add_robots(self, kind: str, count: int) -> list[str]:
         """More robots of a kind: their names. Raises MessageError."""
         self.halts.check_running()
-        found: list[Member] = []
+        found: list[VenueMember] = []
         number = 0
         while len(found) < count:
             number += 1
@@ -336,13 +336,15 @@ class Venue:
         self.audience.show_members()
         return [it.title for it in found]
 
-    async def readmit(self, member: Member) -> str:
+    async def readmit(self, member: VenueMember) -> str:
         """Lets a member that was removed come again: its code."""
         code = self.members.codes.give(member.name, tokens.new_code())
         self.audience.show_members()
         return code
 
-    def submit(self, member: Member, order: Order) -> "tuple[asyncio.Future[Entry], bool]":
+    def submit(
+        self, member: VenueMember, order: OrderMessage
+    ) -> "tuple[asyncio.Future[Entry], bool]":
         """Sends a member's message, or finds that it was sent: its entry, once it is there, and
         whether it was. Raises MessageError.
         """

@@ -64,7 +64,7 @@ class Level:
 
 
 @dataclasses.dataclass(frozen=True, slots=True)
-class Trade:
+class DayTrade:
     """A trade of the day by its number, from 1: its two orders, shares and tick."""
 
     number: int
@@ -112,9 +112,9 @@ def visible_levels(orders: Sequence[MemberOrder], auction: str) -> list[Level]:
     return [Level(it, shares[it, "bid"], shares[it, "ask"]) for it in falling]
 
 
-def trades_in_view(lines: Sequence[str]) -> list[Trade]:
+def trades_in_view(lines: Sequence[str]) -> list[DayTrade]:
     """The rows of `show,trades`. Raises ValueError."""
-    return [Trade(*map(int, line.split(","))) for line in lines[1:]]
+    return [DayTrade(*map(int, line.split(","))) for line in lines[1:]]
 
 
 def orders_in_view(lines: Sequence[str]) -> list[MemberOrder]:

@@ -2,14 +2,14 @@
 from typing import Protocol
 
 from callauction.venue.json_types import Json
-from callauction.venue.members import Member
+from callauction.venue.members import VenueMember
 
 
 class Watcher(Protocol):
     """Somebody who is connected: `role` is member, operator or beamer."""
 
     role: str
-    member: Member | None
+    member: VenueMember | None
     topics: frozenset[str]
 
     @property
