@@ -163,6 +163,35 @@ def test_names_of_python_that_have_one_meaning(tmp_path: pathlib.Path) -> None:
     assert faults_of(sources.names_of_two_python_modules, tree) == []
 
 
+@pytest.mark.parametrize("first, second", [
+    ("class Book:\n    pass\n", "class Book:\n    pass\n"),
+    ("class Book:\n    pass\n", "Book = dict[str, int]\n"),
+    ('Book = TypeVar("Book")\n', "Book: TypeAlias = list[int]\n"),
+])
+@pytest.mark.parametrize("other", ["venue/", ""])
+def test_a_type_with_a_second_meaning_in_python(
+    tmp_path: pathlib.Path, first: str, second: str, other: str
+) -> None:
+    files = [f"python/callauction/{folder}book.py" for folder in ("verdict/", other)]
+    tree = planted(tmp_path, **dict(zip(files, (first, "\n" + second))))
+    places = sorted(zip(files, (1, 2)))
+    assert faults_of(sources.names_of_two_python_packages, tree) == [
+        f"Book has two meanings: {', '.join(f'{file}:{line}' for file, line in places)}"
+    ]
+
+
+def test_types_of_python_that_have_one_meaning(tmp_path: pathlib.Path) -> None:
+    """Imported, of one package alone, private, within a class, or of no package; a constant."""
+    tree = planted(tmp_path, **{
+        "python/callauction/verdict/one.py": "class Book:\n    class Row: ...\nMOST_ROWS = 1\n",
+        "python/callauction/verdict/other.py": "_Row = list[int]\n",
+        "python/callauction/venue/one.py": "from verdict.one import Book\nMOST_ROWS = 2\n",
+        "python/callauction/venue/other.py": "class Row: ...\nclass _Row: ...\n",
+        "python/tests/test_one.py": "class Book: ...\n",
+    })  # fmt: skip
+    assert faults_of(sources.names_of_two_python_packages, tree) == []
+
+
 @pytest.mark.parametrize("text, faults", [
     ("from test_day import day_of\n", ["test_day is a module of tests"]),
     ("import tests.test_day as days\n", ["tests.test_day is a module of tests"]),

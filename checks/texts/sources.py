@@ -13,7 +13,8 @@
   begins with a capital letter, but for a type and the record that it is in contracts (MODELS).
 - No two modules of a crate have types or public functions of one name, nor public definitions and
   lemmas. A function may be named as the definition that it meets, and methods as those of others.
-- No two modules of a package of callauction have constants or types of one name.
+- No two modules of a package of callauction have constants, types or public functions of one name,
+  and no two packages of it types of one name, but for those of TWICE.
 - No definition or law of specs or proofs stands in two crates under any names, where it is longer
   than SHORT and isn't of the proof of one function.
 - A limit of the market or of memory (LIMITS) isn't written as a number, where it isn't the value of
@@ -43,6 +44,8 @@ SHARED = {"Lib", "Answers", "Invariants", "Proof"}
 SHORT = 80
 """As many characters of a definition or law may stand in two crates, without its name."""
 MODELS = {"Leaders"}
+TWICE = {"State", "Uncross"}
+"""Types of callauction.words that callauction.verdict has by their names, too, as others."""
 TYPE = re.compile(r"(?:pub(?:\([a-z]+\))? )?(?:struct|enum|trait|union) (?P<name>\w+)")
 DEFINED = r"(?:(?:pub|abbrev|unfoldable|opaque|record|data) +)+(?P<name>[{}]\w*)(?= *[:({{])"
 NAMES_IN = {
@@ -252,6 +255,17 @@ def names_of_two_python_modules(tree: Tree) -> Iterator[str]:
             yield f"{name} has two meanings in a package: {', '.join(files.values())}"
 
 
+def names_of_two_python_packages(tree: Tree) -> Iterator[str]:
+    """Names of types, those of aliases among them, that two packages of callauction have."""
+    places: dict[str, dict[str, str]] = collections.defaultdict(dict)
+    for folder, name, file, line in names_of_python(tree):
+        if name[0].isupper() and not name.isupper():
+            places[name].setdefault(folder, f"{tree.name(file)}:{line}")
+    for name, folders in sorted(places.items()):
+        if len(folders) > 1 and name not in TWICE:
+            yield f"{name} has two meanings: {', '.join(folders.values())}"
+
+
 def imported_tests(tree: Tree) -> Iterator[str]:
     """Modules of tests that another module of Python imports, as if they were helpers."""
     for file in tree.python:
@@ -319,6 +333,7 @@ RULES = [
     names_of_two_modules,
     definitions_twice,
     names_of_two_python_modules,
+    names_of_two_python_packages,
     imported_tests,
     retyped_limits,
     other_sides,
