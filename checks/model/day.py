@@ -46,7 +46,7 @@ class Order:
     limit: int | None
     quantity: int
     peak: int | None
-    only: str
+    restriction: str
 
     def is_eligible(self, tick: int) -> bool:
         """Whether it may trade at this tick."""
@@ -115,7 +115,7 @@ class Day:
     def counted(self) -> list[Order]:
         """The orders that count in the current auction."""
         kind = self.kind()
-        return [order for order in self.book.values() if order.only in ("", kind)]
+        return [order for order in self.book.values() if order.restriction in ("", kind)]
 
     def eligible(self, side: str, tick: int) -> list[Order]:
         """Those of a side that may trade at this tick."""
@@ -226,13 +226,13 @@ class Day:
         if word == "uncross" and member != 0:
             return 6
         if word == "enter":
-            _, _, limit, quantity, peak, only = words
+            _, _, limit, quantity, peak, restriction = words
             bad = self.bad_terms(limit, quantity)
             if bad:
                 return bad
             if peak is not None and (peak == 0 or peak > quantity or limit is None):
                 return 3
-            if only == "opening" and self.auction != 0:
+            if restriction == "opening" and self.auction != 0:
                 return 9
             return 4 if len(self.book) >= self.max_open else None
         if word == "change":
@@ -251,10 +251,16 @@ class Day:
         return None
 
     def enter(
-        self, member: int, side: str, limit: int | None, quantity: int, peak: int | None, only: str
+        self,
+        member: int,
+        side: str,
+        limit: int | None,
+        quantity: int,
+        peak: int | None,
+        restriction: str,
     ) -> str:
         """Enters an order, which is allowed: the text of its reply."""
-        order = Order(self.next_id, member, side, limit, quantity, peak, only)
+        order = Order(self.next_id, member, side, limit, quantity, peak, restriction)
         self.book[order.id] = order
         self.next_id += 1
         return f"entered {order.id}"
@@ -303,7 +309,8 @@ class Day:
             text += f" trades {len(trades)}"
             self.tape += trades
             self.reference = tick
-        self.book = {order.id: order for order in self.book.values() if order.only != kind}
+        kept = (order for order in self.book.values() if order.restriction != kind)
+        self.book = {order.id: order for order in kept}
         self.auction, self.extended = self.auction + 1, False
         return text
 

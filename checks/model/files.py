@@ -118,10 +118,10 @@ def words_of(place: int, fields: list[str]) -> Words:
             raise bad_field(place, 3)
         quantity, tick = numbered(4), limit(5)
         peak = numbered(6) if len(fields) > 5 and fields[5] else None
-        only = fields[6] if len(fields) > 6 else ""
-        if only not in ("", "opening", "closing"):
+        restriction = fields[6] if len(fields) > 6 else ""
+        if restriction not in ("", "opening", "closing"):
             raise bad_field(place, 7)
-        return word, fields[2], tick, quantity, peak, only
+        return word, fields[2], tick, quantity, peak, restriction
     if word == "change":
         order, quantity = numbered(3), numbered(4)
         return word, order, limit(5), quantity

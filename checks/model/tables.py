@@ -45,10 +45,10 @@ def enter_fields(words: Words) -> list[object]:
     """The word and the fields of a new order: the peak where there is one, and where the order is
     for one auction alone.
     """
-    word, side, limit, quantity, peak, only = words
+    word, side, limit, quantity, peak, restriction = words
     fields = [word, side, quantity, "market" if limit is None else limit]
-    if only:
-        return [*fields, peak, only]
+    if restriction:
+        return [*fields, peak, restriction]
     return fields if peak is None else [*fields, peak]
 
 

@@ -59,7 +59,7 @@ def order_rows(day: Day, member: int | None) -> Iterator[str]:
                     order.quantity,
                     order.quantity if order.peak is None else min(order.peak, order.quantity),
                     filled(day, order),
-                    order.only,
+                    order.restriction,
                 )
 
 

@@ -57,7 +57,7 @@ QUEUE = {
 """The columns of a queue: the orders that count, bids before asks, each side in price-time
 priority, with their open shares before the uncross and those that it executes.
 """
-_ONLY = {
+_AUCTIONS = {
     Restriction.NONE: None,
     Restriction.OPENING_ONLY: AuctionKind.OPENING,
     Restriction.CLOSING_ONLY: AuctionKind.CLOSING,
@@ -120,13 +120,18 @@ class _Order:
     quantity: int
     limit: int | None
     peak: int | None
-    only: AuctionKind | None
+    restriction: Restriction
     time: int
     open: int
     offered: int = 0
     traded: int = 0
     paid: int = 0
     became: str = "open"
+
+    @property
+    def auction(self) -> AuctionKind | None:
+        """The auction that it is for alone, None where it is for each."""
+        return _AUCTIONS[self.restriction]
 
     def rank(self) -> tuple[Side, bool, int, int]:
         """Its place in price-time priority, bids before asks."""
@@ -143,10 +148,10 @@ class _Order:
         return distance if self.side is Side.BID else -distance
 
     def row(self) -> tuple[object, ...]:
-        only = "" if self.only is None else self.only.name.lower()
+        restriction = "" if self.auction is None else self.auction.name.lower()
         return (
             self.id, self.command, self.member, self.side.name.lower(), self.quantity, self.limit,
-            self.peak, only, self.offered, self.traded, self.paid, self.better(), self.open,
+            self.peak, restriction, self.offered, self.traded, self.paid, self.better(), self.open,
             self.became,
         )  # fmt: skip
 
@@ -163,7 +168,7 @@ class _Walk:
 
     def counting(self) -> list[_Order]:
         """The open orders that count in the auction that is next."""
-        return [order for order in self.book.values() if order.only in (None, self.kind)]
+        return [order for order in self.book.values() if order.auction in (None, self.kind)]
 
     def take(self, number: int, command: numpy.void, reply: numpy.void) -> None:
         """A command, by its number, with its reply."""
@@ -182,11 +187,10 @@ class _Walk:
     def _enter(self, number: int, command: numpy.void, id: int) -> None:
         quantity = int(command["quantity"])
         peak = int(command["peak"]) if command["has_peak"] else None
-        only = _ONLY[Restriction(command["restriction"])]
+        restriction = Restriction(command["restriction"])
         member, side = int(command["member"]), Side(command["side"])
-        order = _Order(
-            id, number, member, side, quantity, _limit(command), peak, only, number, quantity
-        )
+        terms = side, quantity, _limit(command), peak, restriction
+        order = _Order(id, number, member, *terms, time=number, open=quantity)
         self.orders[id] = self.book[id] = order
 
     def _remove(self, order: _Order, became: str) -> None:
@@ -205,7 +209,7 @@ class _Walk:
         for order in counting:
             if not order.open:
                 self._remove(order, "executed")
-            elif order.only is not None:
+            elif order.auction is not None:
                 self._remove(order, "lapsed")
         self._end()
 

@@ -93,7 +93,7 @@ _FINDING = re.compile(r'(\d+): recorded "(.*)", lawful "([^"]*)"')
 
 # ---- what an auction lists, as a frame
 
-_SIDES, _ONLY = ("", "bid", "ask"), ("", "opening", "closing")
+_SIDES, _RESTRICTIONS = ("", "bid", "ask"), ("", "opening", "closing")
 
 
 def orders_frame(orders: Structs) -> pandas.DataFrame:
@@ -108,7 +108,7 @@ def orders_frame(orders: Structs) -> pandas.DataFrame:
         "quantity": orders["quantity"],
         "visible": orders["visible"],
         "filled": orders["filled"],
-        "only": [_ONLY[restriction] for restriction in orders["restriction"]],
+        "only": [_RESTRICTIONS[it] for it in orders["restriction"]],
     }
     frame = pandas.DataFrame(columns, columns=list(ORDERS))
     return frame.astype({name: kind for name, kind in ORDERS.items() if kind == "int64"})

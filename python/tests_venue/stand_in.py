@@ -188,7 +188,7 @@ class Session:
                     yield tables.record(
                         *(it.id, it.member, side, limit, it.quantity, visible),
                         self.filled.get(it.id, 0),
-                        it.only,
+                        it.restriction,
                     )
 
 

@@ -23,7 +23,7 @@ OF_MASS = (11, 54, 55, 58, 530, 531, 532, 533)
 
 
 def key_of(message: int, part: int = 0, epoch: int = 0) -> int:
-    """A Number as one number, which is the MsgSeqNum where nothing else is said."""
+    """A MessageNumber as one number, which is the MsgSeqNum where nothing else is said."""
     return message | part << PART_BIT | epoch << EPOCH_BIT
 
 

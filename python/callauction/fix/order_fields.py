@@ -103,7 +103,7 @@ def left_of(total: int, held: Held) -> int:
 
 def check_kept(given: Given, held: Held) -> None:
     """Raises SeatError where a message would change what an order keeps."""
-    times = (held.time, TIMES_OF_AUCTIONS.get(held.only, held.time))
+    times = (held.time, TIMES_OF_AUCTIONS.get(held.restriction, held.time))
     is_peak = peak_of(given) in ("", held.peak)
     if not is_peak or given.get(Tag.TIME_IN_FORCE, held.time) not in times:
         raise SeatError(UNSUPPORTED, "MaxFloor and TimeInForce can't be changed")

@@ -90,7 +90,7 @@ class Held:
     open: int
     limit: str
     peak: str
-    only: str
+    restriction: str
     time: str
     total: int
     filled: int = 0
@@ -102,12 +102,13 @@ class Held:
         """A new order of a board, by its record after `enter`; its number is 0 where it was
         refused.
         """
-        side, quantity, limit, peak, only = [*fields, "", ""][:5]
+        side, quantity, limit, peak, restriction = [*fields, "", ""][:5]
         note, shares = message.note, int(quantity)
         client, time = note.get(CLIENT, ""), note.get(TIME, DAY)
         number = entry.order or 0
         name, member = f"{board}.{number}" if number else NONE, message.member
-        return cls(number, name, member, client, side, shares, limit, peak, only, time, shares)
+        terms = side, shares, limit, peak, restriction, time
+        return cls(number, name, member, client, *terms, total=shares)
 
 
 class Orders:
@@ -286,7 +287,7 @@ class Orders:
             (Tag.LEAVES_QTY, str(left)),
             (Tag.CUM_QTY, str(held.filled)),
             (Tag.AVG_PX, self._average(held)),
-            (Tag.TIME_IN_FORCE, TIMES_OF_AUCTIONS.get(held.only, held.time)),
+            (Tag.TIME_IN_FORCE, TIMES_OF_AUCTIONS.get(held.restriction, held.time)),
             *self._priced(held),
         ]
         pairs += [(Tag.CL_ORD_ID, held.client)] if held.client else []

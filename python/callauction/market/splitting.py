@@ -67,7 +67,7 @@ def picked(*names: str) -> Picker:
     return itemgetter(*map(CELLS.index, ("member", "command", *names, "reply")))
 
 
-ONLY, PEAK = CELLS.index("only"), CELLS.index("peak")
+RESTRICTION, PEAK = CELLS.index("only"), CELLS.index("peak")
 ENTER = picked("side", "quantity", "limit", "peak", "only")
 WITH_PEAK = picked("side", "quantity", "limit", "peak")
 WITHOUT_PEAK = picked("side", "quantity", "limit")
@@ -218,7 +218,7 @@ def records_of(frame: "pandas.DataFrame", by: str) -> Iterator[tuple[str, str]]:
     rows = zip(*(fields(frame, name) for name in CELLS))
     for instrument, row in zip(texts(frame[by]), rows):
         pick = FIELDS.get(row[1], NONE)
-        if pick is ENTER and not row[ONLY]:
+        if pick is ENTER and not row[RESTRICTION]:
             pick = WITH_PEAK if row[PEAK] else WITHOUT_PEAK
         yield instrument, ",".join(pick(row)) + "\n"
 

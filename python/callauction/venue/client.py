@@ -53,10 +53,13 @@ class Answer:
         return self.reply.startswith("refused")
 
 
-def order_fields(side: str, quantity: int, price: GivenPrice, peak: int | None, only: str) -> Json:
+def order_fields(
+    side: str, quantity: int, price: GivenPrice, peak: int | None, restriction: str
+) -> Json:
     """The fields of a new order."""
     found: Json = {"side": side, "quantity": quantity, "price": str(price)}
-    return found | ({"peak": peak} if peak is not None else {}) | ({"only": only} if only else {})
+    found |= {"peak": peak} if peak is not None else {}
+    return found | ({"only": restriction} if restriction else {})
 
 
 class AsyncClient:

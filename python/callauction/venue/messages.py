@@ -183,13 +183,13 @@ def order_of(terms: InstrumentTerms, message: dict[str, Any]) -> OrderMessage:
 
 def enter_record(terms: InstrumentTerms, message: dict[str, Any]) -> str:
     """The record of a new order after its member, in its shortest form. Raises MessageError."""
-    side, only = text_of(message, "side"), text_of(message, "only", "")
+    side, restriction = text_of(message, "side"), text_of(message, "only", "")
     if side not in SIDES:
         raise MessageError("bad_message", "side is bid or ask")
-    if only not in RESTRICTIONS:
+    if restriction not in RESTRICTIONS:
         raise MessageError("bad_message", "only is opening or closing, or left out")
     quantity = quantity_of(terms, message)
     has_peak = message.get("peak") is not None
     peak = str(number_of(message, "peak", 0, MOST_NUMBER)) if has_peak else ""
-    end = f",{peak},{only}" if only else f",{peak}" if peak else ""
+    end = f",{peak},{restriction}" if restriction else f",{peak}" if peak else ""
     return f"enter,{side},{quantity},{limit_text(terms, message.get('price'))}{end}"

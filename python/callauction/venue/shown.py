@@ -97,7 +97,7 @@ def orders_of(board: InstrumentBoard, member: str) -> Json:
             "open": it.open,
             "visible": it.visible,
             "filled": it.filled,
-            "only": it.only,
+            "only": it.restriction,
         }
         for it in sorted(board.looks.orders.get(member, []), key=lambda it: it.order)
     ]

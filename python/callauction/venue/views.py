@@ -85,7 +85,7 @@ class MemberOrder:
     open: int
     visible: int
     filled: int
-    only: str
+    restriction: str
 
 
 def limit_of(text: str) -> int | None:
@@ -105,7 +105,7 @@ def visible_levels(orders: Sequence[MemberOrder], auction: str) -> list[Level]:
     """
     shares: collections.Counter[tuple[int | None, str]] = collections.Counter()
     for it in orders:
-        if it.only in ("", auction):
+        if it.restriction in ("", auction):
             shares[it.limit, it.side] += it.visible
     limits = {limit for limit, _ in shares}
     falling = sorted(limits, key=lambda it: (it is not None, -(it or 0)))
@@ -121,7 +121,7 @@ def orders_in_view(lines: Sequence[str]) -> list[MemberOrder]:
     """The rows of `show,orders`. Raises ValueError."""
     found = []
     for line in lines[1:]:
-        order, member, side, limit, open_, visible, filled, only = line.split(",")
-        counts = int(open_), int(visible), int(filled)
-        found.append(MemberOrder(int(order), int(member), side, limit_of(limit), *counts, only))
+        order, member, side, limit, open_, visible, filled, restriction = line.split(",")
+        whose, shares = (int(order), int(member)), (int(open_), int(visible), int(filled))
+        found.append(MemberOrder(*whose, side, limit_of(limit), *shares, restriction))
     return found
