@@ -16,7 +16,7 @@ from callauction import plot
 from callauction.library import ffi, lib
 from callauction.limits import MOST_QUANTITY
 from callauction.outcomes import queue_of
-from callauction.plot.parts import thousands, whole_steps
+from callauction.plot.style import thousands, whole_steps
 from callauction.reasons import Explanation
 from callauction.recording import RecordedAuction
 from callauction.words import NoPrice, Price, Refused, Reply, Side

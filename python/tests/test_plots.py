@@ -10,7 +10,7 @@ import pytest
 from callauction import Side, commands, plot
 from callauction.course import INDICATIVE, UNCROSSES, Course, course_of
 from callauction.outcomes import queue_of
-from callauction.plot import parts
+from callauction.plot import style
 from callauction.program import Day
 from callauction.recording import RecordedAuction
 from callauction.tables import BOOK, book_at, books_of, journal_of, table_of
@@ -290,10 +290,10 @@ def test_the_volume_of_many_limits_is_one_area(count: int, is_area: bool) -> Non
 
 
 def test_lines_and_words_have_contrast() -> None:
-    for color in (parts.DEMAND, parts.SUPPLY, parts.VOLUME, parts.PRICE, parts.REFERENCE):
-        assert parts.contrast(color) >= 4.5
-    assert parts.contrast("#ffffff") == 1 and round(parts.contrast("#000000")) == 21
-    assert round(parts.contrast("#767676"), 2) == 4.54
+    for color in (style.DEMAND, style.SUPPLY, style.VOLUME, style.PRICE, style.REFERENCE):
+        assert style.contrast(color) >= 4.5
+    assert style.contrast("#ffffff") == 1 and round(style.contrast("#000000")) == 21
+    assert round(style.contrast("#767676"), 2) == 4.54
 
 
 # ---- a course

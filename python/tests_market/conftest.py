@@ -16,7 +16,7 @@ import dask
 import psutil
 import pytest
 import rules
-from callauction.market import names
+from callauction.market import instrument_names
 from distributed import Client, LocalCluster, Security
 
 Ran = subprocess.CompletedProcess[str]
@@ -163,7 +163,7 @@ def until(holds: Callable[[], bool]) -> None:
 def write(folder: pathlib.Path, texts: rules.Texts) -> list[str]:
     """Writes journals: their paths."""
     folder.mkdir(exist_ok=True)
-    paths = [folder / names.file_of(instrument) for instrument in texts]
+    paths = [folder / instrument_names.file_of(instrument) for instrument in texts]
     for path, text in zip(paths, texts.values()):
         path.write_bytes(text.encode("latin-1"))
     return [str(path) for path in paths]

@@ -11,7 +11,7 @@ import pandas
 import pytest
 import rules
 from callauction import market
-from callauction.market import files, names, splitting
+from callauction.market import files, instrument_names, splitting
 from callauction.overwriting import OverwriteError
 from conftest import TOP, columns, command, environment
 from distributed import Client
@@ -56,7 +56,7 @@ JOURNALS = {
 
 def read(paths: list[str]) -> rules.Texts:
     """The journals with these paths."""
-    return {names.instrument_of(path): pathlib.Path(path).read_text() for path in paths}
+    return {instrument_names.instrument_of(path): pathlib.Path(path).read_text() for path in paths}
 
 
 def tables(folder: pathlib.Path) -> dict[str, Any]:

@@ -5,7 +5,7 @@ import os
 import pathlib
 
 import pytest
-from callauction.market import Row, forms, names, rows
+from callauction.market import Row, forms, instrument_names, rows
 from hypothesis import given, strategies
 
 NAMES = ["SAP", "a b", "Ärzte", "x/y", "..", ".", "-", "A%41", "SAP.DE"]
@@ -14,22 +14,22 @@ NAMES += ["~", "c:\\d", "\n", "I" * 251, "\udcff", "\x1b[31m", "=1+2", "\u202e",
 
 @pytest.mark.parametrize("name", NAMES)
 def test_an_instrument_has_a_file_of_its_own(name: str, tmp_path: pathlib.Path) -> None:
-    path = tmp_path / names.file_of(name)
+    path = tmp_path / instrument_names.file_of(name)
     path.write_text("")
     assert list(tmp_path.iterdir()) == [path]
-    instrument = names.instrument_of(str(path))
+    instrument = instrument_names.instrument_of(str(path))
     assert instrument.isprintable()
-    assert names.name_of(instrument) == os.fsencode(name)
+    assert instrument_names.name_of(instrument) == os.fsencode(name)
 
 
 @pytest.mark.parametrize("name", ["", "I" * 252, "Ä" * 42])
 def test_no_file_can_be_named(name: str) -> None:
     with pytest.raises(ValueError, match="no file can be named"):
-        names.file_of(name)
+        instrument_names.file_of(name)
 
 
 def test_names_of_files_are_told_apart() -> None:
-    assert len({names.file_of(name).lower() for name in NAMES}) == len(NAMES)
+    assert len({instrument_names.file_of(name).lower() for name in NAMES}) == len(NAMES)
 
 
 SHOWN = {
@@ -45,15 +45,15 @@ SHOWN = {
 
 @pytest.mark.parametrize("name", SHOWN)
 def test_a_name_of_any_bytes_is_one_line(name: bytes) -> None:
-    assert names.printable(name) == SHOWN[name]
-    assert names.name_of(SHOWN[name]) == name
+    assert instrument_names.printable(name) == SHOWN[name]
+    assert instrument_names.name_of(SHOWN[name]) == name
 
 
 @given(strategies.binary(), strategies.binary())
 def test_two_names_are_two_lines(one: bytes, other: bytes) -> None:
-    shown = names.printable(one), names.printable(other)
+    shown = instrument_names.printable(one), instrument_names.printable(other)
     assert (shown[0] == shown[1]) == (one == other)
-    assert names.name_of(shown[0]) == one
+    assert instrument_names.name_of(shown[0]) == one
     assert shown[0].isprintable()
 
 

@@ -9,7 +9,7 @@ import sys
 import pytest
 import served
 from acceptors import Speaker, refusal
-from callauction.fix import feeds, order_fields, orders, refusals, requests, seats
+from callauction.fix import board_orders, feeds, order_fields, refusals, requests, seats
 from callauction.fix.tags import (
     DAY, FIXT, GOOD_TILL_CANCEL, LIMIT, MARKET, OTHER_REASON, SIDE_CODES, Exec, Status,
 )
@@ -148,7 +148,7 @@ def test_all_messages_are_there(page: Page) -> None:
 
 
 REASONS = {
-    *refusals.ORDER_REASONS.values(), *orders.REJECTED.values(),
+    *refusals.ORDER_REASONS.values(), *board_orders.REJECTED.values(),
     *(refusals.UNKNOWN_SYMBOL, refusals.UNKNOWN_ORDER, refusals.DUPLICATE, refusals.ORDER_ENDED),
     *(refusals.WRONG_QUANTITY, OTHER_REASON),
 }
@@ -158,14 +158,16 @@ EXPECTED = {
     ("D", 59): {*order_fields.RESTRICTIONS_BY_TIME},
     ("8", 54): {*SIDE_CODES.values(), refusals.NO_SIDE},
     ("8", 59): {
-        *(*order_fields.RESTRICTIONS_BY_TIME, *orders.TIMES_OF_AUCTIONS.values()),
+        *(*order_fields.RESTRICTIONS_BY_TIME, *board_orders.TIMES_OF_AUCTIONS.values()),
         *(DAY, GOOD_TILL_CANCEL),
     },
     ("8", 39): {*Status},
     ("9", 39): {*Status},
     ("8", 150): {*Exec, Status.NEW, Status.CANCELED, Status.REJECTED, Status.EXPIRED},
     ("8", 103): REASONS,
-    ("9", 102): {*refusals.CANCEL_REASONS.values(), *orders.NOT_CHANGED.values(), OTHER_REASON},
+    ("9", 102): {
+        *refusals.CANCEL_REASONS.values(), *board_orders.NOT_CHANGED.values(), OTHER_REASON,
+    },
     ("9", 434): {"1", "2"},
     ("q", 530): {requests.OF_ONE, requests.OF_ALL},
     ("AF", 585): {requests.OF_ONE, requests.OF_ALL},

@@ -14,8 +14,8 @@ from typing import Any
 import pytest
 import served
 from callauction.fix._quickfix import Engine
+from callauction.fix.board_orders import NUMBER, Report
 from callauction.fix.front import FixFront
-from callauction.fix.orders import NUMBER, Report
 from callauction.fix.settings import settings_of
 from callauction.fix.tags import Tag, Type, event_in, now, number_of, pairs_of
 from callauction.venue.config import DayTerms, Plan

@@ -5,7 +5,7 @@ import pathlib
 
 import pytest
 import served
-from callauction.venue import members, names
+from callauction.venue import member_names, members
 from conftest import FAST
 from served import Served
 
@@ -16,7 +16,7 @@ from served import Served
     + ["นี้", "שָׁלוֹם"],
 )
 def test_a_name_that_can_be_read(name: str) -> None:
-    assert names.is_seen(name) and not names.is_role(name)
+    assert member_names.is_seen(name) and not member_names.is_role(name)
 
 
 @pytest.mark.parametrize(
@@ -25,12 +25,12 @@ def test_a_name_that_can_be_read(name: str) -> None:
     + ["a" + "\u0315" * 4],
 )
 def test_a_name_that_cant_be_read(name: str) -> None:
-    assert not names.is_seen(name)
+    assert not member_names.is_seen(name)
 
 
 @pytest.mark.parametrize("name", ["teacher", "TEACHER", "Beamer", "оperator", "Te acher", "ADMIN"])
 def test_the_name_of_a_role(name: str) -> None:
-    assert names.is_role(name)
+    assert member_names.is_role(name)
 
 
 @pytest.mark.parametrize(
@@ -38,7 +38,7 @@ def test_the_name_of_a_role(name: str) -> None:
     [("Alice", "alice\u3164"), ("Anna", "\uff21nna"), ("Anna", "Аnnа"), ("Max", "МАХ")],
 )
 def test_names_that_look_alike(name: str, other: str) -> None:
-    assert names.folded(name) == names.folded(other)
+    assert member_names.folded(name) == member_names.folded(other)
 
 
 FORMULAS = ["=1+1", "+1", "-1", "@a", "\uff1d1+1", "x;=1+1", "x,=1", "x\t@a", "x; +1", "'x", "a|=1"]
@@ -48,14 +48,14 @@ FORMULAS = ["=1+1", "+1", "-1", "@a", "\uff1d1+1", "x;=1+1", "x,=1", "x\t@a", "x
 @pytest.mark.parametrize("name", FORMULAS)
 def test_no_spreadsheet_runs_a_name(name: str, separator: str) -> None:
     text = io.StringIO()
-    csv.writer(text).writerow([1, names.plain(name)])
+    csv.writer(text).writerow([1, member_names.plain(name)])
     for cell in next(csv.reader(io.StringIO(text.getvalue()), delimiter=separator)):
         assert cell.strip()[:1] not in [*"=+-@\uff1d\uff0b\uff0d\uff20"], cell
 
 
 def test_a_plain_name_stays() -> None:
     for name in ("Anna", "a-b", "1+1", "O'Neil", "x; y"):
-        assert names.plain(name) == name
+        assert member_names.plain(name) == name
 
 
 def test_who_may_join(venue: Served) -> None:

@@ -5,7 +5,7 @@ import functools
 from collections.abc import Collection
 from typing import TYPE_CHECKING
 
-from callauction.fix.orders import CLIENT, NUMBER, ORIGIN, SAID, SINCE, TIME, WHEN
+from callauction.fix.board_orders import CLIENT, NUMBER, ORIGIN, SAID, SINCE, TIME, WHEN
 from callauction.fix.refusals import refuse
 from callauction.fix.tags import Given, Tag, now
 from callauction.venue.instrument_board import InstrumentBoard

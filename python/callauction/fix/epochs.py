@@ -6,8 +6,8 @@ import itertools
 from collections.abc import Collection, Container
 from typing import NamedTuple, Self
 
+from callauction.fix.board_orders import NUMBER, SINCE, entry_event
 from callauction.fix.order_fields import MOST_ID_LETTERS, check_client
-from callauction.fix.orders import NUMBER, SINCE, entry_event
 from callauction.fix.refusals import UNUSED
 from callauction.fix.tags import FixFields, Given, Status, Tag, Type, body_of, event_in, refusal_of
 from callauction.venue.instrument_board import InstrumentBoard

@@ -5,7 +5,7 @@ FIX44.xml.
 from collections.abc import Mapping
 
 from callauction.fix import feeds, refusals, requests
-from callauction.fix.orders import TOO_LATE
+from callauction.fix.board_orders import TOO_LATE
 from callauction.fix.seats import NOT_ALLOWED
 from callauction.fix.tags import (
     CLOSING, DAY, GOOD_TILL_CANCEL, LIMIT, MARKET, NONE, OPENING, OTHER_REASON, SIDES, Exec, Status,

@@ -4,7 +4,7 @@ for what the venue doesn't do.
 """
 import re
 
-from callauction.fix.orders import SENTENCES, TIMES_OF_AUCTIONS, Held
+from callauction.fix.board_orders import SENTENCES, TIMES_OF_AUCTIONS, Held
 from callauction.fix.refusals import UNKNOWN_SYMBOL, UNSUPPORTED, WRONG_QUANTITY, SeatError
 from callauction.fix.tags import (
     CLOSING, DAY, GOOD_TILL_CANCEL, LIMIT, MARKET, OPENING, OTHER_REASON, SECOND_LETTERS, SIDES,

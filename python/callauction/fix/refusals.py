@@ -1,7 +1,7 @@
 """How a member is told that a message of it came to nothing."""
 from typing import TYPE_CHECKING
 
-from callauction.fix.orders import CLIENT, ORIGIN, EditRequest, Report, refusal
+from callauction.fix.board_orders import CLIENT, ORIGIN, EditRequest, Report, refusal
 from callauction.fix.tags import (
     DAY, EVENTS, FIXT, NONE, OTHER_REASON, SIDE_CODES, Exec, FixFields, Given, Status, Tag, Type,
 )

@@ -3,13 +3,13 @@ import asyncio
 import functools
 from collections.abc import Callable, Mapping
 
+from callauction.fix.board_orders import SAID, Orders, Report
 from callauction.fix.connections import Connections
-from callauction.fix.orders import SAID, Orders, Report
 from callauction.fix.seats import Seat
 from callauction.fix.tags import FixFields, Tag, is_recent, now
 from callauction.fix.uncrosses import seen_at
-from callauction.venue.downloads import DownloadError
 from callauction.venue.book import OPERATOR
+from callauction.venue.downloads import DownloadError
 from callauction.venue.instrument_board import InstrumentBoard
 from callauction.venue.logger import NOTICES
 from callauction.venue.phases import UNCROSSED

@@ -4,8 +4,8 @@ OrderMassStatusRequest, SecurityListRequest.
 import asyncio
 from typing import TYPE_CHECKING
 
+from callauction.fix.board_orders import Held, Orders
 from callauction.fix.order_fields import CURRENCY, is_sent_again, side_of
-from callauction.fix.orders import Held, Orders
 from callauction.fix.refusals import (
     ALL, DUPLICATE, UNKNOWN_ORDER, UNSUPPORTED, USED, SeatError, tell_mass_answer,
     tell_mass_cancelled,

@@ -10,11 +10,11 @@ from collections.abc import Awaitable, Callable, Mapping
 from typing import TYPE_CHECKING, Any
 
 from callauction.fix import feeds, requests, singles
+from callauction.fix.board_orders import CLIENT, Held, Report
 from callauction.fix.commands import HALT_PAUSE, SessionCommands
 from callauction.fix.epochs import Clients, Epoch, MessageNumber, key_of
 from callauction.fix.feeds import Feeds
 from callauction.fix.order_fields import is_sent_again
-from callauction.fix.orders import CLIENT, Held, Report
 from callauction.fix.refusals import FILLED, MADE_BEFORE, OTHER_DAY, SeatError, given_of, refuse
 from callauction.fix.tags import OTHER_REASON, FixFields, Given, Tag, Type, seconds_of
 from callauction.venue import clock, tokens

@@ -3,11 +3,11 @@ OrderStatusRequest.
 """
 from typing import TYPE_CHECKING, Any
 
+from callauction.fix.board_orders import Held, ended_text
 from callauction.fix.order_fields import (
     RESTRICTIONS_BY_TIME, check_beside, check_client, check_kept, check_side, is_sent_again,
     left_of, peak_of, price_of, shares_of, side_of,
 )
-from callauction.fix.orders import Held, ended_text
 from callauction.fix.refusals import (
     DUPLICATE, ORDER_ENDED, UNKNOWN_ORDER, UNSUPPORTED, USED, PendingError, SeatError, tell_again,
 )

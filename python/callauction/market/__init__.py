@@ -15,7 +15,7 @@ from typing import TYPE_CHECKING
 
 if TYPE_CHECKING:
     from callauction.market.files import InUse
-    from callauction.market.names import file_of, instrument_of, name_of
+    from callauction.market.instrument_names import file_of, instrument_of, name_of
     from callauction.market.rows import COLUMNS, Found, Row, frame, read_rows
     from callauction.market.runs import audit, run
     from callauction.market.splitting import TableError, split
@@ -42,7 +42,7 @@ __all__ = [
 
 _PLACES = {
     "market.files": ("InUse",),
-    "market.names": ("file_of", "instrument_of", "name_of"),
+    "market.instrument_names": ("file_of", "instrument_of", "name_of"),
     "market.rows": ("COLUMNS", "Found", "Row", "frame", "read_rows"),
     "market.runs": ("audit", "run"),
     "market.splitting": ("TableError", "split"),

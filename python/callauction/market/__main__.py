@@ -6,7 +6,7 @@ import sys
 
 from callauction.market.command import examine_files, split_table
 from callauction.market.forms import FORMS
-from callauction.market.names import SUFFIX
+from callauction.market.instrument_names import SUFFIX
 
 EPILOG = """statuses: 0 all is lawful and was compared; 4 a reply is unlawful; 5 nothing is
 unlawful, but a reply was not recorded, a day is not over or a journal was cut; 1 a file or a table

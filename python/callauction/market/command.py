@@ -13,8 +13,8 @@ from typing import TYPE_CHECKING
 from callauction import finder
 from callauction.market.expected import compared_with, read_list
 from callauction.market.files import InUse, locked, with_end
+from callauction.market.instrument_names import SUFFIX, line_of
 from callauction.market.log import RunLog
-from callauction.market.names import SUFFIX, line_of
 from callauction.market.processes import Processes
 from callauction.market.rows import Found, Row, write_rows
 from callauction.market.runs import AUDIT_FORM, files_of

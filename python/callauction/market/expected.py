@@ -4,7 +4,7 @@ import os
 import pathlib
 from collections.abc import Iterable
 
-from callauction.market.names import printable
+from callauction.market.instrument_names import printable
 from callauction.market.rows import Row
 from callauction.market.workers import MarketError
 

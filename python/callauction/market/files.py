@@ -10,7 +10,7 @@ import time
 from collections.abc import Iterator
 from typing import IO
 
-from callauction.market.names import line_of
+from callauction.market.instrument_names import line_of
 
 OWN = 0o600
 """The mode of a file that only its owner may read and write."""

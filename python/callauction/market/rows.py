@@ -10,7 +10,7 @@ from typing import TYPE_CHECKING, Any
 
 from callauction.market.files import whole
 from callauction.market.forms import OVER
-from callauction.market.names import guarded, instrument_of, line_of, unguarded
+from callauction.market.instrument_names import guarded, instrument_of, line_of, unguarded
 
 if TYPE_CHECKING:
     import pandas

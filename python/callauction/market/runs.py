@@ -6,7 +6,7 @@ from typing import TYPE_CHECKING
 from callauction import finder
 from callauction.market.expected import compared_with
 from callauction.market.forms import FORMS
-from callauction.market.names import instrument_of, line_of
+from callauction.market.instrument_names import instrument_of, line_of
 from callauction.market.processes import Processes
 from callauction.market.rows import frame
 from callauction.market.task import Request

@@ -15,7 +15,7 @@ from operator import itemgetter
 from typing import IO, TYPE_CHECKING, TypeAlias, cast
 
 from callauction.market.files import locked
-from callauction.market.names import file_of
+from callauction.market.instrument_names import file_of
 from callauction.overwriting import refuse_overwriting
 from callauction.words import MARKET
 

@@ -8,7 +8,7 @@ from collections.abc import Iterator
 from typing import TYPE_CHECKING, Protocol
 
 from callauction import finder
-from callauction.market.names import instrument_of, line_of
+from callauction.market.instrument_names import instrument_of, line_of
 from callauction.market.rows import Found, Row, found_of
 from callauction.market.task import Request, examine_each
 

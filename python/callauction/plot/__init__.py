@@ -7,6 +7,6 @@ as "0.01" makes prices of ticks: tick t is t tick sizes.
 from callauction.plot.books import book
 from callauction.plot.courses import indicative
 from callauction.plot.orders import allocation, queue
-from callauction.plot.parts import SIZE
+from callauction.plot.style import SIZE
 
 __all__ = ["SIZE", "allocation", "book", "indicative", "queue"]

@@ -5,7 +5,7 @@ import pandas
 from matplotlib.axes import Axes
 from matplotlib.patches import StepPatch
 
-from callauction.plot.parts import (
+from callauction.plot.style import (
     DEMAND,
     MOST_DRAWN,
     PALE,

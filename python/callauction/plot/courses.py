@@ -7,7 +7,7 @@ from matplotlib.axes import Axes
 from matplotlib.collections import PolyCollection
 
 from callauction.course import INTERRUPTED, Course, course_of
-from callauction.plot.parts import (
+from callauction.plot.style import (
     DEMAND,
     DIGIT,
     MOST_DRAWN,

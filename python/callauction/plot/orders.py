@@ -9,7 +9,7 @@ import pandas
 from matplotlib.axes import Axes
 
 from callauction.outcomes import HasDay, Queue, queue_of
-from callauction.plot.parts import (
+from callauction.plot.style import (
     DEMAND,
     DIGIT,
     PALE,

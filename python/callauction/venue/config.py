@@ -19,7 +19,7 @@ from callauction.venue.fields import TITLE, ConfigError, Fields
 from callauction.venue.fix_terms import FixTerms, terms_from
 from callauction.venue.gains import Uncovered
 from callauction.venue.handing import HandError, ListError, ListedValue
-from callauction.venue.names import folded, is_role, is_seen
+from callauction.venue.member_names import folded, is_role, is_seen
 from callauction.venue.tokens import LEAST_CODE
 from callauction.venue.treatments import MOST_CALL_SECONDS, Limits, Read, Treatment, treatment_from
 

@@ -19,8 +19,8 @@ from urllib.parse import quote
 
 from callauction.venue import config, results
 from callauction.venue.instrument_board import InstrumentBoard
+from callauction.venue.member_names import plain
 from callauction.venue.members import Members, VenueMember
-from callauction.venue.names import plain
 from callauction.venue.rounds import Round
 from callauction.venue.sheets import PLAIN, SheetRow, table
 

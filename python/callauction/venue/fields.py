@@ -5,7 +5,7 @@ from decimal import Decimal
 from typing import Any
 
 from callauction.prices import BadCellError, decimal_of
-from callauction.venue.names import tidy
+from callauction.venue.member_names import tidy
 
 MEMBER_NAME = re.compile(r"[^\x00-\x1f\x7f<>]{1,40}")
 TITLE = re.compile(r"[^\x00-\x1f\x7f<>]{0,60}")

@@ -7,11 +7,11 @@ from callauction.venue.instrument_board import InstrumentBoard
 from callauction.venue.logger import NOTICES
 from callauction.venue.members import VenueMember
 from callauction.venue.messages import MessageError
-from callauction.venue.parts import Parts
 from callauction.venue.phases import Phase, PhaseError
 from callauction.venue.rounds import Round, by_side, dealt, is_even, small
 from callauction.venue.starts import Starts
 from callauction.venue.treatments import Treatment
+from callauction.venue.venue_parts import VenueParts
 
 JOINED_LATE = "%s joined late: group %s has %s of %s members, until the next round deals all anew"
 
@@ -19,7 +19,7 @@ JOINED_LATE = "%s joined late: group %s has %s of %s members, until the next rou
 class Groups:
     """The groups of a venue's members, of which one changes at a time."""
 
-    def __init__(self, parts: Parts, starts: Starts) -> None:
+    def __init__(self, parts: VenueParts, starts: Starts) -> None:
         self._day, self._log, self._halts = parts.day, parts.log, parts.halts
         self._members, self._rounds = parts.members, parts.rounds
         self._audience, self._values, self._starts = parts.audience, parts.values, starts

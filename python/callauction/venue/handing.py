@@ -9,7 +9,7 @@ from typing import Protocol
 
 from callauction.venue.chance import CHANCE
 from callauction.venue.gains import ShareValue
-from callauction.venue.names import folded
+from callauction.venue.member_names import folded
 from callauction.words import SIDES
 
 HANDING_WAYS = ("none", "keep", "shuffle", "chance", "schedule", "list")

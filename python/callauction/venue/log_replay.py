@@ -10,11 +10,11 @@ from callauction.venue import day_changes
 from callauction.venue.instrument_board import InstrumentBoard
 from callauction.venue.log import Line, taking
 from callauction.venue.members import Done
-from callauction.venue.parts import Parts
 from callauction.venue.recovery import Entry, MemberMessage, Settled
 from callauction.venue.rounds import Round
 from callauction.venue.timekeeping import is_shift
 from callauction.venue.treatments import Treatment
+from callauction.venue.venue_parts import VenueParts
 
 
 class Past:
@@ -22,7 +22,7 @@ class Past:
     since.
     """
 
-    def __init__(self, parts: Parts) -> None:
+    def __init__(self, parts: VenueParts) -> None:
         self._day, self._log, self._rounds = parts.day, parts.log, parts.rounds
         self._members, self._audience, self._values = parts.members, parts.audience, parts.values
         self.began, self.changes = time.time(), list[str]()

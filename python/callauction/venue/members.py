@@ -12,8 +12,8 @@ from callauction.venue.arrivals import Arrivals
 from callauction.venue.codes import JoinCodes
 from callauction.venue.log import Line, Log
 from callauction.venue.logger import NOTICES
+from callauction.venue.member_names import folded, is_role, is_seen, tidy
 from callauction.venue.messages import MessageError
-from callauction.venue.names import folded, is_role, is_seen, tidy
 from callauction.venue.rates import Bucket
 from callauction.venue.recovery import Entry
 

@@ -12,12 +12,12 @@ from callauction.venue.log import Line
 from callauction.venue.log_replay import Past
 from callauction.venue.messages import MessageError
 from callauction.venue.owned import OwnerError
-from callauction.venue.parts import Parts
 from callauction.venue.process import ProcessError
 from callauction.venue.recovery import (
     JournalMark, RecoveryError, RolledBackError, Settled, mark_of, program_of, runs_of,
 )
 from callauction.venue.timekeeping import is_shift
+from callauction.venue.venue_parts import VenueParts
 
 RESUME_SECONDS = 20.0
 """How long a program that is tried again is waited for, longer than it may wait for its journal."""
@@ -32,7 +32,7 @@ class Starts:
     `on_reopened` is called once one was.
     """
 
-    def __init__(self, parts: Parts, past: Past, begun: Begun) -> None:
+    def __init__(self, parts: VenueParts, past: Past, begun: Begun) -> None:
         self._log, self._halts = parts.log, parts.halts
         self._members, self._rounds = parts.members, parts.rounds
         self._past, self._begun = past, begun

@@ -7,8 +7,8 @@ from callauction.venue.gains import ShareValue
 from callauction.venue.handing import ListedValue, Rule, rows_of_members
 from callauction.venue.instrument_board import InstrumentBoard
 from callauction.venue.log import Line, Log
+from callauction.venue.member_names import folded
 from callauction.venue.members import Members, VenueMember
-from callauction.venue.names import folded
 from callauction.venue.rounds import Round, Rounds
 
 ListedRows = tuple[ListedValue, ...]

@@ -21,7 +21,6 @@ from callauction.venue.log_replay import Past
 from callauction.venue.logger import NOTICES
 from callauction.venue.members import Done, Members, NameTakenError, VenueMember
 from callauction.venue.messages import MessageError, OrderMessage
-from callauction.venue.parts import Parts
 from callauction.venue.recovery import Entry, MemberMessage, Settled
 from callauction.venue.robots import Robots
 from callauction.venue.rounds import Rounds
@@ -29,6 +28,7 @@ from callauction.venue.sheets import SIGNATURE
 from callauction.venue.starts import Starts, starting
 from callauction.venue.timekeeping import Timekeeper
 from callauction.venue.values import Values
+from callauction.venue.venue_parts import VenueParts
 
 LOOK_SECONDS = 5.0
 """How often the venue looks whether others have changed a journal that its program writes."""
@@ -57,7 +57,7 @@ class Venue:
         whom = self.log, self.members, self.rounds
         self.audience = Audience(day, *whom, self.halts)
         self.values = Values(*whom, self.audience)
-        parts = Parts(day, *whom, self.audience, self.values, self.halts)
+        parts = VenueParts(day, *whom, self.audience, self.values, self.halts)
         self.past = Past(parts)
         self.starts = Starts(parts, self.past, self._begun)
         self.groups = Groups(parts, self.starts)

@@ -19,7 +19,7 @@ import pandas
 
 import callauction
 from callauction import finder
-from callauction.market.names import guarded
+from callauction.market.instrument_names import guarded
 from callauction.prices import number_of
 from callauction.program import NO_JOURNAL, BadFileError, Day, found_program
 from callauction.progress import Progress

@@ -11,7 +11,7 @@ from callauction.venue.values import Values
 
 
 @dataclasses.dataclass(frozen=True)
-class Parts:
+class VenueParts:
     """What a venue is made of."""
 
     day: config.DayTerms
