@@ -35,7 +35,7 @@ class Program:
     words: list[str]
 
 
-@dataclasses.dataclass
+@dataclasses.dataclass(frozen=True)
 class Measured:
     """What was measured of a command: the best seconds, the best seconds of the processor, the
     peak memory in MiB.
@@ -44,6 +44,14 @@ class Measured:
     seconds: float = float("inf")
     processor: float = float("inf")
     memory: float = 0.0
+
+    def best(self, other: "Measured") -> "Measured":
+        """The better times of the two, and the greater memory."""
+        return Measured(
+            min(self.seconds, other.seconds),
+            min(self.processor, other.processor),
+            max(self.memory, other.memory),
+        )
 
     @property
     def milliseconds(self) -> str:
@@ -85,25 +93,24 @@ def write(kind: str, count: int, folder: str) -> pathlib.Path:
     return path
 
 
-def written(most: int, only: str | None, folder: str) -> list[File]:
+def written(most: int, kind_alone: str | None, folder: str) -> list[File]:
     """Writes the files, of at most `most` commands each, or one of them alone."""
     return [
         File(kind, write(kind, min(count, most), folder), words)
         for kind, count, words in FILES
-        if only in (None, kind)
+        if kind_alone in (None, kind)
     ]
 
 
-def once(command: list[str], path: pathlib.Path, measured: Measured) -> None:
-    """Runs a command on a file, and keeps the better times. Exits where the command fails."""
+def once(command: list[str], path: pathlib.Path) -> Measured:
+    """Runs a command on a file, and gives its times. Exits where the command fails."""
     with open(path, encoding="ascii") as stdin, tempfile.NamedTemporaryFile("r") as figures:
         words = [sys.executable, str(TOP / "checks/measured.py"), figures.name, *command]
         status = subprocess.run(words, stdin=stdin, stdout=subprocess.DEVNULL, check=False)
         if status.returncode != 0:
             sys.exit(f"{command[0]} ended with {status.returncode} on {path.name}")
         seconds, processor, _ = map(float, figures.read().split())
-    measured.seconds = min(measured.seconds, seconds)
-    measured.processor = min(measured.processor, processor)
+    return Measured(seconds, processor)
 
 
 def peak_memory(command: list[str], path: pathlib.Path) -> float:
@@ -127,8 +134,7 @@ def in_turns(commands: list[list[str]], path: pathlib.Path, runs: int) -> list[M
     """Runs commands on a file in turns, `runs` times each, and gives what each took."""
     found = [Measured(memory=peak_memory(command, path)) for command in commands]
     for _ in range(runs):
-        for command, measured in zip(commands, found):
-            once(command, path, measured)
+        found = [it.best(once(command, path)) for it, command in zip(found, commands)]
     return found
 
 

@@ -16,6 +16,7 @@ replies were changed, and the number of the first, as an audit has to find them.
 """
 import argparse
 import concurrent.futures
+import dataclasses
 import os
 import pathlib
 import random
@@ -91,15 +92,17 @@ def lawful(program: str, entries: Iterator[str]) -> list[str]:
     return ran.stdout.splitlines(keepends=True)
 
 
-def change(lines: list[str], dice: random.Random) -> list[int]:
-    """Records another number in a few replies: the numbers of their entries, which rise."""
+def changed(lines: list[str], dice: random.Random) -> tuple[list[str], list[int]]:
+    """The lines with another number in a few replies, and the numbers of their entries, which rise.
+    """
     numbered = [place for place in range(1, len(lines)) if NUMBER.search(reply_of(lines[place]))]
     chosen = sorted(dice.sample(numbered, min(len(numbered), dice.randint(1, MOST_CHANGED))))
+    found = [*lines]
     for place in chosen:
         reply = reply_of(lines[place])
         other = NUMBER.sub(lambda number: str(int(number[0]) + 1), reply, count=1)
-        lines[place] = lines[place].removesuffix(reply) + other
-    return chosen
+        found[place] = lines[place].removesuffix(reply) + other
+    return found, chosen
 
 
 def reply_of(line: str) -> str:
@@ -107,26 +110,43 @@ def reply_of(line: str) -> str:
     return line.rsplit(",", 1)[1]
 
 
-def write(folder: pathlib.Path, place: int, count: int, asked: argparse.Namespace) -> str:
-    """Writes the journal of an instrument: its line of changed.txt, if it is a changed one."""
-    dice = random.Random(f"{asked.seed} {place}")
-    name = f"I{place + 1:05}"
-    lines = lawful(asked.program, commands(count, dice))
-    changed = change(lines, dice) if place in asked.places else []
+@dataclasses.dataclass(frozen=True)
+class JournalPlan:
+    """A journal to write: the place of its instrument, how many commands it has, the seed of all,
+    and whether some of its replies are changed.
+    """
+
+    place: int
+    count: int
+    seed: int
+    is_changed: bool
+
+
+def write(folder: pathlib.Path, journal: JournalPlan, program: str) -> str:
+    """Writes the journal of an instrument by this program: its line of changed.txt, if it is a
+    changed one.
+    """
+    dice = random.Random(f"{journal.seed} {journal.place}")
+    name = f"I{journal.place + 1:05}"
+    lines = lawful(program, commands(journal.count, dice))
+    lines, entries = changed(lines, dice) if journal.is_changed else (lines, [])
     with open(folder / f"{name}.csv", "w", encoding="ascii") as out:
         out.writelines(lines)
-    return f"{name} {len(changed)} {changed[0]}\n" if changed else ""
+    return f"{name} {len(entries)} {entries[0]}\n" if entries else ""
 
 
-def write_market(folder: pathlib.Path, asked: argparse.Namespace) -> None:
-    """Writes all journals, on all cores, and the list of the changed ones."""
+def write_market(folder: pathlib.Path, asked: argparse.Namespace, program: str) -> None:
+    """Writes all journals by this program, on all cores, and the list of the changed ones."""
     dice = random.Random(asked.seed)
     counts = sizes(asked.instruments, asked.entries)
     dice.shuffle(counts)
-    asked.places = set(dice.sample(range(asked.instruments), asked.changed))
+    chosen = set(dice.sample(range(asked.instruments), asked.changed))
+    journals = [
+        JournalPlan(place, count, asked.seed, place in chosen) for place, count in enumerate(counts)
+    ]
     with concurrent.futures.ProcessPoolExecutor() as pool:
-        places = sorted(range(asked.instruments), key=lambda place: -counts[place])
-        tasks = [pool.submit(write, folder, place, counts[place], asked) for place in places]
+        longest_first = sorted(journals, key=lambda it: -it.count)
+        tasks = [pool.submit(write, folder, it, program) for it in longest_first]
         lines = sorted(task.result() for task in tasks)
     (folder / "changed.txt").write_text("".join(lines), encoding="ascii")
 
@@ -145,11 +165,10 @@ def arguments() -> argparse.ArgumentParser:
 
 def main() -> None:
     asked = arguments().parse_args()
-    asked.program = asked.program or finder.program()
     begun = asked.folder.with_name(f"{asked.folder.name}.new")
     shutil.rmtree(begun, ignore_errors=True)
     begun.mkdir(parents=True)
-    write_market(begun, asked)
+    write_market(begun, asked, asked.program or finder.program())
     shutil.rmtree(asked.folder, ignore_errors=True)
     os.replace(begun, asked.folder)
 

@@ -33,7 +33,7 @@ MOST_PROCESSOR, MOST_MEMORY, MOST_SECONDS = 6.0, 600.0, 9.0
 """What is wanted: seconds of the processor and MiB for one instrument, seconds for many."""
 
 
-@dataclasses.dataclass
+@dataclasses.dataclass(frozen=True)
 class Taken:
     """What a command took at best: seconds, those of the processor, and MiB at its peak; and its
     last status and output.
@@ -45,15 +45,19 @@ class Taken:
     status: int = 0
     text: str = ""
 
+    def best(self, last: "Taken") -> "Taken":
+        """The better times of the two, and what else the last one has."""
+        seconds, processor = min(self.seconds, last.seconds), min(self.processor, last.processor)
+        return dataclasses.replace(last, seconds=seconds, processor=processor)
 
-def run(words: list[str], environment: dict[str, str], taken: Taken) -> None:
-    """Runs a command, and keeps the better times."""
+
+def run(words: list[str], environment: dict[str, str]) -> Taken:
+    """Runs a command once."""
     with tempfile.NamedTemporaryFile("r") as figures:
         command = [sys.executable, str(measuring.TOP / "checks/measured.py"), figures.name, *words]
         ran = subprocess.run(command, stdout=subprocess.PIPE, env=environment, text=True)
         seconds, processor, memory = map(float, figures.read().split())
-    taken.seconds, taken.processor = min(taken.seconds, seconds), min(taken.processor, processor)
-    taken.memory, taken.status, taken.text = memory / 1024, ran.returncode, ran.stdout
+    return Taken(seconds, processor, memory / 1024, ran.returncode, ran.stdout)
 
 
 def with_a_changed_trade(path: pathlib.Path) -> pathlib.Path:
@@ -107,8 +111,8 @@ def compared(
         words += ["--by", "isin"] * (name == "many")
         model = [interpreter, str(measuring.TOP / "bench/plain_audit.py"), str(path), REFERENCE]
         for _ in range(runs):
-            run(words, environment, ours)
-            run(model, environment, plain)
+            ours = ours.best(run(words, environment))
+            plain = plain.best(run(model, environment))
         count = path.read_bytes().count(b"\n") - 1
         row(name, f"{count:,}", *figures(ours), *figures(plain))
         good &= is_right(name, ours, plain)

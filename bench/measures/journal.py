@@ -81,7 +81,7 @@ def print_answers(
             one_by_one[place] = min(one_by_one[place], live.round_trip(command, trips))
         for place, command in enumerate(sessions(program, file.words, kept)):
             kept.unlink(missing_ok=True)
-            measuring.once(command, file.path, bulk[place])
+            bulk[place] = bulk[place].best(measuring.once(command, file.path))
     with open(file.path, "rb") as records:
         count = sum(1 for _ in records)
     ways = {"one by one": one_by_one, "in bulk": [it.seconds / count for it in bulk]}
@@ -109,8 +109,8 @@ def print_going_on(
     own = Measured(memory=measuring.peak_memory(audit, journal))
     other = Measured(memory=measuring.peak_memory(going_on, nothing))
     for _ in range(runs):
-        measuring.once(audit, journal, own)
-        measuring.once(going_on, nothing, other)
+        own = own.best(measuring.once(audit, journal))
+        other = other.best(measuring.once(going_on, nothing))
     ratio = other.seconds / own.seconds
     with open(journal, "rb") as lines:
         entries = sum(1 for _ in lines) - 1

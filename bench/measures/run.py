@@ -181,8 +181,8 @@ def measured_form(
         asked, source = [*program.words, "--audit"], journal_of(command, file.path, folder)
     own, other = Measured(), Measured(memory=measuring.peak_memory(asked, source))
     for _ in range(runs):
-        measuring.once(command, file.path, own)
-        measuring.once(asked, source, other)
+        own = own.best(measuring.once(command, file.path))
+        other = other.best(measuring.once(asked, source))
     return own, other
 
 
