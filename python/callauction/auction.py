@@ -64,29 +64,21 @@ class _Signature:
         return made.replace(parameters=[*made.parameters.values()][1:])
 
 
-def config_struct(
-    low: int,
-    high: int,
-    reference: int,
-    max_open: int,
-    max_calls: int,
-    range: int | None,
-    reserve: int,
-) -> Any:
-    """These numbers as a struct of the library. Raises TypeError or ValueError with the name of
-    one that is no integer or doesn't fit.
+def config_struct(config: Config) -> Any:
+    """A config as a struct of the library. Raises TypeError or ValueError with the name of a number
+    that is no integer or doesn't fit.
     """
-    config = ffi.new("callauction_config *")
-    config.low = number("low", low, MOST_NUMBER)
-    config.high = number("high", high, MOST_NUMBER)
-    config.reference = number("reference", reference, MOST_NUMBER)
-    config.max_open = number("max_open", max_open, MOST_NUMBER)
-    config.max_calls = number("max_calls", max_calls, MOST_NUMBER)
-    config.has_range = range is not None
-    config.range = 0 if range is None else number("range", range, MOST_NUMBER)
-    config.has_reserve = True
-    config.reserve = number("reserve", reserve, MOST_NUMBER)
-    return config
+    found = ffi.new("callauction_config *")
+    found.low = number("low", config.low, MOST_NUMBER)
+    found.high = number("high", config.high, MOST_NUMBER)
+    found.reference = number("reference", config.reference, MOST_NUMBER)
+    found.max_open = number("max_open", config.max_open, MOST_NUMBER)
+    found.max_calls = number("max_calls", config.max_calls, MOST_NUMBER)
+    found.has_range = config.range is not None
+    found.range = 0 if config.range is None else number("range", config.range, MOST_NUMBER)
+    found.has_reserve = True
+    found.reserve = number("reserve", config.reserve, MOST_NUMBER)
+    return found
 
 
 def config_of(found: Any) -> Config:
@@ -159,7 +151,8 @@ class Auction:
         range: int | None = None,
         reserve: int = 0,
     ) -> None:
-        config = config_struct(low, high, reference, max_open, max_calls, range, reserve)
+        given = Config(low, high, reference, max_open, max_calls, range, reserve)
+        config = config_struct(given)
         self._call(lib.python_open, config)
 
     def __repr__(self) -> str:

@@ -374,7 +374,8 @@ class Board:
             raise ValueError(f"members must be from 1 to {MOST_MEMBERS}, not {count}")
         if range is not None:
             number("range", range, MOST_RANGE)
-        config = config_struct(low, high, reference, max_open, max_calls, range, reserve)
+        given = Config(low, high, reference, max_open, max_calls, range, reserve)
+        config = config_struct(given)
         self._own = ffi.gc(ffi.new("python_board *"), lib.python_board_leave)
         answer = lib.python_board_open(self._own, count, config)
         if answer:

@@ -157,7 +157,7 @@ class Orders:
         ended = self.of_client(message.member, asked.origin) if held is None else None
         reason = TOO_LATE if ended else reason_of(NOT_CHANGED, entry.reply)
         text = ended_text(ended) if ended and not ended.open else self._said(entry.reply)
-        return refusal(message.member, event, asked, held or ended, reason, text)
+        return refusal(asked, event, held or ended, reason, text)
 
     def _entered(self, held: Held, entry: Entry, event: str) -> Report:
         """A new order was taken or refused."""
@@ -320,8 +320,9 @@ def match_of(trade: views.DayTrade, event: str) -> str:
 
 @dataclasses.dataclass(frozen=True)
 class EditRequest:
-    """A request for another order or none: its ids, and whether it is a cancel."""
+    """A member's request for another order or none: its ids, and whether it is a cancel."""
 
+    member: str
     client: str
     origin: str
     is_cancel: bool
@@ -330,7 +331,7 @@ class EditRequest:
     def of(cls, message: MemberMessage, is_cancel: bool) -> "EditRequest":
         """The request that became a message."""
         note: Mapping[str, str] = message.note
-        return cls(note.get(CLIENT, NONE), note.get(ORIGIN, NONE), is_cancel)
+        return cls(message.member, note.get(CLIENT, NONE), note.get(ORIGIN, NONE), is_cancel)
 
 
 def ended_text(held: Held, is_over: bool = False) -> str:
@@ -345,7 +346,7 @@ def reason_of(reasons: Mapping[Refusal, str], reply: str) -> str:
 
 
 def refusal(
-    member: str, event: str, asked: EditRequest, held: Held | None, reason: str, text: str,
+    asked: EditRequest, event: str, held: Held | None, reason: str, text: str,
     status: Status = Status.REJECTED,
 ) -> Report:
     """An OrderCancelReject of an order as it is now, or of this status where none is known."""
@@ -359,4 +360,4 @@ def refusal(
         (Tag.TEXT, text),
         (Tag.EVENT_ID, event),
     ]
-    return Report(member, Type.CANCEL_REJECT, event, pairs)
+    return Report(asked.member, Type.CANCEL_REJECT, event, pairs)

@@ -89,10 +89,10 @@ def refuse(seat: "Seat", given: Given, event: str, fault: MessageError) -> None:
         seat.clients.keep(given, seat.epoch.number_of(int(given[Tag.MSG_SEQ_NUM])))
     if kind in (Type.CANCEL, Type.REPLACE):
         client, origin = given[Tag.CL_ORD_ID], given[Tag.ORIG_CL_ORD_ID]
-        asked = EditRequest(client, origin, kind == Type.CANCEL)
+        asked = EditRequest(seat.name, client, origin, kind == Type.CANCEL)
         code = CANCEL_REASONS.get(reason, OTHER_REASON)
         held = seat.held(given, origin)
-        seat.reports.tell(refusal(seat.name, event, asked, held, code, fault.text, status))
+        seat.reports.tell(refusal(asked, event, held, code, fault.text, status))
     elif kind == Type.MASS_CANCEL:
         code = MASS_REASONS.get(reason, OTHER_REASON)
         pairs: FixFields = [(Tag.MASS_CANCEL_RESPONSE, NOT_CANCELLED)]

@@ -6,6 +6,7 @@ from collections.abc import Callable, Mapping
 from callauction.fix.board_orders import SAID, Orders, Report
 from callauction.fix.connections import Connections
 from callauction.fix.seats import Seat
+from callauction.fix.sent import Sending
 from callauction.fix.tags import FixFields, Tag, is_recent, now
 from callauction.fix.uncrosses import seen_at
 from callauction.venue.book import OPERATOR
@@ -192,8 +193,8 @@ class Reports:
             return
         if promised and not is_recent(time, MOST_AGE):
             promised = 0
-        more = (promised, time, report.passes)
-        number = outbound.send(seat, report.type, pairs, report.groups, *more)
+        how = Sending(promised, time, report.passes)
+        number = outbound.send(seat, report.type, pairs, report.groups, how)
         epoch.told[report.event] = number
         if number == promised:
             outbound.sent.follows(seat.session, promised)

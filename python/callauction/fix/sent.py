@@ -46,6 +46,20 @@ class PassedMessages(NamedTuple):
     since: int
 
 
+class Sending(NamedTuple):
+    """How a message is sent: it isn't written under the number that is `promised`, 0 for none; it
+    says that it was sent at this time, empty for now; of one that `passes` the number alone is
+    kept.
+    """
+
+    promised: int = 0
+    time: str = ""
+    passes: bool = False
+
+
+PLAINLY = Sending()
+
+
 class SentMessages:
     """The messages that sessions were sent since they were last reset, and in `former` those from
     before; by CompID, in whichever version of FIX, the epoch that its last reset began, and the
@@ -208,14 +222,11 @@ class Outbound:
 
     def send(
         self, seat: "Seat", kind: str, pairs: FixFields, groups: RepeatingGroups,
-        promised: int = 0, time: str = "", passes: bool = False,
+        how: Sending = PLAINLY,
     ) -> int:
-        """Stores a message, and sends it soon where its session is on: its number. It isn't written
-        where that is the promised one, and says that it was sent at this time; of one that passes
-        the number alone is kept.
-        """
+        """Stores a message, and sends it soon where its session is on: its number."""
         self._wake()
-        return self.engine.send(seat.session, kind, pairs, groups, promised, time, passes)
+        return self.engine.send(seat.session, kind, pairs, groups, *how)
 
     def send_many(self) -> None:
         """Sends what there is where many reports wait, of which there is one more."""
