@@ -4,6 +4,7 @@ import pathlib
 import pty
 import subprocess
 import sys
+from typing import NamedTuple
 
 import callauction.market.__main__
 import callauction.market.workers
@@ -21,39 +22,48 @@ UNLAWFUL = {"C": f"{DAY}1,ask,deleted\n1,ask,\n1,enter,bid,7,5,entered 2\n{DONE}
 BAD = {"D": "day,1,9\n"}
 CUT = {"J": f"{DAY}1,enter,bid,7,5,entered 1\n{DONE}"[:-3]}
 WITH_ROOM = {"K": f"{DAY}1,enter,bid,7,5,entered 1\n{DONE}" + "\0" * 99}
+
+
+class JudgedMarket(NamedTuple):
+    """A market by the journals of its instruments, the status of its audit and its verdict."""
+
+    texts: rules.Texts
+    status: int
+    verdict: str
+
+
 MARKETS = [
-    (LAWFUL, 0, "lawful"),
-    (LAWFUL | NOT_OVER, 5, "incomplete"),
-    (LAWFUL | NOT_RECORDED, 5, "incomplete"),
-    ({"I": DAY}, 5, "incomplete"),
-    ({"I": DAY + DONE.replace("opening no price", "")}, 5, "incomplete"),
-    (LAWFUL | CUT, 5, "incomplete"),
-    (LAWFUL | WITH_ROOM, 5, "incomplete"),
-    (LAWFUL | UNLAWFUL | NOT_OVER, 4, "unlawful"),
-    (LAWFUL | BAD, 1, "incomplete"),
-    (LAWFUL | UNLAWFUL | BAD, 1, "unlawful"),
+    JudgedMarket(LAWFUL, 0, "lawful"),
+    JudgedMarket(LAWFUL | NOT_OVER, 5, "incomplete"),
+    JudgedMarket(LAWFUL | NOT_RECORDED, 5, "incomplete"),
+    JudgedMarket({"I": DAY}, 5, "incomplete"),
+    JudgedMarket({"I": DAY + DONE.replace("opening no price", "")}, 5, "incomplete"),
+    JudgedMarket(LAWFUL | CUT, 5, "incomplete"),
+    JudgedMarket(LAWFUL | WITH_ROOM, 5, "incomplete"),
+    JudgedMarket(LAWFUL | UNLAWFUL | NOT_OVER, 4, "unlawful"),
+    JudgedMarket(LAWFUL | BAD, 1, "incomplete"),
+    JudgedMarket(LAWFUL | UNLAWFUL | BAD, 1, "unlawful"),
 ]
 
 
-@pytest.mark.parametrize("texts, status, verdict", MARKETS)
+@pytest.mark.parametrize("market", MARKETS)
 @pytest.mark.parametrize("is_away", [False, True])
-def test_statuses(
-    texts: rules.Texts,
-    status: int,
-    verdict: str,
+def test_the_status_is_that_of_the_worst_file(
+    market: JudgedMarket,
     is_away: bool,
     client: Client,
     keys: Keys,
     program: str,
     tmp_path: pathlib.Path,
 ) -> None:
+    texts = market.texts
     write(tmp_path / "journals", texts)
     away = ["--scheduler", client.scheduler.address, *keys.words()] if is_away else []
     ran = command("audit", tmp_path / "journals", *away, program=program)
-    assert (ran.returncode, ran.stderr) == (status, "")
+    assert (ran.returncode, ran.stderr) == (market.status, "")
     found = closing(ran.stdout)
     expected = rules.rows_of(texts)
-    assert status == rules.status_of(expected)
+    assert market.status == rules.status_of(expected)
     assert found["instruments"] == len(texts)
     for name in ("entries", "compared"):
         assert found[name] == sum(row.get(name, 0) for row in expected)
@@ -65,7 +75,7 @@ def test_statuses(
     }
     *named, _, last = ran.stdout.splitlines()
     assert named == [bad[name] for name in bad if name in texts]
-    assert last == verdict
+    assert last == market.verdict
 
 
 def test_a_run_has_no_verdict(program: str, tmp_path: pathlib.Path) -> None:
@@ -136,26 +146,35 @@ def test_a_terminal_shows_progress(program: str, tmp_path: pathlib.Path) -> None
 
 
 KEYS = ["--tls-ca", "{}/A.csv", "--tls-cert", "{}/A.csv", "--tls-key", "{}/A.csv"]
+NO_WORKER, FAR = ["--workers", "0"], ["--scheduler", "tls://h:1"]
+
+
+class WrongWords(NamedTuple):
+    """Words of a command line, the status with which it ends, and what it says."""
+
+    words: list[str]
+    status: int
+    text: str
+
+
 WRONG = [
-    (["audit"], 2, "the following arguments are required: DIR"),
-    (["audit", "{}", "--workers", "0"], 2, "argument --workers: invalid positive value: '0'"),
-    (["audit", "{}", "--workers", "2", "--scheduler", "tls://h:1"], 2, "not allowed with"),
-    (["audit", "{}", "--resume"], 2, "--resume goes on with a result"),
-    (["audit", "{}", "--expect", "{}/none"], 2, "No such file or directory"),
-    (["audit", "{}/empty"], 2, "there is no .csv file in"),
-    (["audit", "{}/A.csv", "{}/empty/../other/A.csv"], 2, "two files of one instrument"),
-    (["audit", "{}", "-o", "{}/empty"], 2, "no result can be written to"),
-    (["audit", "{}", "-o", "{}/none/result.csv"], 2, "no result can be written to"),
-    (["audit", "{}", "--scheduler", "tls://127.0.0.1:9", *KEYS], 3, "market: "),
-    (["run", "{}", "--print", "prices"], 2, "invalid choice: 'prices'"),
+    WrongWords(["audit"], 2, "the following arguments are required: DIR"),
+    WrongWords(["audit", "{}", *NO_WORKER], 2, "argument --workers: invalid positive value: '0'"),
+    WrongWords(["audit", "{}", "--workers", "2", *FAR], 2, "not allowed with"),
+    WrongWords(["audit", "{}", "--resume"], 2, "--resume goes on with a result"),
+    WrongWords(["audit", "{}", "--expect", "{}/none"], 2, "No such file or directory"),
+    WrongWords(["audit", "{}/empty"], 2, "there is no .csv file in"),
+    WrongWords(["audit", "{}/A.csv", "{}/empty/../other/A.csv"], 2, "two files of one instrument"),
+    WrongWords(["audit", "{}", "-o", "{}/empty"], 2, "no result can be written to"),
+    WrongWords(["audit", "{}", "-o", "{}/none/result.csv"], 2, "no result can be written to"),
+    WrongWords(["audit", "{}", "--scheduler", "tls://127.0.0.1:9", *KEYS], 3, "market: "),
+    WrongWords(["run", "{}", "--print", "prices"], 2, "invalid choice: 'prices'"),
 ]
 
 
-@pytest.mark.parametrize("words, status, text", WRONG)
-def test_wrong_words(
-    words: list[str],
-    status: int,
-    text: str,
+@pytest.mark.parametrize("wrong", WRONG)
+def test_wrong_words_are_refused_in_a_line(
+    wrong: WrongWords,
     program: str,
     tmp_path: pathlib.Path,
     monkeypatch: pytest.MonkeyPatch,
@@ -165,15 +184,15 @@ def test_wrong_words(
     (tmp_path / "empty").mkdir()
     write(tmp_path / "other", LAWFUL)
     monkeypatch.setenv("CALLBOARD", program)
-    monkeypatch.setattr(sys, "argv", ["market", *(word.format(tmp_path) for word in words)])
+    monkeypatch.setattr(sys, "argv", ["market", *(word.format(tmp_path) for word in wrong.words)])
     monkeypatch.setattr(callauction.market.workers, "CONNECT_SECONDS", 1)
     try:
         found: object = callauction.market.__main__.main()
     except SystemExit as end:
         found = end.code
     printed = capsys.readouterr()
-    assert (found, printed.out) == (status, "")
-    assert text in printed.err.splitlines()[-1]
+    assert (found, printed.out) == (wrong.status, "")
+    assert wrong.text in printed.err.splitlines()[-1]
 
 
 def test_no_program(tmp_path: pathlib.Path) -> None:

@@ -194,14 +194,13 @@ def test_a_logout_says_why(
 
 
 @pytest.mark.parametrize("heads", [{52: "20200101-00:00:00"}, {49: "EVE"}])
-@pytest.mark.parametrize("kind, pairs", [("D", ORDER), ("5", [])])
+@pytest.mark.parametrize("said", [("D", ORDER), ("5", [])])
 @pytest.mark.parametrize("number, expected", [("3", 4), ("9", 3)])
 def test_a_logout_that_is_wrong_as_what_came_before(
     tmp_path: pathlib.Path,
     begin: str,
     heads: Heads,
-    kind: str,
-    pairs: Pairs,
+    said: tuple[str, Pairs],
     number: str,
     expected: int,
 ) -> None:
@@ -209,7 +208,7 @@ def test_a_logout_that_is_wrong_as_what_came_before(
     the connection ends by its answer, which counts in its turn.
     """
     speaker = Speaker(tmp_path, begin)
-    assert [it[35] for it in speaker.say(kind, pairs, heads)] == ["3", "5"]
+    assert [it[35] for it in speaker.say(*said, heads)] == ["3", "5"]
     assert not speaker.is_closed
     assert speaker.say("5", [], heads | {34: number}) == []
     assert (speaker.is_closed, speaker.expected) == (True, expected)
