@@ -13,7 +13,6 @@ times its audit.
 import argparse
 import os
 import pathlib
-import subprocess
 import tempfile
 import time
 

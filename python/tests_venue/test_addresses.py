@@ -11,7 +11,7 @@ import aiohttp
 import pytest
 import served
 from callauction.venue import addresses
-from callauction.venue.serving import Address
+from callauction.venue.listening_address import Address
 from served import Served
 from speaking import hello
 

@@ -12,8 +12,8 @@ from collections.abc import Callable
 
 import pytest
 import served
-from callauction.venue import addresses, checking, serving
-from callauction.venue.serving import Address, AddressError
+from callauction.venue import addresses, checking, listening_address
+from callauction.venue.listening_address import Address, AddressError
 from certificates import ECDSA, certificate
 from checked_days import checked
 from conftest import FAST
@@ -196,8 +196,8 @@ def test_an_ended_certificate(tmp_path: pathlib.Path, monkeypatch: pytest.Monkey
     status, printed, _ = checked("--folder", tmp_path / "venue", *words)
     assert status == 0 and "address: 127.0.0.1, by a certificate that ends in 30 days" in printed
     now = time.time()
-    later = now + 31 * serving.DAY_SECONDS
-    monkeypatch.setattr("callauction.venue.serving.time.time", lambda: later)
+    later = now + 31 * listening_address.DAY_SECONDS
+    monkeypatch.setattr("callauction.venue.listening_address.time.time", lambda: later)
     with pytest.raises(AddressError, match="the certificate .*/cert.pem has ended"):
         [*checking.checked_address(Address(cert=words[1], key=words[3]))]
 
@@ -231,7 +231,7 @@ def test_what_is_said_and_measured_of_a_certificate(tmp_path: pathlib.Path) -> N
     with served.served(tmp_path, FAST, *words, *measures) as venue:
         def days() -> float:
             ends = measured(f"http://127.0.0.1:{port}")["callboard_certificate_end_seconds"][()]
-            return (ends - time.time()) / serving.DAY_SECONDS
+            return (ends - time.time()) / listening_address.DAY_SECONDS
 
         assert 2.9 < days() < 3.1
         certificate(tmp_path, "second", 5)
@@ -240,7 +240,7 @@ def test_what_is_said_and_measured_of_a_certificate(tmp_path: pathlib.Path) -> N
         venue.child.terminate()
         _, error = venue.child.communicate(timeout=served.SECONDS)
     lines = error.splitlines()
-    ends = time.strftime("%Y-%m-%d", time.gmtime(time.time() + 5 * serving.DAY_SECONDS))
+    ends = time.strftime("%Y-%m-%d", time.gmtime(time.time() + 5 * listening_address.DAY_SECONDS))
     assert lines[1].startswith(f"venue: {for_others}"), error
     assert f"venue: the certificate was taken anew: it ends on {ends}" in lines
     soon = [f"venue: the certificate {words[1]} ends in {it} days: put a new one there"

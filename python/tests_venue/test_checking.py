@@ -9,7 +9,7 @@ import time
 
 import pytest
 import served
-from callauction.venue import AsyncClient, checking, serving
+from callauction.venue import AsyncClient, checking, listening_address
 from callauction.venue.config import DayTerms
 from callauction.venue.day_changes import OtherDayError
 from checked_days import checked, contents, day_before
@@ -120,7 +120,7 @@ def date(moment: float) -> str:
 def aged(log: pathlib.Path) -> None:
     """The day was two days before."""
     lines = [json.loads(it) for it in log.read_text().splitlines()]
-    earlier = [it | {"time": it["time"] - 2 * serving.DAY_SECONDS} for it in lines]
+    earlier = [it | {"time": it["time"] - 2 * listening_address.DAY_SECONDS} for it in lines]
     log.write_text("".join(f"{json.dumps(it)}\n" for it in earlier))
 
 
@@ -152,7 +152,7 @@ def test_a_day_that_is_over_while_its_venue_runs(
         assert (status, error) == (0, "")
         ends = ["XYZ: 3 entries, and the venue runs", f"warning: {DAY_IS_OVER}"]
         assert printed.splitlines()[-2:] == ends
-        today, later = date(time.time()), time.time() + 2 * serving.DAY_SECONDS
+        today, later = date(time.time()), time.time() + 2 * listening_address.DAY_SECONDS
         monkeypatch.setattr(time, "time", lambda: later)
         day = DayTerms.read(tmp_path / "day.toml")
         with pytest.raises(OtherDayError, match=f"its day is over, lastly used on {today}: "):

@@ -14,7 +14,7 @@ import psutil
 import pytest
 import served
 from callauction.venue import AsyncClient, Client, VenueError
-from callauction.venue.serving import Address
+from callauction.venue.listening_address import Address
 from schemas import RECEIVED
 from served import Served, ended
 from speaking import Heard, hello, said

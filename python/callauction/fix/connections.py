@@ -16,9 +16,9 @@ from callauction.fix.wires import STATES, Wire
 from callauction.venue import listening
 from callauction.venue.background import going_on
 from callauction.venue.gates import Gates
+from callauction.venue.listening_address import AddressError
 from callauction.venue.logger import NOTICES
 from callauction.venue.messages import ERRORS
-from callauction.venue.serving import AddressError
 from callauction.venue.venue import Venue
 
 CLIENT_REFUSES = "Received BusinessMessageReject"

@@ -25,9 +25,9 @@ from callauction.venue.background import going_on
 from callauction.venue.book import OPERATOR
 from callauction.venue.fix_terms import FixTerms
 from callauction.venue.listening import Tls
+from callauction.venue.listening_address import AddressError
 from callauction.venue.logger import NOTICES
 from callauction.venue.messages import MessageError
-from callauction.venue.serving import AddressError
 from callauction.venue.venue import Venue
 
 TICK, START_PAUSE = 1.0, 0.5

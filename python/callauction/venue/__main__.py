@@ -20,10 +20,9 @@ from callauction.venue import remedies  # noqa: E402
 from callauction.venue.checking import checked  # noqa: E402
 from callauction.venue.config import DayTerms  # noqa: E402
 from callauction.venue.day_changes import OtherDayError, OtherTermsError  # noqa: E402
+from callauction.venue.listening_address import Address, AddressError  # noqa: E402
 from callauction.venue.logger import NOTICES  # noqa: E402
-from callauction.venue.serving import (  # noqa: E402
-    Address, AddressError, Front, serve, stopped_by_signals,
-)
+from callauction.venue.serving import Front, serve, stopped_by_signals  # noqa: E402
 from callauction.venue.venue import Venue  # noqa: E402
 
 FOLDER = "class.venue"

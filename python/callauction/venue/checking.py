@@ -18,6 +18,7 @@ from callauction.venue.fields import ConfigError
 from callauction.venue.fix_terms import SENT
 from callauction.venue.halts import PUT_BACK
 from callauction.venue.journal import JOURNAL
+from callauction.venue.listening_address import DAY_SECONDS, Address, AddressError, ends_of
 from callauction.venue.log import Line, check_version, read_lines, taking
 from callauction.venue.phases import Phase, TimedPhase
 from callauction.venue.process import OPENED, START_SECONDS, ProcessError
@@ -25,7 +26,7 @@ from callauction.venue.recovery import (
     Entry, RecoveryError, RolledBackError, entries_in, known_entries, mark_of, runs_of, settled,
 )
 from callauction.venue.rounds import Round
-from callauction.venue.serving import DAY_IS_OVER, DAY_SECONDS, Address, AddressError, ends_of
+from callauction.venue.serving import DAY_IS_OVER
 from callauction.venue.starts import starting
 from callauction.venue.timekeeping import (
     CLOCK_BEHIND, LEAST_BEHIND, behind_of, set_since, warnings_of_clock,

@@ -5,12 +5,12 @@ import os
 from callauction.statuses import BAD_DAY, BAD_FILE, FAILED, UNLAWFUL
 from callauction.venue.day_changes import BEGIN_ANEW, OtherDayError
 from callauction.venue.fields import ConfigError
+from callauction.venue.listening_address import AddressError
 from callauction.venue.log import LogError, LogInUse, OtherVersion
 from callauction.venue.owned import OwnerError
 from callauction.venue.process import ProcessError
 from callauction.venue.recovery import RecoveryError
 from callauction.venue.runs import InUseError
-from callauction.venue.serving import AddressError
 from callauction.venue.tokens import TokenError
 
 NO_THREAD = "can't start new thread"
