@@ -169,7 +169,7 @@ def write(folder: pathlib.Path, texts: rules.Texts) -> list[str]:
     return [str(path) for path in paths]
 
 
-def columns(found: Any) -> list[rules.Columns]:
+def columns(found: Any) -> list[rules.KnownColumns]:
     """The rows of a frame, without what is missing and the seconds."""
     records = found.drop(columns="seconds").astype(object).where(found.notna(), None)
     return [

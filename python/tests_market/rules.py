@@ -18,7 +18,7 @@ COUNTS = {"entries", "compared", "unlawful"}
 
 Texts = dict[str, str]
 """Journals by their instruments; a character is a byte."""
-Columns = dict[str, Any]
+KnownColumns = dict[str, Any]
 """The columns of a row that are not None, without the seconds."""
 
 
@@ -37,12 +37,12 @@ def answer(text: str, form: str) -> answers.Answer:
     return answers.answer(text, answers.DEFAULTS, form)
 
 
-def row_of(instrument: str, text: str) -> Columns:
+def row_of(instrument: str, text: str) -> KnownColumns:
     """What the rules say of a journal."""
     status, audit, fault = answer(text, "audit")
     if fault:
         return {"instrument": instrument, "fault": fault.splitlines()[0]}
-    row: Columns = {"instrument": instrument, "auctions": 0, "trades": 0}
+    row: KnownColumns = {"instrument": instrument, "auctions": 0, "trades": 0}
     counts = [line.split() for line in audit.splitlines() if line.split()[0] in COUNTS]
     row |= {name: int(count) for name, count in counts}
     if status == UNLAWFUL:
@@ -55,7 +55,7 @@ def row_of(instrument: str, text: str) -> Columns:
     return row
 
 
-def status_of(rows: list[Columns]) -> int:
+def status_of(rows: list[KnownColumns]) -> int:
     """The status of an audit with these rows."""
     if any("fault" in row for row in rows):
         return 1
@@ -67,7 +67,7 @@ def status_of(rows: list[Columns]) -> int:
     return 0 if is_whole and any(row["compared"] for row in rows) else INCOMPLETE
 
 
-def take_uncross(row: Columns, words: list[str]) -> None:
+def take_uncross(row: KnownColumns, words: list[str]) -> None:
     """Takes in what the words of a reply say of an auction that ended, if they do."""
     if words[0] not in AUCTIONS:
         return
@@ -80,6 +80,6 @@ def take_uncross(row: Columns, words: list[str]) -> None:
         row["trades"] += int(words[9])
 
 
-def rows_of(texts: Texts) -> list[Columns]:
+def rows_of(texts: Texts) -> list[KnownColumns]:
     """What the rules say of journals, in the order of their instruments."""
     return [row_of(instrument, texts[instrument]) for instrument in sorted(texts)]

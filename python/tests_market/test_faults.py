@@ -24,7 +24,7 @@ exec "{program}" "$@"
 """
 
 
-def rows_with(faults: dict[str, str]) -> list[rules.Columns]:
+def rows_with(faults: dict[str, str]) -> list[rules.KnownColumns]:
     """The rows of TEXTS, and of these instruments with their faults, in their order."""
     bad = [{"instrument": name, "fault": fault} for name, fault in faults.items()]
     return sorted(rules.rows_of(TEXTS) + bad, key=lambda row: str(row["instrument"]))

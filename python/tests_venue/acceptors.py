@@ -6,10 +6,10 @@ import fixing
 from callauction.fix._quickfix import Engine
 from callauction.fix.settings import settings_of
 from callauction.fix.tags import FIXT
-from fixing import SOH, Message, Pairs
+from fixing import SOH, FixFields, FixMessage
 
 TIME = "20261126-09:00:00"
-ORDER: Pairs = [(11, "a1"), (55, "XYZ"), (54, "1"), (60, TIME), (38, "10"), (40, "1")]
+ORDER: FixFields = [(11, "a1"), (55, "XYZ"), (54, "1"), (60, TIME), (38, "10"), (40, "1")]
 Heads = dict[Any, str]
 NONE = "none"
 """A tag of a head with this value is left out."""
@@ -24,14 +24,14 @@ class Speaker:
         self.is_closed, self.number = False, 1
         self.begun = self.connect(beats)
 
-    def connect(self, beats: str, heads: Heads = {}) -> list[Message]:
+    def connect(self, beats: str, heads: Heads = {}) -> list[FixMessage]:
         """What is answered to a Logon on a new connection."""
         self.connection, self.is_closed = self.engine.connect(), False
         logon = [(98, "0"), (108, beats), (554, "any")]
         logon += [(1137, "9")] if self.begin == FIXT else []
         return self.say("A", logon, heads)
 
-    def say(self, kind: str, pairs: Pairs, heads: Heads = {}) -> list[Message]:
+    def say(self, kind: str, pairs: FixFields, heads: Heads = {}) -> list[FixMessage]:
         """What is answered to a message with the next number, and with these tags in its head."""
         self.engine.feed(self.connection, self.written(kind, pairs, heads))
         if self.engine.is_leaving(self.connection):
@@ -39,7 +39,7 @@ class Speaker:
         self.number += 1
         return self.heard()
 
-    def written(self, kind: str, pairs: Pairs, heads: Heads = {}) -> bytes:
+    def written(self, kind: str, pairs: FixFields, heads: Heads = {}) -> bytes:
         """The bytes of a message."""
         head = {35: kind, 34: str(self.number), 49: "SLIPS", 52: fixing.stamp(), 56: "VENUE"}
         fields = [*(head | heads).items(), *pairs]
@@ -48,7 +48,7 @@ class Speaker:
         text = b"8=" + self.begin.encode() + SOH + b"9=%d" % len(body) + SOH + body
         return text + b"10=%03d" % (sum(text) % 256) + SOH
 
-    def heard(self) -> list[Message]:
+    def heard(self) -> list[FixMessage]:
         """All that was sent since."""
         data = b""
         for number, block, _, is_last in self.engine.outgoing():
@@ -70,7 +70,7 @@ class Speaker:
         return (found[35], found.get(112)) == ("0", "next")
 
 
-def refusal(given: list[Message]) -> tuple[str, ...]:
+def refusal(given: list[FixMessage]) -> tuple[str, ...]:
     """The one Reject that was sent: which message, its type, the tag, the reason."""
     [found] = given
     assert found[35] == "3" and found[58]
@@ -87,7 +87,7 @@ class Asking:
 
     def keep(self, *numbers: int) -> None:
         """The session was sent a report under each of these numbers in an earlier run."""
-        pairs: Pairs = [(37, "1"), (17, "X"), (150, "0"), (39, "0"), (55, "XYZ"), (54, "1")]
+        pairs: FixFields = [(37, "1"), (17, "X"), (150, "0"), (39, "0"), (55, "XYZ"), (54, "1")]
         for number in numbers:
             self.engine.store(self.session, number, "8", pairs, fixing.stamp())
 
@@ -97,7 +97,7 @@ class Asking:
         self.say("A", [(98, "0"), (108, "30"), (554, "any")], 1)
         return self.number
 
-    def say(self, kind: str, pairs: Pairs, number: int) -> list[Message]:
+    def say(self, kind: str, pairs: FixFields, number: int) -> list[FixMessage]:
         """What is answered to a message."""
         self.engine.feed(self.number, fixing.written(kind, number, "HOLES", pairs))
         found = b"".join(data for _, data, *_ in self.engine.outgoing())

@@ -15,7 +15,7 @@ from typing import Any
 
 
 @dataclasses.dataclass(eq=False)
-class File:
+class DiskFile:
     """A file: what it holds, and what of it is on the disk."""
 
     mode: int
@@ -28,11 +28,11 @@ class File:
 class Opened:
     """An open file, or the folder, and the place in it."""
 
-    file: File | None
+    file: DiskFile | None
     place: int = 0
 
 
-Names = dict[str, File]
+DiskNames = dict[str, DiskFile]
 
 
 class Disk:
@@ -41,8 +41,8 @@ class Disk:
     """
 
     def __init__(self) -> None:
-        self.names: Names = {}
-        self.synced: Names = {}
+        self.names: DiskNames = {}
+        self.synced: DiskNames = {}
         self.opened: dict[int, Opened] = {}
         self.changes = self.fails = 0
         self.states: list[dict[str, bytes]] = []
@@ -69,7 +69,7 @@ class Disk:
             if not flags & real.O_CREAT:
                 raise FileNotFoundError(errno.ENOENT, "No such file or directory", str(path))
             self.changed()
-            found = self.names[path.name] = File(stat.S_IFREG | mode, real.geteuid())
+            found = self.names[path.name] = DiskFile(stat.S_IFREG | mode, real.geteuid())
         elif flags & real.O_EXCL:
             raise FileExistsError(errno.EEXIST, "File exists", str(path))
         self.opened[number] = Opened(found)
@@ -127,6 +127,6 @@ class Disk:
         """The disk after a crash that left this."""
         found = Disk()
         for name, content in state.items():
-            found.names[name] = File(stat.S_IFREG | 0o600, real.geteuid(), content, content)
+            found.names[name] = DiskFile(stat.S_IFREG | 0o600, real.geteuid(), content, content)
         found.synced = dict(found.names)
         return found

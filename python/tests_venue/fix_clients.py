@@ -9,10 +9,10 @@ import fixing
 from callauction.fix import dictionaries
 from callauction.fix._quickfix import Engine
 from callauction.fix.tags import FIX44, FIXT
-from fixing import Message, Peer
+from fixing import FixMessage, Peer
 
 
-class Asked(Peer):
+class GapPeer(Peer):
     """A client that keeps from which number on messages were asked for."""
 
     def __init__(self, port: int, member: str) -> None:
@@ -72,7 +72,7 @@ class Initiator:
         text += DICTIONARIES[begin].format(folder=folder) + more
         self.session = f"{begin}:{member}->VENUE"
         self._engine, self._port, self._password = Engine(text), port, password
-        self.got: list[Message] = []
+        self.got: list[FixMessage] = []
         self.events: list[str] = []
         self.heard = b""
         self.socket: socket.socket | None = None
@@ -93,7 +93,7 @@ class Initiator:
         self.socket.close()
         self._engine.lost(self._number)
 
-    def send(self, kind: str, pairs: fixing.Pairs) -> None:
+    def send(self, kind: str, pairs: fixing.FixFields) -> None:
         """Sends a message, or leaves it to the next Logon."""
         self._engine.send(self.session, kind, [*pairs, (60, fixing.stamp())])
 

@@ -1,12 +1,12 @@
 """Messages by FIX, as clients write them and as tests read them."""
 import fixing
-from fixing import Message, Pairs, Peer
+from fixing import FixFields, FixMessage, Peer
 
 TIME = "20261126-09:00:00"
 HEAD = [(50, "desk"), (57, "floor")]
 NOTHING = [(1, "a"), (21, "1"), (58, "text"), (100, "XETR"), (207, "XETR"), (528, "A"), (581, "1")]
 """Tags that change nothing."""
-NEEDED: dict[str, list[Pairs]] = {
+NEEDED: dict[str, list[FixFields]] = {
     "D": [[(11, "n1")], [(55, "XYZ")], [(54, "1")], [(60, TIME)], [(38, "10")], [(40, "1")]],
     "G": [
         *([(41, "a1")], [(11, "n1")], [(55, "XYZ")], [(54, "1")], [(60, TIME)]),
@@ -27,23 +27,23 @@ NEEDED: dict[str, list[Pairs]] = {
 NO_ORDER = "there is no order of this ClOrdID in this day"
 
 
-def whole(kind: str, *but: int) -> Pairs:
+def whole(kind: str, *but: int) -> FixFields:
     """A message that has what it needs but for these tags."""
     return [it for group in NEEDED[kind] if group[0][0] not in but for it in group]
 
 
-def order(client: str, side: str, shares: str, *more: tuple[int, str]) -> Pairs:
+def order(client: str, side: str, shares: str, *more: tuple[int, str]) -> FixFields:
     """A NewOrderSingle."""
     return [(11, client), (55, "XYZ"), (54, side), (60, TIME), (38, shares), *more]
 
 
-def answer(peer: Peer, kind: str, pairs: Pairs, head: Pairs = []) -> Message:
+def answer(peer: Peer, kind: str, pairs: FixFields, head: FixFields = []) -> FixMessage:
     """What is answered to a message."""
     peer.say(kind, pairs, head)
     return peer.take(lambda it: it[35] not in "0124A")
 
 
-def picked(given: Message, *tags: int) -> tuple[str, ...]:
+def picked(given: FixMessage, *tags: int) -> tuple[str, ...]:
     """These tags of a message, empty where it hasn't one."""
     return tuple(given.get(it, "") for it in tags)
 
@@ -56,7 +56,7 @@ FROM = [(115, "CLIENT"), (142, "FLOOR")]
 """What clients send with orders beside what these are."""
 
 
-def mass_cancel(peer: Peer, client: str, *more: tuple[int, str]) -> Message:
+def mass_cancel(peer: Peer, client: str, *more: tuple[int, str]) -> FixMessage:
     """The answer to an OrderMassCancelRequest."""
     peer.say("q", [(11, client), *more, (60, fixing.stamp())])
     return peer.take(lambda it: it[35] == "r")
@@ -71,7 +71,7 @@ def ask_data(
     peer.say("V", [(262, request), (263, how), (264, "1"), *more, *entries, *symbols])
 
 
-def rows(peer: Peer, kind: str) -> list[Message]:
+def rows(peer: Peer, kind: str) -> list[FixMessage]:
     """The rows of the next message of market data, which is of this kind."""
     peer.socket.settimeout(fixing.SECONDS)
     pairs = fixing.parsed(peer.whole())
@@ -79,7 +79,7 @@ def rows(peer: Peer, kind: str) -> list[Message]:
     assert (35, kind) in pairs, pairs
     first = 279 if kind == "X" else 269
     count = int(dict(pairs)[268])
-    found: list[Message] = []
+    found: list[FixMessage] = []
     place = pairs.index((268, str(count)))
     for tag, value in pairs[place + 1 : -1]:
         if tag == first:

@@ -7,7 +7,7 @@ from collections.abc import Iterator
 
 import fixing
 import served
-from fixing import Message, Peer
+from fixing import FixMessage, Peer
 
 
 @contextlib.contextmanager
@@ -61,7 +61,7 @@ def killable(folder: pathlib.Path, day: str) -> Iterator[Killable]:
         found.venue.child.communicate()
 
 
-def settled(peer: Peer, count: int) -> list[Message]:
+def settled(peer: Peer, count: int) -> list[FixMessage]:
     """The reports so far, once so many orders are cancelled. Raises AssertionError."""
     last = time.monotonic() + fixing.SECONDS
     while len([it for it in peer.got if it.get(150) == "4"]) < count:

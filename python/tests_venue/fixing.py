@@ -10,8 +10,8 @@ import time
 from collections.abc import Callable
 
 SOH = b"\x01"
-Message = dict[int, str]
-Pairs = list[tuple[int, str]]
+FixMessage = dict[int, str]
+FixFields = list[tuple[int, str]]
 SECONDS = 60.0
 QUIET = 1.0
 """Seconds without a message after which nothing more is to come."""
@@ -56,8 +56,8 @@ def written(
     kind: str,
     number: int,
     sender: str,
-    pairs: Pairs,
-    head: Pairs = [],
+    pairs: FixFields,
+    head: FixFields = [],
     begin: bytes = b"FIX.4.4",
 ) -> bytes:
     """The bytes of a message to the venue."""
@@ -67,7 +67,7 @@ def written(
     return text + b"10=%03d" % (sum(text) % 256) + SOH
 
 
-def parsed(text: bytes) -> Pairs:
+def parsed(text: bytes) -> FixFields:
     """The fields of a message. Raises AssertionError where its length or its sum is wrong."""
     parts = [it.partition(b"=") for it in text.split(SOH)[:-1]]
     assert [parts[0][0], parts[1][0], parts[2][0], parts[-1][0]] == [b"8", b"9", b"35", b"10"]
@@ -92,8 +92,8 @@ class Peer:
     def __init__(self, port: int, member: str, context: ssl.SSLContext | None = None) -> None:
         self.port, self.member, self._context = port, member, context
         self.number = self.expected = 1
-        self.sent: dict[int, tuple[str, Pairs]] = {}
-        self.got: list[Message] = []
+        self.sent: dict[int, tuple[str, FixFields]] = {}
+        self.got: list[FixMessage] = []
         self._rest = b""
 
     # ---- bytes
@@ -109,7 +109,7 @@ class Peer:
         """Ends the connection without a word."""
         self.socket.close()
 
-    def say(self, kind: str, pairs: Pairs, head: Pairs = []) -> int:
+    def say(self, kind: str, pairs: FixFields, head: FixFields = []) -> int:
         """Sends a message with the next number: that number."""
         number = self.number
         self.number += 1
@@ -117,7 +117,7 @@ class Peer:
         self.socket.sendall(self.written(kind, number, pairs, head))
         return number
 
-    def written(self, kind: str, number: int, pairs: Pairs, head: Pairs) -> bytes:
+    def written(self, kind: str, number: int, pairs: FixFields, head: FixFields) -> bytes:
         """The bytes of a message of it."""
         return written(kind, number, self.member, pairs, head, self.begin)
 
@@ -138,13 +138,13 @@ class Peer:
 
     # ---- the session
 
-    def logon(self, password: str, *more: tuple[int, str]) -> Message:
+    def logon(self, password: str, *more: tuple[int, str]) -> FixMessage:
         """Logs on, and has what was missed sent again: the answer. Raises Closed."""
         self.connect()
         self.say("A", [(98, "0"), (108, "30"), (554, password), *more])
         return self.take(lambda it: it[35] == "A")
 
-    def take(self, is_wanted: Callable[[Message], bool], seconds: float = SECONDS) -> Message:
+    def take(self, is_wanted: Callable[[FixMessage], bool], seconds: float = SECONDS) -> FixMessage:
         """Takes messages until the one that is wanted. Raises Closed, TimeoutError."""
         last = time.monotonic() + seconds
         while True:
@@ -152,7 +152,7 @@ class Peer:
             if (found := self._heard(dict(parsed(self.whole())))) and is_wanted(found):
                 return found
 
-    def all(self, seconds: float = QUIET) -> list[Message]:
+    def all(self, seconds: float = QUIET) -> list[FixMessage]:
         """What comes until nothing has come for a while."""
         before = len(self.got)
         try:
@@ -161,7 +161,7 @@ class Peer:
         except TimeoutError:
             return self.got[before:]
 
-    def _heard(self, given: Message) -> Message | None:
+    def _heard(self, given: FixMessage) -> FixMessage | None:
         """Takes a message in its order; of one that is too early those before it are asked for,
         once what it asks for itself was sent again.
         """
@@ -183,7 +183,7 @@ class Peer:
             self.got.append(given)
         return given
 
-    def _serve(self, given: Message) -> None:
+    def _serve(self, given: FixMessage) -> None:
         """Answers what the session asks."""
         if given[35] == "1":
             self.say("0", [(112, given[112])])

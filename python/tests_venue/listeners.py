@@ -7,7 +7,7 @@ from callauction.venue.members import VenueMember
 from callauction.venue.messages import TOPICS
 
 
-class Listener:
+class Hearer:
     """A member who is connected, or the operator, and what was last said to it by each key."""
 
     is_leaving = False
@@ -24,7 +24,7 @@ class Listener:
         raise AssertionError(code)
 
 
-class Line(asyncio.Transport):
+class NoTransport(asyncio.Transport):
     """A transport of a connection that isn't there."""
 
     is_read = True

@@ -6,12 +6,14 @@ import aiohttp
 import served
 from served import Served
 
-Heard = list[dict[str, Any]]
+SaidMessages = list[dict[str, Any]]
 
 
-async def said(venue: Served, *texts: str, headers: dict[str, str] = {}, count: int = 1) -> Heard:
+async def said(
+    venue: Served, *texts: str, headers: dict[str, str] = {}, count: int = 1
+) -> SaidMessages:
     """What a connection hears first after it says these texts."""
-    heard: Heard = []
+    heard: SaidMessages = []
     async with aiohttp.ClientSession() as web:
         async with web.ws_connect(f"{venue.url}api/socket", headers=headers) as socket:
             for text in texts:

@@ -23,7 +23,7 @@ DO = (
 )
 
 
-class Clock:
+class SetClock:
     """A clock that a test sets."""
 
     def __init__(self) -> None:
@@ -46,7 +46,7 @@ def came(found: Arrivals, address: str, name: str = "Anna") -> bool:
 
 def test_a_class_behind_one_address(caplog: pytest.LogCaptureFixture) -> None:
     """Forty come at once, then one each few seconds; others come meanwhile."""
-    clock = Clock()
+    clock = SetClock()
     found = Arrivals(40, clock)
     assert [came(found, "10.0.0.1", f"member {it}") for it in range(40)] == [True] * 40
     assert not found.take_change() and not came(found, "10.0.0.1")
@@ -67,18 +67,18 @@ def test_a_class_behind_one_address(caplog: pytest.LogCaptureFixture) -> None:
 
 
 def test_addresses_of_one_network_are_one() -> None:
-    found = Arrivals(2, Clock())
+    found = Arrivals(2, SetClock())
     assert [came(found, f"2001:db8::{it}") for it in range(3)] == [True, True, False]
     assert [*found.slowed()] == ["2001:db8::/64"] and came(found, "2001:db8:0:1::1")
 
 
 def test_any_number_where_the_day_says_so() -> None:
-    found = Arrivals(0, Clock())
+    found = Arrivals(0, SetClock())
     assert all(came(found, "10.0.0.1") for _ in range(100)) and not found.slowed()
 
 
 def test_what_is_kept_of_addresses_has_bounds() -> None:
-    found = Arrivals(1, Clock())
+    found = Arrivals(1, SetClock())
     for place in range(2 * arrivals.MOST_ADDRESSES):
         assert came(found, f"10.0.{place // 256}.{place % 256}")
     assert len(found._origins) == arrivals.MOST_ADDRESSES

@@ -53,13 +53,13 @@ def test_two_robots_trade(venue: Served) -> None:
     assert names == "number,name\n1,Anna\n2,Bert\n"
 
 
-class Wire:
+class HandConnection:
     """A connection by hand."""
 
     def __init__(self, venue: Served, token: str) -> None:
         self.venue, self.token = venue, token
 
-    async def __aenter__(self) -> "Wire":
+    async def __aenter__(self) -> "HandConnection":
         self.web = aiohttp.ClientSession()
         self.socket = await self.web.ws_connect(f"{self.venue.url}api/socket")
         hello = {"type": "hello", "token": self.token, "topics": []}
@@ -85,7 +85,7 @@ def test_a_message_is_executed_once(venue: Served) -> None:
     enter = {"type": "enter", "number": 7, "side": "bid", "quantity": 5, "price": "2.00"}
 
     async def talk() -> None:
-        async with Wire(venue, token) as wire:
+        async with HandConnection(venue, token) as wire:
             assert wire.welcome["last"] == 0
             first = await wire.says(enter)
             assert (first["entry"], first["again"]) == (1, False)
@@ -94,7 +94,7 @@ def test_a_message_is_executed_once(venue: Served) -> None:
             assert (other["error"], other["number"]) == ("number_used", 7)
             later = await wire.says(enter | {"number": 3})
             assert (later["entry"], later["order"]) == (2, 2)
-        async with Wire(venue, token) as wire:
+        async with HandConnection(venue, token) as wire:
             assert wire.welcome["last"] == 7
             assert (await wire.says(enter))["again"]
 
@@ -109,7 +109,7 @@ def test_two_connections_send_one_message_at_once(venue: Served) -> None:
     enter = {"type": "enter", "number": 1, "side": "bid", "quantity": 5, "price": "2.00"}
 
     async def talk() -> None:
-        async with Wire(venue, token) as first, Wire(venue, token) as second:
+        async with HandConnection(venue, token) as first, HandConnection(venue, token) as second:
             found = await asyncio.gather(*(it.says(enter) for it in (first, second)))
         assert sorted(it["again"] for it in found) == [False, True]
         assert {it["entry"] for it in found} == {1}
@@ -124,7 +124,7 @@ def test_a_freeze_and_a_number_that_stays_free(venue: Served) -> None:
     enter = {"type": "enter", "number": 1, "side": "bid", "quantity": 5, "price": "2.00"}
 
     async def talk() -> None:
-        async with Wire(venue, token) as wire:
+        async with HandConnection(venue, token) as wire:
             assert (await wire.says(enter))["error"] == "frozen"
             await asyncio.to_thread(venue.do, "thaw")
             assert (await wire.says(enter | {"quantity": 6}))["reply"] == "entered 1"

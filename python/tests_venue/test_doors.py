@@ -17,7 +17,7 @@ from callauction.venue import AsyncClient, Client, VenueError
 from callauction.venue.listening_address import Address
 from schemas import RECEIVED
 from served import Served, ended
-from speaking import Heard, hello, said
+from speaking import SaidMessages, hello, said
 
 ENTER = {"type": "enter", "number": 1, "side": "bid", "quantity": 5, "price": "2.00"}
 
@@ -76,8 +76,8 @@ def test_a_member_sees_no_others_orders_in_a_call(venue: Served) -> None:
     anna, bert = venue.join("Anna"), venue.join("Bert")
     venue.do("start")
 
-    async def heard() -> Heard:
-        found: Heard = []
+    async def heard() -> SaidMessages:
+        found: SaidMessages = []
         topics = ("states", "orders", "fills", "trades")
         first, second = AsyncClient(venue.url, anna, topics), AsyncClient(venue.url, bert)
         async with first as me, second as other:

@@ -24,7 +24,7 @@ from callauction.venue.process import ProcessError
 from callauction.venue.rounds import Round
 from callauction.venue.venue import Venue
 from conftest import FAST
-from listeners import Listener
+from listeners import Hearer
 from patience import until
 from rounds import trade
 from watched import looked, measured
@@ -187,7 +187,7 @@ async def test_who_comes_during_a_first_look(
         monkeypatch.setattr(board.engine, "show", slow)
         resuming = asyncio.create_task(venue.starts.resume())
         await begins.wait()
-        venue.audience.enter(listener := Listener(member))
+        venue.audience.enter(listener := Hearer(member))
         venue.audience.greet(listener)
         assert "orders XYZ" not in listener.said
         ends.set()
@@ -206,7 +206,7 @@ async def test_a_call_that_ended_while_its_board_had_halted(
     (folder := tmp_path / "venue").mkdir(0o700)
     why, does = "the call of XYZ has ended while it had halted", "`extend` lets it go on"
     async with without_journal(folder, True) as (venue, board), asyncio.timeout(served.SECONDS):
-        venue.audience.watchers[listener := Listener()] = None
+        venue.audience.watchers[listener := Hearer()] = None
         await asyncio.sleep(1)
         assert await venue.starts.resume() == ["XYZ"]
         assert board.auctions.state.phase is Phase.ENDED
@@ -227,7 +227,7 @@ async def test_payoffs_wait_for_a_round_to_begin(
     instruments = tuple(InstrumentTerms(name=name) for name in ("ONE", "TWO", "THREE"))
     venue = Venue(DayTerms(is_synced=False, instruments=instruments), tmp_path, served.program())
     await venue.open()
-    venue.audience.watchers[Listener()] = None
+    venue.audience.watchers[Hearer()] = None
     counts: list[int] = []
     payoffs = results.payoffs
 

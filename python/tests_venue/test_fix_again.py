@@ -12,10 +12,10 @@ import served
 from callauction.fix.reports import MOST_AGE
 from fix_messages import TIME, answer, order, picked
 from fix_venues import Killable, killable, reset, until_logged
-from fixing import Message, Pairs, Peer
+from fixing import FixFields, FixMessage, Peer
 
 
-def heard_again(day: Killable, peer: Peer, folder: pathlib.Path, client: str) -> Message:
+def heard_again(day: Killable, peer: Peer, folder: pathlib.Path, client: str) -> FixMessage:
     """The report of an order that is sent again once the venue was killed."""
     day.again()
     again = Peer(peer.port, peer.member)
@@ -92,8 +92,8 @@ def test_a_reject_is_sent_again(tmp_path: pathlib.Path) -> None:
 OTHER_DAY = "it was sent first before this day began: empty your store each day"
 IS_USED = "this ClOrdID was used"
 """What is said of an order that is sent again with 97=Y, and without."""
-CANCEL: Pairs = [(41, "none"), (11, "f1"), (55, "XYZ"), (54, "1"), (60, TIME)]
-REFUSED: dict[str, tuple[str, Pairs]] = {
+CANCEL: FixFields = [(41, "none"), (11, "f1"), (55, "XYZ"), (54, "1"), (60, TIME)]
+REFUSED: dict[str, tuple[str, FixFields]] = {
     "by the venue": ("D", order("a1", "1", "10", (40, "1"), (59, "3"))),
     "by the program": ("D", order("a2", "1", "10", (40, "2"), (44, "99.00"))),
     "a cancel": ("F", CANCEL),
@@ -140,7 +140,7 @@ def test_what_was_refused_and_is_sent_again(tmp_path: pathlib.Path) -> None:
 class Former(Peer):
     """A client whose store has messages of the day before, and so its number."""
 
-    def __init__(self, port: int, member: str, former: list[tuple[str, str, Pairs]]) -> None:
+    def __init__(self, port: int, member: str, former: list[tuple[str, str, FixFields]]) -> None:
         super().__init__(port, member)
         self._former = former
         self.number = len(former) + 1
@@ -161,8 +161,8 @@ def test_what_was_for_another_day(tmp_path: pathlib.Path) -> None:
     day = fixing.day_of(port, "ALICE")
     with served.served(tmp_path, day) as venue:
         venue.do("start")
-        limit: Pairs = [(40, "2"), (44, "2.00")]
-        all_orders: Pairs = [(11, "q1"), (530, "7"), (60, before)]
+        limit: FixFields = [(40, "2"), (44, "2.00")]
+        all_orders: FixFields = [(11, "q1"), (530, "7"), (60, before)]
         former = [
             (fixing.stamp(), "D", order("a1", "1", "10", *limit)),
             (before, "D", order("a2", "1", "10", *limit)),
@@ -214,7 +214,7 @@ def test_whose_clock_is_wrong_sends_again(
     """
     monkeypatch.setattr(fixing, "stamp", lambda: ago(behind))
     port, folder = served.free_port(), tmp_path / "venue"
-    limit: Pairs = [(40, "2"), (44, "2.00")]
+    limit: FixFields = [(40, "2"), (44, "2.00")]
     with served.served(tmp_path, fixing.day_of(port, "ALICE")) as venue:
         venue.do("start")
         former = [

@@ -19,7 +19,7 @@ from callauction.fix.wires import ANSWER_SECONDS
 from callauction.venue.gates import STUCK_SECONDS
 from callauction.venue.passing import IN_VAIN_SECONDS, SLICE
 from certificates import certificate
-from fixing import IS_REMOVED, SOH, Closed, Pairs, Peer
+from fixing import IS_REMOVED, SOH, Closed, FixFields, Peer
 from patience import TIMED
 from served import Served
 
@@ -140,7 +140,7 @@ def test_strangers_are_sent_nothing(front: Fronted, kind: str) -> None:
     ],
 )
 def test_a_logon_that_can_not_be_taken_is_told_why(
-    front: Fronted, fields: Pairs, text: str
+    front: Fronted, fields: FixFields, text: str
 ) -> None:
     """Where its password is right; then a right one is taken, under the next number."""
     peer = Peer(front.port, "BOB")
@@ -273,7 +273,7 @@ def test_who_is_there_stays(front: Fronted) -> None:
     assert waits(first, 3) < MOST_WAIT
 
 
-def refused(front: Fronted, more: Pairs) -> dict[int, str]:
+def refused(front: Fronted, more: FixFields) -> dict[int, str]:
     """What a member is answered to an order with these fields."""
     peer = front.peer("BOB")
     peer.enter("b1", "1", 10, "2.00", *more)
@@ -308,9 +308,9 @@ def test_values_that_are_not_taken_are_refused(front: Fronted, pair: tuple[int, 
 @pytest.mark.parametrize("kind", [*"89WXYhryER", "AE", "BE"])
 def test_other_types_are_refused(front: Fronted, kind: str) -> None:
     peer = front.peer("BOB")
-    report: Pairs = [(37, "1"), (17, "x"), (150, "0"), (39, "0"), (55, "XYZ"), (54, "1")]
+    report: FixFields = [(37, "1"), (17, "x"), (150, "0"), (39, "0"), (55, "XYZ"), (54, "1")]
     report += [(151, "0"), (14, "0"), (6, "0")]
-    others: dict[str, Pairs] = {
+    others: dict[str, FixFields] = {
         "8": report,
         "9": [(37, "1"), (11, "x"), (41, "y"), (39, "0"), (434, "1")],
         "W": [(55, "XYZ"), (268, "1"), (269, "0")],
@@ -346,11 +346,11 @@ def test_other_types_are_refused_whatever_is_in_them(front: Fronted, kind: str) 
     assert waits(peer, 4) < MOST_WAIT
 
 
-LACKING: list[Pairs] = [[], [(45, "2")], [(45, "2"), (372, "D"), (380, "0"), (9999, "x")]]
+LACKING: list[FixFields] = [[], [(45, "2")], [(45, "2"), (372, "D"), (380, "0"), (9999, "x")]]
 
 
 @pytest.mark.parametrize("pairs", LACKING)
-def test_a_refusal_that_lacks_a_tag_is_not_refused(front: Fronted, pairs: Pairs) -> None:
+def test_a_refusal_that_lacks_a_tag_is_not_refused(front: Fronted, pairs: FixFields) -> None:
     peer = front.peer("BOB")
     peer.say("j", pairs)
     assert peer.all() == []
@@ -377,8 +377,9 @@ def test_a_wrong_sum_is_passed_over_and_asked_for_again(front: Fronted) -> None:
     number = peer.number
     spoiled = fixing.written("D", number, "BOB", [(11, "b1")])
     peer.socket.sendall(spoiled[:-4] + b"%03d" % ((int(spoiled[-4:-1]) + 1) % 256) + SOH)
-    kind: Pairs = [(11, "b1"), (55, "XYZ"), (54, "1"), (60, fixing.stamp()), (38, "5"), (40, "1")]
-    peer.number, peer.sent[number] = number + 1, ("D", kind)
+    order: FixFields = [(11, "b1"), (55, "XYZ"), (54, "1")]
+    pairs = [*order, (60, fixing.stamp()), (38, "5"), (40, "1")]
+    peer.number, peer.sent[number] = number + 1, ("D", pairs)
     peer.enter("b2", "1", 6, "2.00")
     assert peer.take(lambda it: it[35] == "8")[11] == "b1"
     assert peer.take(lambda it: it[35] == "8")[11] == "b2"

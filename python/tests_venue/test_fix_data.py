@@ -9,7 +9,7 @@ import pytest
 import served
 from acceptors import ORDER, Speaker, refusal
 from fix_venues import on
-from fixing import SOH, Closed, Pairs
+from fixing import SOH, Closed, FixFields
 
 DATA = ["abc", "\x01", "a\x01b", "a\x0158=b", "a\x0135=5\x0134=9", "a\x0110=123\x01", "=\x01="]
 """Data, most with the end of a field."""
@@ -22,7 +22,7 @@ NO_TAGS = [b"x=1", b" 58=x", b"58 =x", b"58", b"=5", b"", b"-1=5", b"+58=x", b"0
 WRONG_TAG = "a tag is no number of at most 9 digits"
 
 
-def with_raw(speaker: Speaker, kind: str, pairs: Pairs, raw: bytes) -> bytes:
+def with_raw(speaker: Speaker, kind: str, pairs: FixFields, raw: bytes) -> bytes:
     """The bytes of a message, with these at its end as a field."""
     begin, _, rest = speaker.written(kind, pairs).split(SOH, 2)
     body = rest[: -len("10=000|")] + raw + SOH
@@ -30,7 +30,7 @@ def with_raw(speaker: Speaker, kind: str, pairs: Pairs, raw: bytes) -> bytes:
     return text + b"10=%03d" % (sum(text) % 256) + SOH
 
 
-def data_of(tags: tuple[int, int], data: str) -> Pairs:
+def data_of(tags: tuple[int, int], data: str) -> FixFields:
     """Data after their length."""
     return [(tags[0], str(len(data))), (tags[1], data)]
 
@@ -163,7 +163,7 @@ def test_a_logon_that_can_not_be_read(
     assert found[35] == "A"
 
 
-def logon_of(speaker: Speaker) -> Pairs:
+def logon_of(speaker: Speaker) -> FixFields:
     """A Logon, its password last."""
     more = [] if speaker.begin == "FIX.4.4" else [(1137, "9")]
     return [(98, "0"), (108, "30"), *more, (554, "any")]

@@ -11,7 +11,7 @@ import sys
 import fixing
 import judged
 import served
-from fixing import Pairs, Peer
+from fixing import FixFields, Peer
 from served import Served
 
 EXAMPLE = served.PACKAGE.parent / "examples/fix"
@@ -44,7 +44,7 @@ class Walk:
         else:
             self.venue.do(line.removeprefix("operator "))
 
-    def say(self, member: str, pairs: Pairs) -> None:
+    def say(self, member: str, pairs: FixFields) -> None:
         """A member says this, in a connection that begins with its Logon."""
         (_, kind), (_, number), *rest = pairs
         if kind == "A":
@@ -57,7 +57,7 @@ class Walk:
         data = fixing.written(kind, int(number), member, rest, head)
         self.peers[member].socket.sendall(data)
 
-    def hear(self, member: str, pairs: Pairs) -> None:
+    def hear(self, member: str, pairs: FixFields) -> None:
         """A member is sent this, and nothing else before. Raises AssertionError."""
         found = fixing.parsed(self.peers[member].whole())
         assert sorted(it for it in found if it[0] not in AROUND) == sorted(pairs)

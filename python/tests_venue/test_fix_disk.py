@@ -8,7 +8,7 @@ from collections.abc import Iterator
 
 import fixing
 import served
-from fixing import Message, Peer
+from fixing import FixMessage, Peer
 from machines import ON_SMALL_DISK
 
 REQUESTS = 100
@@ -143,7 +143,7 @@ def test_reports_that_follow_from_the_log(tmp_path: pathlib.Path) -> None:
                 venue.child.communicate()
 
 
-def check_again(peer: Peer, told: dict[int, Message]) -> None:
+def check_again(peer: Peer, told: dict[int, FixMessage]) -> None:
     """Raises AssertionError where what a member was told isn't sent again as it was."""
     peer.say("2", [(7, str(min(told))), (16, str(max(told)))])
     for number in sorted(told):
@@ -175,7 +175,7 @@ AROUND = (9, 10, 52)
 """What another sending of a message has otherwise, beside what is added."""
 
 
-def events(given: list[Message]) -> list[str]:
+def events(given: list[FixMessage]) -> list[str]:
     """The ids of reports."""
     return [it[17] for it in given if it[35] == "8"]
 

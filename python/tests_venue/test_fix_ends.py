@@ -14,7 +14,7 @@ import served
 from callauction.fix.connections import LOGOUT_SECONDS
 from callauction.fix.resets import LEAVE_SECONDS
 from fix_venues import day_with_copy, on, reset, until_logged
-from fixing import IS_REMOVED, Closed, Message, Pairs, Peer
+from fixing import IS_REMOVED, Closed, FixFields, FixMessage, Peer
 from hanging import ends_in_time
 from patience import TIMED
 
@@ -22,11 +22,11 @@ ORDERS = 100
 IS_RESET = "the operator resets this session: begin at 1 with an empty store"
 
 
-def last_of(peer: Peer) -> list[Message]:
+def last_of(peer: Peer) -> list[FixMessage]:
     """What comes until the Logout, and that."""
-    found: list[Message] = []
+    found: list[FixMessage] = []
 
-    def is_last(given: Message) -> bool:
+    def is_last(given: FixMessage) -> bool:
         found.append(given)
         return given[35] == "5"
 
@@ -129,7 +129,7 @@ def test_one_that_does_not_answer_is_reset_too(tmp_path: pathlib.Path) -> None:
 # ---- what comes after the last message
 
 
-def order(client: str) -> Pairs:
+def order(client: str) -> FixFields:
     """A NewOrderSingle."""
     pairs = [(11, client), (55, "XYZ"), (54, "1"), (60, fixing.stamp())]
     return [*pairs, (38, "10"), (40, "2"), (44, "2.00")]

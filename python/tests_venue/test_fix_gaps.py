@@ -10,7 +10,7 @@ import served
 from acceptors import Asking
 from fix_messages import order, picked
 from fix_venues import killable, on
-from fixing import Closed, Message, Pairs, Peer
+from fixing import Closed, FixFields, FixMessage, Peer
 
 MOST = 65536
 """Bytes of a message's body, by the document."""
@@ -24,12 +24,12 @@ LETTERS, FLOOD, MOST_GROWTH = 60_000, 40_000, 32 << 20
 """Letters of a long message; how many small ones may fill memory, and how much is none."""
 
 
-def asked(found: list[Message]) -> list[tuple[str, ...]]:
+def asked(found: list[FixMessage]) -> list[tuple[str, ...]]:
     """What was asked for again."""
     return [picked(it, 7, 16) for it in found if it[35] == "2"]
 
 
-def is_asked(asking: Asking, number: int, head: fixing.Pairs = []) -> list[tuple[str, ...]]:
+def is_asked(asking: Asking, number: int, head: fixing.FixFields = []) -> list[tuple[str, ...]]:
     """What is asked for as a client says a message of this number."""
     text = fixing.written("0", number, "HOLES", [], head)
     asking.engine.feed(asking.number, text)
@@ -142,7 +142,7 @@ def test_an_order_over_which_a_gap_was_filled_may_be_sent_anew(tmp_path: pathlib
         ]
         orders = {it: pairs for it, (_, pairs) in peer.sent.items()}
         peer.sent = {}
-        heads: dict[int, Pairs] = {3: [(97, "Y")], 4: []}
+        heads: dict[int, FixFields] = {3: [(97, "Y")], 4: []}
         for number, head in heads.items():
             peer.say("D", orders[number], head)
             assert peer.take(lambda it: it[35] == "8")[150] == "0"
@@ -160,7 +160,9 @@ def said(asking: Asking) -> list[tuple[str, ...]]:
     return [picked(it, 34, 11, 123) for it in found]
 
 
-def say(asking: Asking, number: int, client: str, head: Pairs = [], *more: tuple[int, str]) -> None:
+def say(
+    asking: Asking, number: int, client: str, head: FixFields = [], *more: tuple[int, str]
+) -> None:
     """A client says an order under this number; what it is answered is left out."""
     pairs = [*order(client, "1", "10", (40, "1")), *more]
     asking.engine.feed(asking.number, fixing.written("D", number, "HOLES", pairs, head))
@@ -198,7 +200,7 @@ def test_what_came_last_under_a_number_is_told(tmp_path: pathlib.Path) -> None:
 
 
 @pytest.mark.parametrize("head", [[], AGAIN])
-def test_how_much_is_kept_ahead_of_its_turn(tmp_path: pathlib.Path, head: Pairs) -> None:
+def test_how_much_is_kept_ahead_of_its_turn(tmp_path: pathlib.Path, head: FixFields) -> None:
     """What comes after that is asked for again once what is before it was taken, and all is taken
     once and in its order.
     """

@@ -13,7 +13,7 @@ import served
 from callauction.fix.feeds import SEEN_SECONDS
 from fix_messages import ask_data, mass_cancel
 from fix_venues import TWO, killable, on, reset, settled
-from fixing import Message, Pairs, Peer
+from fixing import FixFields, FixMessage, Peer
 from hanging import program_of
 from patience import TIMED
 from served import Served
@@ -24,7 +24,7 @@ SOON = 5.0
 
 def enter(peer: Peer, client: str, symbol: str, *more: tuple[int, str]) -> None:
     """Sends a bid of 10 shares at 2.00."""
-    kind: Pairs = [(11, client), (55, symbol), (54, "1"), (60, fixing.stamp()), (38, "10")]
+    kind: FixFields = [(11, client), (55, symbol), (54, "1"), (60, fixing.stamp()), (38, "10")]
     peer.say("D", [*kind, (40, "2"), (44, "2.00")], [*more])
 
 
@@ -34,7 +34,7 @@ def entered(peer: Peer, client: str, symbol: str) -> None:
     assert peer.take(of(client), SOON)[150] == "0"
 
 
-def of(client: str) -> Callable[[Message], bool]:
+def of(client: str) -> Callable[[FixMessage], bool]:
     """Whether a message has this ClOrdID."""
     return lambda it: it.get(11) == client
 
@@ -66,7 +66,7 @@ def halted(folder: pathlib.Path, *more: tuple[int, str]) -> Iterator[tuple[Serve
         yield venue, alice
 
 
-def shown(peer: Peer, request: str, *more: tuple[int, str]) -> list[Message]:
+def shown(peer: Peer, request: str, *more: tuple[int, str]) -> list[FixMessage]:
     """The answers to an OrderMassStatusRequest. Raises TimeoutError."""
     peer.say("AF", [(584, request), *more])
     peer.take(lambda it: it.get(584) == request and it[912] == "Y", SOON)

@@ -11,27 +11,29 @@ import served
 from callauction.venue import Client, copies
 from fix_messages import NO_ORDER, picked
 from fix_venues import killable, on, reset
-from fixing import Message, Pairs, Peer
+from fixing import FixFields, FixMessage, Peer
 
 USED = "this ClOrdID was used"
 MADE_BEFORE = "its TransactTime (60) is before this day began, of which nothing is done today"
 AGAIN = (97, "Y")
 
 
-def answer(peer: Peer, kind: str, client: str, pairs: Pairs, *head: tuple[int, str]) -> Message:
+def answer(
+    peer: Peer, kind: str, client: str, pairs: FixFields, *head: tuple[int, str]
+) -> FixMessage:
     """The answer to a message with this id."""
     peer.say(kind, [(11, client), *pairs, (60, fixing.stamp())], [*head])
     return peer.take(lambda it: it.get(11) == client and it[35] in "89r")
 
 
-def status(peer: Peer, client: str, side: str) -> Message:
+def status(peer: Peer, client: str, side: str) -> FixMessage:
     """The answer to an OrderStatusRequest."""
     peer.say("H", [(11, client), (55, "XYZ"), (54, side)])
     return peer.take(lambda it: it.get(11) == client and it[35] == "8")
 
 
-ORDER: Pairs = [(55, "XYZ"), (54, "1"), (38, "10"), (40, "2"), (44, "2.00")]
-REFUSED: dict[str, tuple[str, Pairs]] = {
+ORDER: FixFields = [(55, "XYZ"), (54, "1"), (38, "10"), (40, "2"), (44, "2.00")]
+REFUSED: dict[str, tuple[str, FixFields]] = {
     "tick": ("D", [*ORDER[:-1], (44, "2.001")]),
     "quantity": ("D", [*ORDER[:2], (38, "0"), *ORDER[3:]]),
     "symbol": ("D", [(55, "NONE"), *ORDER[1:]]),
@@ -87,7 +89,7 @@ def test_orders_of_a_round_that_is_over(tmp_path: pathlib.Path, is_begun_again: 
         peer = Peer(port, "ALICE")
         peer.logon(fixing.token_of(folder, "ALICE"))
         assert answer(peer, "D", "a1", ORDER)[17] == "XYZ.1"
-        ask: Pairs = [(55, "XYZ"), (54, "2"), (38, "6"), (40, "2"), (44, "2.00")]
+        ask: FixFields = [(55, "XYZ"), (54, "2"), (38, "6"), (40, "2"), (44, "2.00")]
         assert answer(peer, "D", "a2", ask)[17] == "XYZ.2"
         assert answer(peer, "D", "a3", [*ask[:-1], (44, "3.00")])[17] == "XYZ.3"
         day.venue.do("uncross")
@@ -212,7 +214,7 @@ def test_a_mass_cancel_is_done_once(tmp_path: pathlib.Path, is_begun_again: bool
     with killable(tmp_path, fixing.day_of(port, "ALICE")) as day:
         peer = Peer(port, "ALICE")
         peer.logon(fixing.token_of(tmp_path / "venue", "ALICE"))
-        asked: Pairs = [(530, "1"), (55, "XYZ")]
+        asked: FixFields = [(530, "1"), (55, "XYZ")]
         assert answer(peer, "D", "d1", ORDER)[150] == "0"
         peer.say("q", [(11, "q1"), *asked, (60, fixing.stamp())])
         first = peer.take(lambda it: it[35] == "r")
@@ -342,7 +344,7 @@ def refusals(folder: pathlib.Path, port: int) -> list[str]:
     after a kill, and after one more reset.
     """
     copies.restore(folder.parent / "copy", folder / "venue", served.program())
-    wrong: Pairs = [*ORDER[:-1], (44, "2.001")]
+    wrong: FixFields = [*ORDER[:-1], (44, "2.001")]
     ids: list[str] = []
     with killable(folder, fixing.day_of(port, "ALICE")) as day:
         for how in ("reset", "kill", "reset"):
@@ -361,7 +363,7 @@ def test_answers_after_a_restore(tmp_path: pathlib.Path) -> None:
     folder that is restored from the copy.
     """
     port = served.free_port()
-    wrong: Pairs = [*ORDER[:-1], (44, "2.001")]
+    wrong: FixFields = [*ORDER[:-1], (44, "2.001")]
     with on(tmp_path, fixing.day_of(port, "ALICE"), port, "ALICE") as (venue, [peer]):
         venue.do("start")
         assert answer(peer, "D", "a1", wrong)[17] == "R.ALICE.2"

@@ -15,7 +15,7 @@ import judged
 import served
 from checks.model import files
 from checks.model.day import opened
-from fixing import Closed, Message, Pairs, Peer
+from fixing import Closed, FixFields, FixMessage, Peer
 from keeper import Keeper
 
 KILLS = int(os.environ.get("VENUE_FIX_KILLS", "60"))
@@ -23,20 +23,20 @@ MEMBERS = ("ALICE", "BOB", "CAROL")
 MOST_UNANSWERED, MOST_AT_ONCE = 32, 6
 TARGETS = ("venue", "program", "connection")
 AUCTIONS = ("opening", "intraday", "closing")
-MORE: list[Pairs] = [[], [], [(59, "2")], [(59, "7")], [(111, "1")]]
+MORE: list[FixFields] = [[], [], [(59, "2")], [(59, "7")], [(111, "1")]]
 FINAL = {"2", "4", "8", "C"}
 """OrdStatus of an order of which nothing is open."""
 
 
 @dataclasses.dataclass
-class Robot:
+class PeerRobot:
     """A member that goes on in a connection of its own, until it is done and all is answered."""
 
     peer: Peer
     folder: pathlib.Path
     chance: random.Random
-    told: dict[str, Message] = dataclasses.field(default_factory=dict)
-    open: dict[str, Message] = dataclasses.field(default_factory=dict)
+    told: dict[str, FixMessage] = dataclasses.field(default_factory=dict)
+    open: dict[str, FixMessage] = dataclasses.field(default_factory=dict)
     asked: list[str] = dataclasses.field(default_factory=list)
     seen: int = 0
     done: threading.Event = dataclasses.field(default_factory=threading.Event)
@@ -76,7 +76,7 @@ class Robot:
         told = [*self.told.values()]  # which may grow meanwhile
         return {*self.asked} - {it.get(11, "") for it in told}
 
-    def learn(self, given: Message) -> None:
+    def learn(self, given: FixMessage) -> None:
         """Takes what the venue says. Raises AssertionError where it says an event twice."""
         event = given.get(17) or given.get(20001) or given[37]
         assert event not in self.told, (given, self.told[event])
@@ -127,7 +127,7 @@ def wanted(journal: str, names: dict[int, str]) -> dict[str, set[str]]:
     return found
 
 
-def killed(keeper: Keeper, robots: list[Robot], chance: random.Random) -> str:
+def killed(keeper: Keeper, robots: list[PeerRobot], chance: random.Random) -> str:
     """Kills something: what."""
     target = chance.choice(TARGETS)
     if target != "connection":
@@ -150,7 +150,7 @@ def uncrossed(keeper: Keeper, first: served.Served) -> None:
     raise AssertionError("nothing is uncrossed")
 
 
-def settled(robots: list[Robot]) -> None:
+def settled(robots: list[PeerRobot]) -> None:
     """Waits until all is answered. Raises AssertionError."""
     last = time.monotonic() + served.SECONDS
     while any(it.unanswered() for it in robots):
@@ -159,7 +159,9 @@ def settled(robots: list[Robot]) -> None:
         time.sleep(0.1)
 
 
-def play(keeper: Keeper, first: served.Served, robots: list[Robot], chance: random.Random) -> None:
+def play(
+    keeper: Keeper, first: served.Served, robots: list[PeerRobot], chance: random.Random
+) -> None:
     """The day under kills, with an uncross after each third of them."""
     counts = collections.Counter[str]()
     for number in range(1, KILLS + 1):
@@ -183,7 +185,7 @@ def test_members_are_told_all_of_the_journal_once(tmp_path: pathlib.Path, seed: 
     keeper.start()
     assert keeper.child is not None
     robots = [
-        Robot(Peer(port, name), tmp_path / "venue", random.Random(seed + place))
+        PeerRobot(Peer(port, name), tmp_path / "venue", random.Random(seed + place))
         for place, name in enumerate(MEMBERS, 1)
     ]
     threads = [threading.Thread(target=it.play, daemon=True) for it in robots]
@@ -200,7 +202,7 @@ def test_members_are_told_all_of_the_journal_once(tmp_path: pathlib.Path, seed: 
         keeper.stop()
 
 
-def check(folder: pathlib.Path, venue: served.Served, robots: list[Robot]) -> None:
+def check(folder: pathlib.Path, venue: served.Served, robots: list[PeerRobot]) -> None:
     """Raises AssertionError where a member wasn't sent what the journal has, or other things."""
     status, journal = venue.call("api/download/journal/XYZ", token=venue.operator)
     assert status == 200 and judged.is_lawful(journal)
@@ -221,17 +223,17 @@ def check(folder: pathlib.Path, venue: served.Served, robots: list[Robot]) -> No
         check_shares(it)
 
 
-def is_answer(given: Message) -> bool:
+def is_answer(given: FixMessage) -> bool:
     """Whether a report answers a request: no trade or end does, nor does an order that a cancel of
     all took out.
     """
     return given.get(150) not in ("F", "C") and not (given.get(150) == "4" and 41 not in given)
 
 
-def check_shares(robot: Robot) -> None:
+def check_shares(robot: PeerRobot) -> None:
     """Raises AssertionError where the trades of an order don't add up to what it says of itself."""
     shares = collections.Counter[str]()
-    last: dict[str, Message] = {}
+    last: dict[str, FixMessage] = {}
     for given in robot.told.values():
         if given[35] == "8" and given[37] != "NONE":
             last[given[37]] = given

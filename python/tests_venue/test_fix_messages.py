@@ -14,7 +14,7 @@ from callauction.fix.tags import (
     DAY, FIXT, GOOD_TILL_CANCEL, LIMIT, MARKET, OTHER_REASON, SIDE_CODES, Exec, Status,
 )
 from fix_messages import FROM, HEAD, NEEDED, NOTHING, OF_ALL, OF_ORDERS, PARTIES
-from fixing import Pairs
+from fixing import FixFields
 
 PAGE = served.PACKAGE.parent / "docs/made/FIX_MESSAGES.md"
 HEADING = re.compile(r"^### (?P<kind>\w+) (?P<name>\w+)$|^## (?P<part>.*)$")
@@ -32,7 +32,7 @@ VALUES = {60: TIME, 122: TIME, 126: TIME, 89: "x", 96: "x", 355: "x", 97: "Y", 9
 """Values of the type of a tag, where 1 is none."""
 
 
-class Page:
+class MessagesPage:
     """The page: the rows of each message, the tags that each needs, and those that change nothing.
     """
 
@@ -62,12 +62,12 @@ class Page:
 
 
 @pytest.fixture(scope="module")
-def page() -> Page:
+def page() -> MessagesPage:
     """The page as it is."""
-    return Page(PAGE.read_text("utf-8"))
+    return MessagesPage(PAGE.read_text("utf-8"))
 
 
-def tags_of(*pairs: Pairs) -> set[int]:
+def tags_of(*pairs: FixFields) -> set[int]:
     """The tags of these."""
     return {tag for each in pairs for tag, _ in each}
 
@@ -81,7 +81,7 @@ def test_the_command_prints_the_page() -> None:
     assert (ran.returncode, ran.stdout) == (2, "") and "usage: python3 -P" in ran.stderr
 
 
-def test_what_each_message_needs(page: Page) -> None:
+def test_what_each_message_needs(page: MessagesPage) -> None:
     """As the tests of the venue have it."""
     for kind, groups in NEEDED.items():
         assert page.needed[kind] == tags_of(*groups), kind
@@ -89,7 +89,7 @@ def test_what_each_message_needs(page: Page) -> None:
     assert page.needed[AROUND] == ENVELOPE - {43, 122}
 
 
-def test_what_changes_nothing(page: Page) -> None:
+def test_what_changes_nothing(page: MessagesPage) -> None:
     """As the tests of the venue have it: what contradicts an order has a row of its own."""
     same = tags_of(NOTHING, PARTIES) - tags_of(HEAD) | {22, 354, 355}
     assert page.idle["D"] == page.idle["H"] - {37} == page.idle["G"] - {37} == same
@@ -101,7 +101,7 @@ def test_what_changes_nothing(page: Page) -> None:
     assert tags_of(OF_ALL) - {22} <= {*page.rows["H"]}
 
 
-def with_tag(page: Page, kind: str, tag: int, needed: Pairs) -> Pairs:
+def with_tag(page: MessagesPage, kind: str, tag: int, needed: FixFields) -> FixFields:
     """A message with what it needs and a tag, data with their length; a group's rows with their
     first tag.
     """
@@ -121,7 +121,9 @@ def with_tag(page: Page, kind: str, tag: int, needed: Pairs) -> Pairs:
 
 
 @pytest.mark.parametrize("kind", NEEDED)
-def test_the_tags_of_a_message(tmp_path: pathlib.Path, begin: str, kind: str, page: Page) -> None:
+def test_the_tags_of_a_message(
+    tmp_path: pathlib.Path, begin: str, kind: str, page: MessagesPage
+) -> None:
     """Each of the page is taken, and each other one is refused."""
     speaker, needed = Speaker(tmp_path, begin), [it for group in NEEDED[kind] for it in group]
     around = page.tags(AROUND)
@@ -139,7 +141,7 @@ def test_the_tags_of_a_message(tmp_path: pathlib.Path, begin: str, kind: str, pa
         assert refusal(found)[2] == str(tag) and speaker.engine.said() == []
 
 
-def test_all_messages_are_there(page: Page) -> None:
+def test_all_messages_are_there(page: MessagesPage) -> None:
     """Those that a member may send, and the others of the code and of the session."""
     assert {*seats.Seat.acts} == {*NEEDED} <= {*page.rows}
     session = {"A", "0", "1", "2", "3", "4", "5"}
@@ -195,5 +197,5 @@ EXPECTED = {
 
 
 @pytest.mark.parametrize("kind, tag", EXPECTED)
-def test_the_values_of_a_tag(page: Page, kind: str, tag: int) -> None:
+def test_the_values_of_a_tag(page: MessagesPage, kind: str, tag: int) -> None:
     assert page.values(kind, tag) == EXPECTED[kind, tag]

@@ -53,7 +53,7 @@ def report_of(event: str) -> Report:
     return Report("Alice", Type.REPORT, event, [(Tag.EXEC_ID, event)], time=now())
 
 
-class Run:
+class FrontRun:
     """A venue's front between its begin and its end, of a session on no connection; what was sent
     on one is what a crash can't take.
     """
@@ -168,7 +168,7 @@ def message_of(said: Said) -> MemberMessage:
     return MemberMessage("Alice", -said.number, "", "", note)
 
 
-def check(run: Run, before: Told) -> None:
+def check(run: FrontRun, before: Told) -> None:
     """Raises AssertionError where a session is told otherwise than it was, or not all in order."""
     now_told = run.stored()
     assert before.items() <= now_told.items()
@@ -185,7 +185,7 @@ async def played(folder: pathlib.Path, chance: random.Random) -> None:
     uncrosses: set[tuple[str, int]] = set()
     before: Told = {}
     for _ in range(RUNS):
-        run = Run(folder, log, uncrosses)
+        run = FrontRun(folder, log, uncrosses)
         try:
             await run.begin(chance)
             check(run, before)

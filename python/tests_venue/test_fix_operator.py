@@ -8,12 +8,12 @@ import psutil
 import pytest
 import served
 from fix_venues import day_with_copy, on, reset, until_logged
-from fixing import Closed, Message, Pairs, Peer
+from fixing import Closed, FixFields, FixMessage, Peer
 
 
-def sides_of(pairs: Pairs) -> list[Message]:
+def sides_of(pairs: FixFields) -> list[FixMessage]:
     """The sides of a TradeCaptureReport."""
-    found: list[Message] = []
+    found: list[FixMessage] = []
     for tag, value in pairs:
         if tag == 54:
             found.append({})
@@ -22,7 +22,7 @@ def sides_of(pairs: Pairs) -> list[Message]:
     return found
 
 
-def reports(peer: Peer, count: int) -> Iterator[tuple[Message, list[Message]]]:
+def reports(peer: Peer, count: int) -> Iterator[tuple[FixMessage, list[FixMessage]]]:
     """The next trades, and their sides."""
     peer.socket.settimeout(fixing.SECONDS)
     for _ in range(count):

@@ -9,7 +9,7 @@ import pytest
 import served
 from callauction.fix import dictionaries
 from fix_messages import ALL, TIME, answer, order, whole
-from fixing import Pairs, Peer
+from fixing import FixFields, Peer
 
 BEGIN, END = (8, 9, 35), 10
 TIMES = (52, 60, 122)
@@ -19,13 +19,13 @@ AGAIN = {"3", "4", "8", "9", "j", "r", "y", "AE"}
 LIVE = AGAIN - {"4"} | {"A", "0", "h", "W", "X", "Y"}
 
 
-class Heard(Peer):
+class HearingPeer(Peer):
     """A member, with all that it was sent as it came."""
 
     def __init__(self, port: int, member: str, begin: bytes) -> None:
         super().__init__(port, member)
         self.begin = begin
-        self.raw: list[Pairs] = []
+        self.raw: list[FixFields] = []
 
     def whole(self) -> bytes:
         """The next message as it came. Raises Closed, and TimeoutError."""
@@ -65,7 +65,7 @@ class Dictionary:
                 tags = [numbers[it.get("name")] for it in group]
                 self.groups[kind, numbers[group.get("name")]] = tags
 
-    def check(self, message: Pairs) -> None:
+    def check(self, message: FixFields) -> None:
         """Raises AssertionError where a tag is at a wrong place."""
         tags = [tag for tag, _ in message]
         assert (*tags[:3], tags[-1]) == (*BEGIN, END), message
@@ -130,7 +130,7 @@ def test_the_order_of_tags(tmp_path: pathlib.Path, begin: bytes) -> None:
     new = [] if begin == b"FIX.4.4" else ["ALICE", "BOB", "COPY"]
     more = f'copy = "COPY"\nfix50 = {new}\n[fix.sessions]'
     day = fixing.day_of(port, "ALICE", "BOB").replace("[fix.sessions]", more)
-    peers = [Heard(port, it, begin) for it in ("ALICE", "BOB", "COPY")]
+    peers = [HearingPeer(port, it, begin) for it in ("ALICE", "BOB", "COPY")]
     with served.served(tmp_path, day) as venue:
         for peer in peers:
             is_copy = peer.member == "COPY"
@@ -140,7 +140,7 @@ def test_the_order_of_tags(tmp_path: pathlib.Path, begin: bytes) -> None:
             peer.say("2", [(7, "1"), (16, "0")])
             peer.until_here()
         venue.do("reset", session="COPY")
-        peers.append(Heard(port, "COPY", begin))
+        peers.append(HearingPeer(port, "COPY", begin))
         peers[-1].enters(venue.operator)
         peers[-1].take(lambda it: it[35] == "AE" and it.get(97) == "Y")
     raw = [it for peer in peers for it in peer.raw]

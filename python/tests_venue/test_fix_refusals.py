@@ -15,12 +15,12 @@ import served
 from fix_clients import NewPeer, new_day
 from fix_messages import answer, ask_data, order, picked
 from fix_venues import on
-from fixing import Closed, Message, Pairs, Peer
+from fixing import Closed, FixFields, FixMessage, Peer
 
 MILLISECONDS = re.compile(r"[0-9]{8}-[0-9]{2}:[0-9]{2}:[0-9]{2}\.[0-9]{3}")
 
 
-def ended(peer: Peer) -> Message:
+def ended(peer: Peer) -> FixMessage:
     """The Logout by which the venue ends a connection."""
     found = peer.take(lambda it: it[35] == "5")
     with pytest.raises(Closed):
@@ -195,7 +195,7 @@ def test_no_order_is_open(tmp_path: pathlib.Path) -> None:
             assert picked(found, 584, 911, 912) == ("s1", "0", "Y")
 
 
-def change(origin: str, client: str, price: str = "2.00") -> Pairs:
+def change(origin: str, client: str, price: str = "2.00") -> FixFields:
     """An OrderCancelReplaceRequest of a bid."""
     return [(41, origin), *order(client, "1", "10", (40, "2"), (44, price))]
 
@@ -239,7 +239,7 @@ def test_orders_that_have_ended(tmp_path: pathlib.Path) -> None:
         assert picked(found, 268, 269) == ("1", "J")
 
 
-REFUSED: list[tuple[Pairs, str]] = [
+REFUSED: list[tuple[FixFields, str]] = [
     ([(40, "2"), (44, "99.00")], "Price (44) is from 0.01 to 10.00 (refused 2 BadLimit)"),
     ([(40, "2"), (44, "99999999999.00")], "the price 99999999999.00 is not from 0.01 to 10.00"),
     (

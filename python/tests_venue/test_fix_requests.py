@@ -10,7 +10,7 @@ import pytest
 import served
 from fix_messages import ask_data, mass_cancel, rows
 from fix_venues import TWO, killable, on, reports, settled, until_logged
-from fixing import NOT_DONE, Message, Pairs, Peer
+from fixing import NOT_DONE, FixFields, FixMessage, Peer
 
 
 def test_all_orders_are_cancelled(tmp_path: pathlib.Path) -> None:
@@ -86,7 +86,7 @@ def test_an_order_has_an_id_of_its_own(tmp_path: pathlib.Path) -> None:
     ],
 )
 def test_a_mass_cancel_that_is_refused(
-    tmp_path: pathlib.Path, more: Pairs, reason: str, text: str
+    tmp_path: pathlib.Path, more: FixFields, reason: str, text: str
 ) -> None:
     port = served.free_port()
     with on(tmp_path, fixing.day_of(port, "ALICE"), port, "ALICE") as (_, [peer]):
@@ -139,7 +139,7 @@ def test_the_list_of_instruments(tmp_path: pathlib.Path) -> None:
         assert peer.take(lambda it: it[35] == "y")[560] == "1"
 
 
-def phase(given: Message) -> tuple[str, ...]:
+def phase(given: FixMessage) -> tuple[str, ...]:
     """What a TradingSessionStatus says."""
     return tuple(given.get(tag, "") for tag in (335, 336, 625, 340, 58, 325))
 
@@ -306,7 +306,7 @@ def test_an_open_book_has_visible_sizes(tmp_path: pathlib.Path) -> None:
     ],
 )
 def test_market_data_that_is_refused(
-    tmp_path: pathlib.Path, pairs: Pairs, reason: str
+    tmp_path: pathlib.Path, pairs: FixFields, reason: str
 ) -> None:
     port = served.free_port()
     with on(tmp_path, fixing.day_of(port, "ALICE"), port, "ALICE") as (_, [peer]):

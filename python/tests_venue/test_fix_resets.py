@@ -16,7 +16,7 @@ import served
 from acceptors import Asking
 from callauction.fix.resets import RESET_SECONDS
 from fix_venues import Killable, killable, reset, until_logged
-from fixing import Closed, Message, Peer
+from fixing import Closed, FixMessage, Peer
 
 OLD_ORDERS, NEW_ORDERS = 12, 3
 """Orders before and after the reset: the old numbers are above the new ones."""
@@ -107,7 +107,7 @@ def with_fill(folder: pathlib.Path, day: Killable, port: int) -> Peer:
     return alice
 
 
-def said_anew(folder: pathlib.Path, port: int) -> dict[str, Message]:
+def said_anew(folder: pathlib.Path, port: int) -> dict[str, FixMessage]:
     """What a client that begins at 1 with an empty store is told, by its ids."""
     peer = Peer(port, "ALICE")
     peer.logon(fixing.token_of(folder, "ALICE"))
@@ -279,7 +279,7 @@ def test_a_reset_that_an_order_holds_up(tmp_path: pathlib.Path) -> None:
 # ---- numbers under which nothing was sent
 
 
-def told(given: list[Message]) -> list[tuple[str, ...]]:
+def told(given: list[FixMessage]) -> list[tuple[str, ...]]:
     """What was sent again: type, number, up to which number a gap is."""
     assert all(it[43] == "Y" for it in given)
     return [tuple(it[tag] for tag in (35, 34, 36) if tag in it) for it in given]

@@ -8,9 +8,9 @@ import time
 import fixing
 import pytest
 from acceptors import NONE, ORDER, TIME, Heads, Speaker, refusal
-from fixing import SOH, Message, Pairs
+from fixing import SOH, FixFields, FixMessage
 
-KINDS: dict[str, Pairs] = {
+KINDS: dict[str, FixFields] = {
     "D": ORDER,
     "0": [],
     "1": [(112, "here")],
@@ -21,9 +21,9 @@ KINDS: dict[str, Pairs] = {
 """Messages of a member and of the session, and one of a type that there isn't."""
 
 
-REPORT: Pairs = [(37, "1"), (17, "x"), (150, "0"), (39, "0"), (55, "XYZ"), (54, "1")]
+REPORT: FixFields = [(37, "1"), (17, "x"), (150, "0"), (39, "0"), (55, "XYZ"), (54, "1")]
 REPORT += [(151, "0"), (14, "0"), (6, "0")]
-OF_VENUE: dict[str, Pairs] = {
+OF_VENUE: dict[str, FixFields] = {
     "8": REPORT,
     "9": [(37, "1"), (11, "x"), (41, "y"), (39, "0"), (434, "1"), (102, "1")],
     "j": [(45, "1"), (372, "8"), (380, "0")],
@@ -59,7 +59,7 @@ def test_a_type_without_a_value(tmp_path: pathlib.Path, begin: str) -> None:
     ("D", ORDER, {52: NONE}),
 ])
 def test_a_number_that_is_too_low(
-    tmp_path: pathlib.Path, begin: str, kind: str, pairs: Pairs, heads: Heads
+    tmp_path: pathlib.Path, begin: str, kind: str, pairs: FixFields, heads: Heads
 ) -> None:
     """It ends the session, whatever else is wrong: no refusal can say which message it is of."""
     speaker = Speaker(tmp_path, begin)
@@ -200,7 +200,7 @@ def test_a_logout_that_is_wrong_as_what_came_before(
     tmp_path: pathlib.Path,
     begin: str,
     heads: Heads,
-    said: tuple[str, Pairs],
+    said: tuple[str, FixFields],
     number: str,
     expected: int,
 ) -> None:
@@ -223,7 +223,7 @@ def test_a_logout_that_is_wrong_as_what_came_before(
 
 @pytest.mark.parametrize("kind, pairs", [("5", []), ("3", [(45, "1"), (58, "text")])])
 def test_what_is_missing_before_an_end_or_a_refusal_is_expected_on(
-    tmp_path: pathlib.Path, begin: str, kind: str, pairs: Pairs
+    tmp_path: pathlib.Path, begin: str, kind: str, pairs: FixFields
 ) -> None:
     """By the standard the number that is expected is that of the first message that is missing,
     whatever came after it: the next Logon has it asked for.
@@ -243,7 +243,7 @@ def test_what_is_missing_before_an_end_or_a_refusal_is_expected_on(
 
 @pytest.mark.parametrize("kind, pairs", [("5", []), ("3", [(45, "1"), (58, "text")])])
 def test_an_end_or_a_refusal_in_its_turn_counts(
-    tmp_path: pathlib.Path, begin: str, kind: str, pairs: Pairs
+    tmp_path: pathlib.Path, begin: str, kind: str, pairs: FixFields
 ) -> None:
     speaker = Speaker(tmp_path, begin)
     speaker.say(kind, pairs)
@@ -345,7 +345,7 @@ def test_a_gap_needs_no_first_time(tmp_path: pathlib.Path, begin: str) -> None:
         [(123, "Y"), (36, f"{7:05000}")],
     ],
 )
-def test_a_gap_that_can_not_be(tmp_path: pathlib.Path, begin: str, pairs: Pairs) -> None:
+def test_a_gap_that_can_not_be(tmp_path: pathlib.Path, begin: str, pairs: FixFields) -> None:
     """Back, of no length, or too far to count."""
     speaker = Speaker(tmp_path, begin)
     assert refusal(speaker.say("4", pairs)) == ("2", "4", "36", "5")
@@ -371,7 +371,7 @@ def test_a_reset_to_the_number_that_is_expected(tmp_path: pathlib.Path, begin: s
     ],
 )
 def test_a_group_without_a_row(
-    tmp_path: pathlib.Path, begin: str, pairs: Pairs, tag: str
+    tmp_path: pathlib.Path, begin: str, pairs: FixFields, tag: str
 ) -> None:
     """By the standard a NumInGroup is positive."""
     speaker = Speaker(tmp_path, begin)
@@ -436,7 +436,7 @@ def test_what_is_wrong_ahead_of_a_gap(tmp_path: pathlib.Path, begin: str, wrong:
     assert speaker.say("D", ORDER) == []  # asked for already
     again = {43: "Y", 122: fixing.stamp()}
     kinds = {2: ORDER, 3: ORDER, 4: pairs, 5: ORDER}
-    answers: list[Message] = []
+    answers: list[FixMessage] = []
     for number in (2, 3, 4, 5, 4, 3):
         speaker.number = number
         answers += speaker.say("D", kinds[number], again | (heads if number == 4 else {}))

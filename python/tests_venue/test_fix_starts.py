@@ -12,7 +12,7 @@ from callauction.fix.sent import MOST_AT_ONCE
 from callauction.venue.config import DayTerms, Plan
 from callauction.venue.fix_terms import FixTerms
 from callauction.venue.venue import Venue
-from fix_clients import Asked
+from fix_clients import GapPeer
 from fix_messages import ALL, picked
 from fix_venues import killable
 from fixing import Peer
@@ -98,7 +98,7 @@ def test_answers_that_pass_are_not_kept(tmp_path: pathlib.Path, how: signal.Sign
         day.venue.child.send_signal(how)
         day.venue.child.communicate(timeout=served.SECONDS)
         day.venue = served.started(*day.words)
-        peer = Asked(port, "ALICE")
+        peer = GapPeer(port, "ALICE")
         peer.number = number
         begun = peer.logon(fixing.token_of(folder, "ALICE"))
         assert int(begun[34]) == expected + (how == signal.SIGTERM)  # a Logout

@@ -17,7 +17,7 @@ from fix_messages import (
     order, picked, rows, whole,
 )
 from fix_venues import killable, on, until_logged
-from fixing import NOT_DONE, Message, Pairs, Peer
+from fixing import NOT_DONE, FixFields, FixMessage, Peer
 
 OTHERS = {"D": 99, "G": 99, "F": 660, "H": 660, "q": 64, "AF": 453, "V": 286, "g": 338, "x": 167}
 """A tag for each that the standard has, and the venue hasn't."""
@@ -94,7 +94,7 @@ def test_what_is_sent_with_orders(tmp_path: pathlib.Path) -> None:
         assert picked(answer(peer, "F", gone, FROM), 150, 37) == ("4", "XYZ.1")
 
 
-CONTRADICTING: list[tuple[Pairs, str, str]] = [
+CONTRADICTING: list[tuple[FixFields, str, str]] = [
     ([(48, "DE0007164600"), (22, "4")], "1", "SecurityID (48) isn't the Symbol (55), by which "),
     ([(167, "BOND")], "11", "SecurityType (167) is CS"),
     ([(15, "USD")], "11", "Currency (15) isn't the instrument's, which is EUR"),
@@ -137,7 +137,7 @@ def test_a_status_of_another_side(tmp_path: pathlib.Path) -> None:
         assert picked(found, 11, 37, 150, 39, 103, 58, 790) == expected
 
 
-BAD_ORDERS: list[tuple[Pairs, str]] = [
+BAD_ORDERS: list[tuple[FixFields, str]] = [
     ([(40, "2")], "11"),
     ([(40, "1"), (44, "2.00")], "11"),
     ([(40, "3")], "11"),
@@ -164,11 +164,11 @@ BAD_ORDERS: list[tuple[Pairs, str]] = [
 """Orders that aren't entered, and OrdRejReason: 1 an unknown symbol, 3 above a limit, 11 what isn't
 supported, 13 a quantity, 99 another.
 """
-NO_VALUES: Pairs = [(38, "x"), (38, ""), (44, "x"), (60, "now"), (111, "x"), (59, "00")]
+NO_VALUES: FixFields = [(38, "x"), (38, ""), (44, "x"), (60, "now"), (111, "x"), (59, "00")]
 """Values that aren't of the type of their tag: a quantity, a price, a time, a letter."""
 
 
-def changed(pairs: Pairs, other: Pairs) -> Pairs:
+def changed(pairs: FixFields, other: FixFields) -> FixFields:
     """A message with other values."""
     tags = {tag for tag, _ in other}
     return [it for it in pairs if it[0] not in tags] + other
@@ -190,7 +190,7 @@ def test_orders_that_are_not_entered(tmp_path: pathlib.Path) -> None:
         assert answer(peer, "D", order("b1", "1", "10", (40, "1")))[37] == "XYZ.1"
 
 
-KEPT: list[tuple[Pairs, str]] = [
+KEPT: list[tuple[FixFields, str]] = [
     ([(54, "2")], OTHER_SIDE),
     ([(59, "0")], "MaxFloor and TimeInForce can't be changed"),
     ([(59, "7")], "MaxFloor and TimeInForce can't be changed"),
@@ -238,7 +238,7 @@ def test_a_replace_below_the_peak(tmp_path: pathlib.Path) -> None:
         assert picked(found, 150, 38, 151, 111) == ("5", "10", "10", "5")
 
 
-def told_now(peer: Peer) -> list[Message]:
+def told_now(peer: Peer) -> list[FixMessage]:
     """What a member is told up to the answer to a look at an order, which comes after all else that
     has happened. Raises TimeoutError.
     """

@@ -8,7 +8,7 @@ from collections.abc import Callable
 import fixing
 import held
 import served
-from fix_clients import Asked
+from fix_clients import GapPeer
 from fix_messages import picked
 from fix_venues import until_logged
 from fixing import Peer
@@ -23,7 +23,7 @@ def killed(folder: pathlib.Path, play: Play) -> tuple[Peer, list[int], str]:
     port, log = served.free_port(), folder / "venue"
     (folder / "day.toml").write_text(fixing.day_of(port, "ALICE", sync="true"), "utf-8")
     words = ["--day", folder / "day.toml", "--folder", log, "--port", served.free_port()]
-    peer = Asked(port, "ALICE")
+    peer = GapPeer(port, "ALICE")
     with held.held_venue(*words) as venue:
         venue.do("start")
         peer.logon(fixing.token_of(log, "ALICE"))

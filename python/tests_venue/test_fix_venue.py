@@ -14,7 +14,7 @@ from fix_venues import on, reports
 from fixing import Peer
 
 
-def order(client: str, side: str, shares: int, price: str) -> fixing.Pairs:
+def order(client: str, side: str, shares: int, price: str) -> fixing.FixFields:
     """A NewOrderSingle."""
     pairs = [(11, client), (55, "XYZ"), (54, side), (38, str(shares)), (40, "2"), (44, price)]
     return [(int(tag), value) for tag, value in pairs]

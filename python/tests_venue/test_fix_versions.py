@@ -19,7 +19,7 @@ from callauction.fix.settings import settings_of
 from callauction.fix.tags import FIX44, FIXT
 from fix_clients import DICTIONARIES, SETTINGS, Initiator, NewPeer, new_day
 from fix_venues import reset
-from fixing import Pairs, Peer
+from fixing import FixFields, Peer
 
 FIELD = re.compile(r"FIELD_SET\(\*this, FIX::(\w+)\)")
 OTHERS = {
@@ -129,7 +129,7 @@ def test_a_logon_of_another_version(tmp_path: pathlib.Path) -> None:
 @pytest.mark.parametrize("kind, pairs", [("D", ORDER), ("V", []), ("ZZ", [(58, "text")])])
 @pytest.mark.parametrize("value", OTHERS_OF_FIX)
 def test_a_message_of_another_version(
-    tmp_path: pathlib.Path, kind: str, pairs: Pairs, value: str
+    tmp_path: pathlib.Path, kind: str, pairs: FixFields, value: str
 ) -> None:
     """It is refused by the reason that the standard has for that, wherever the tag is in its head,
     and what follows is taken; those of the session have no version but their own.

@@ -251,7 +251,7 @@ async def test_who_comes_at_the_moment_of_an_end_is_no_fault() -> None:
     assert faults == []
 
 
-class Ended(Gate):
+class EndedGate(Gate):
     """A connection that isn't there."""
 
     def close(self) -> None:
@@ -259,7 +259,7 @@ class Ended(Gate):
 
 
 def gate(address: str, stage: Stage = Stage.WAITING) -> Gate:
-    return Ended(address, socket.socket(), 0.0, stage)
+    return EndedGate(address, socket.socket(), 0.0, stage)
 
 
 def test_the_oldest_of_the_same_address_gives_way() -> None:
@@ -294,7 +294,7 @@ def test_a_connection_more_costs_the_same_beside_thousands() -> None:
     found = Gates(4096, 256)
     begin = time.process_time()
     for place in range(10_000):
-        assert found.enter(Ended(f"10.0.0.{place % 200}", socket.socket(), 0.0))
+        assert found.enter(EndedGate(f"10.0.0.{place % 200}", socket.socket(), 0.0))
     assert len(found) == 4096 and time.process_time() - begin < 4
 
 

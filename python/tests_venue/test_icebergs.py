@@ -11,7 +11,7 @@ from callauction.venue.config import DayTerms, Plan
 from callauction.venue.messages import OrderMessage
 from callauction.venue.venue import Venue
 from callauction.venue.views import Level
-from listeners import Listener
+from listeners import Hearer
 
 LOOKS = 5
 LIST = "show,orders"
@@ -25,7 +25,7 @@ async def test_a_book_is_listed_once_after_a_change(
     await venue.open()
     board = venue.rounds.now.boards["XYZ"]
     member, _ = await venue.join(venue.members.codes.by_name[""], "Alice")
-    venue.audience.watchers[Listener()] = None
+    venue.audience.watchers[Hearer()] = None
     board.auctions.start_call()
     show, asked = board.engine.show, list[str]()
 

@@ -27,7 +27,7 @@ long before the last kill, and no answer come any more.
 
 
 @dataclasses.dataclass
-class Robot:
+class AnsweredRobot:
     """A member that sends orders, and keeps what it was answered."""
 
     token: str
@@ -73,7 +73,7 @@ class Robot:
 
 
 async def kills(
-    keeper: Keeper, robots: list[Robot], chance: random.Random, done: asyncio.Event
+    keeper: Keeper, robots: list[AnsweredRobot], chance: random.Random, done: asyncio.Event
 ) -> None:
     """Kills the venue and its program, often; a few times before the next answer."""
     try:
@@ -87,7 +87,9 @@ async def kills(
         done.set()
 
 
-async def play(keeper: Keeper, url: str, robots: list[Robot], chance: random.Random) -> None:
+async def play(
+    keeper: Keeper, url: str, robots: list[AnsweredRobot], chance: random.Random
+) -> None:
     """The day of robots under kills."""
     done = asyncio.Event()
     async with asyncio.timeout(1800):
@@ -106,7 +108,7 @@ def test_no_answered_order_is_lost_or_done_twice(tmp_path: pathlib.Path, seed: i
     try:
         first = served.begun(keeper.child)
         robots = [
-            Robot(first.join(f"robot {it}"), it, random.Random(seed + it))
+            AnsweredRobot(first.join(f"robot {it}"), it, random.Random(seed + it))
             for it in range(1, ROBOTS + 1)
         ]
         first.do("start")
@@ -132,7 +134,7 @@ def journal_of(venue: served.Served) -> str:
             time.sleep(0.1)
 
 
-def check(venue: served.Served, robots: list[Robot]) -> None:
+def check(venue: served.Served, robots: list[AnsweredRobot]) -> None:
     """Raises AssertionError where something was lost, or done twice."""
     journal = journal_of(venue)
     assert judged.is_lawful(journal)
@@ -154,7 +156,7 @@ def check(venue: served.Served, robots: list[Robot]) -> None:
 
 
 async def finds_its_orders(
-    venue: served.Served, robot: Robot, number: int, day: Day
+    venue: served.Served, robot: AnsweredRobot, number: int, day: Day
 ) -> None:
     """Raises AssertionError where a member doesn't find its orders."""
     async with AsyncClient(venue.url, robot.token) as client:

@@ -19,7 +19,7 @@ ROOM = 65_536
 """The bytes of a journal behind its lines, which its program has taken before."""
 
 
-class Read:
+class ReadBytes:
     """How many bytes were read of journals, and by which threads something was done with them."""
 
     def __init__(self) -> None:
@@ -44,7 +44,7 @@ class Read:
         return Counted(io.FileIO(path))
 
 
-class Ended:
+class EndedProcess:
     """In the place of a program that runs."""
 
     def give_up(self) -> None:
@@ -67,7 +67,7 @@ def engine_of(folder: pathlib.Path, those: list[Entry]) -> Engine:
     journal.chmod(0o600)
     found = Engine("XYZ", [], journal, Log(folder / "venue.log", False))
     found.journal.begin(those)
-    found.outbox.process, found.is_open = cast(Process, Ended()), True
+    found.outbox.process, found.is_open = cast(Process, EndedProcess()), True
     return found
 
 
@@ -75,7 +75,7 @@ async def test_a_look_reads_a_journal_once(
     tmp_path: pathlib.Path, monkeypatch: pytest.MonkeyPatch
 ) -> None:
     """Where it has changed, and no more of it than its lines; the loop goes on meanwhile."""
-    read = Read()
+    read = ReadBytes()
     monkeypatch.setattr(recovery, "open", read.opened, raising=False)
     engine = engine_of(tmp_path, entries(1, COUNT))
     size = engine.journal.path.stat().st_size - ROOM
@@ -97,7 +97,7 @@ async def test_what_others_changed_is_told_beside_the_loop(
     tmp_path: pathlib.Path, monkeypatch: pytest.MonkeyPatch
 ) -> None:
     """A million entries take seconds to read one by one, in which others' orders are served."""
-    read, check = Read(), JournalMark.check
+    read, check = ReadBytes(), JournalMark.check
 
     def checked(mark: JournalMark, those: Sequence[Entry], **others: Any) -> None:
         read.took(b"")

@@ -13,7 +13,7 @@ from aiohttp import web
 from callauction.venue import answer_heads
 from certificates import certificate
 from conftest import FAST
-from listeners import Line
+from listeners import NoTransport
 from raw import HANDSHAKE
 from served import Served
 
@@ -119,7 +119,7 @@ async def test_a_connection_that_is_lost_is_no_fault(caplog: pytest.LogCaptureFi
 
     for moment in range(8):
         one = answer_heads.ConnectionHandler(web.Server(answer))
-        one.connection_made(Line())
+        one.connection_made(NoTransport())
         one.data_received((GET + b"\r\n") * 2)
         for _ in range(moment):
             await asyncio.sleep(0)

@@ -12,7 +12,7 @@ from callauction.venue.recovery import Entry, MemberMessage
 pytestmark = pytest.mark.asyncio
 
 
-class Disk:
+class SlowLog:
     """In the place of a log, whose lines are on the disk once the test says so."""
 
     def __init__(self) -> None:
@@ -33,7 +33,7 @@ class Disk:
         await asyncio.sleep(0)
 
 
-class Begun:
+class BegunRun:
     """In the place of a run of the program: what it was sent at once, again and again."""
 
     def __init__(self, takes_more: bool = True) -> None:
@@ -44,7 +44,7 @@ class Begun:
         self.sent.append(" ".join(records))
 
 
-def outbox_of(disk: Disk) -> Outbox:
+def outbox_of(disk: SlowLog) -> Outbox:
     return Outbox("XYZ", cast(Log, disk), lambda sent, line: None)
 
 
@@ -52,7 +52,7 @@ def put(outbox: Outbox, record: str, is_first: bool = False) -> "asyncio.Future[
     return outbox.put(MemberMessage("Anna", ord(record), record), is_first)
 
 
-def begin(outbox: Outbox, run: Begun) -> list[str]:
+def begin(outbox: Outbox, run: BegunRun) -> list[str]:
     """Begins a run: what was said of that."""
     said: list[str] = []
     outbox.begin(cast(Process, run), "start", lambda: said.append("begun"))
@@ -60,7 +60,7 @@ def begin(outbox: Outbox, run: Begun) -> list[str]:
 
 
 async def test_what_comes_at_once_is_sent_at_once() -> None:
-    outbox, run = outbox_of(disk := Disk()), Begun()
+    outbox, run = outbox_of(disk := SlowLog()), BegunRun()
     said = begin(outbox, run)
     put(outbox, "a")
     assert (said, run.sent, outbox.waiting) == ([], [], 1)
@@ -74,7 +74,7 @@ async def test_what_comes_at_once_is_sent_at_once() -> None:
 
 async def test_another_run_is_sent_first_what_isnt_answered() -> None:
     """Also what came while none ran, and each once, whatever reaches the disk when."""
-    outbox, run, other = outbox_of(disk := Disk()), Begun(), Begun()
+    outbox, run, other = outbox_of(disk := SlowLog()), BegunRun(), BegunRun()
     begin(outbox, run)
     put(outbox, "a")
     put(outbox, "b")
@@ -92,7 +92,7 @@ async def test_another_run_is_sent_first_what_isnt_answered() -> None:
 
 
 async def test_what_is_held_waits_until_it_is_released_as_often() -> None:
-    outbox, run = outbox_of(disk := Disk()), Begun()
+    outbox, run = outbox_of(disk := SlowLog()), BegunRun()
     begin(outbox, run)
     outbox.hold()
     outbox.hold()
@@ -108,7 +108,7 @@ async def test_what_is_held_waits_until_it_is_released_as_often() -> None:
 
 async def test_a_run_that_ends_at_once_is_sent_nothing_more() -> None:
     """Nor is what was about to be sent to it sent twice to the next one."""
-    outbox, run, other = outbox_of(disk := Disk()), Begun(), Begun()
+    outbox, run, other = outbox_of(disk := SlowLog()), BegunRun(), BegunRun()
     begin(outbox, run)
     disk.write()
     put(outbox, "a")
@@ -120,7 +120,7 @@ async def test_a_run_that_ends_at_once_is_sent_nothing_more() -> None:
 
 
 async def test_a_run_in_whose_place_another_begins_is_sent_nothing() -> None:
-    outbox, run, other = outbox_of(disk := Disk()), Begun(), Begun()
+    outbox, run, other = outbox_of(disk := SlowLog()), BegunRun(), BegunRun()
     said = begin(outbox, run)
     begin(outbox, other)
     put(outbox, "a")
@@ -129,7 +129,7 @@ async def test_a_run_in_whose_place_another_begins_is_sent_nothing() -> None:
 
 
 async def test_a_run_that_ends_before_its_start_is_written_is_sent_nothing() -> None:
-    outbox, run = outbox_of(disk := Disk()), Begun(takes_more=False)
+    outbox, run = outbox_of(disk := SlowLog()), BegunRun(takes_more=False)
     said = begin(outbox, run)
     put(outbox, "a")
     await disk.written()

@@ -11,7 +11,7 @@ Fates = list[tuple[str, bool]]
 
 
 @dataclasses.dataclass
-class Played:
+class PlayedRuns:
     """Runs of a program that refuses members once `most` entries are there, and ends in each run
     after some of its messages; and what truly became of each message.
     """
@@ -22,10 +22,10 @@ class Played:
 
 
 @st.composite
-def played(draw: st.DrawFn) -> Played:
+def played(draw: st.DrawFn) -> PlayedRuns:
     most = draw(st.integers(0, 12))
     number = 0
-    found = Played([], [], [])
+    found = PlayedRuns([], [], [])
     for _ in range(draw(st.integers(1, 4))):
         run = Run(len(found.entries))
         records = draw(st.lists(st.sampled_from(RECORDS), max_size=8))
@@ -47,7 +47,7 @@ def played(draw: st.DrawFn) -> Played:
 
 @settings(max_examples=500, deadline=None)
 @given(played())
-def test_each_message_is_found_as_it_was(day: Played) -> None:
+def test_each_message_is_found_as_it_was(day: PlayedRuns) -> None:
     found = settled(day.runs, day.entries)
     assert [(message, entry and entry.place) for message, entry in found] == day.truth
 

@@ -25,12 +25,12 @@ ROUNDS, MOST_PAUSE = 3, 5.0
 """How many rounds at least; seconds between two kills at most: the venue takes one to start."""
 DAY = FAST + "group = 4\n[[round]]\nvalues = 'chance'\nlow = '1.00'\nhigh = '3.00'\n"
 ROBOTS, NAMES = 7, ("XYZ", "XYZ.2")
-Seen = dict[str, dict[str, Any]]
+ShownMessages = dict[str, dict[str, Any]]
 
 
-async def seen_by_operator(venue: Served) -> Seen:
+async def seen_by_operator(venue: Served) -> ShownMessages:
     """What the operator is shown, by kind, and of boards by kind and name."""
-    found: Seen = {}
+    found: ShownMessages = {}
     async with aiohttp.ClientSession() as web, asyncio.timeout(10):
         async with web.ws_connect(f"{venue.url}api/socket") as socket:
             await socket.send_str(hello(venue.operator))
@@ -40,7 +40,7 @@ async def seen_by_operator(venue: Served) -> Seen:
     return found
 
 
-class Lesson:
+class KilledVenue:
     """A venue that is killed at any moment, and started again where it was."""
 
     def __init__(self, folder: pathlib.Path) -> None:
@@ -68,7 +68,9 @@ class Lesson:
                 self.venue.child.kill()
                 self.kills += 1
 
-    def goes_on(self, word: str, holds: Callable[[Seen], bool], **fields: Any) -> Seen:
+    def goes_on(
+        self, word: str, holds: Callable[[ShownMessages], bool], **fields: Any
+    ) -> ShownMessages:
         """Asks for something until what the operator sees shows it done: what that is."""
         last = time.monotonic() + served.SECONDS
         while True:
@@ -85,18 +87,18 @@ class Lesson:
                 self.venue.call("api/operator", body, self.venue.operator)
 
 
-def in_phase(seen: Seen, phase: str, auctions: int) -> bool:
+def in_phase(seen: ShownMessages, phase: str, auctions: int) -> bool:
     """Whether all boards are in this phase after as many auctions."""
     states = [seen[f"state {name}"] for name in NAMES]
     return all((it["phase"], len(it["results"])) == (phase, auctions) for it in states)
 
 
-def values_of(seen: Seen) -> list[Any]:
+def values_of(seen: ShownMessages) -> list[Any]:
     """The values of the members."""
     return [value for it in seen["members"]["members"] for value in it["values"].values()]
 
 
-def round_of(lesson: Lesson, number: int) -> None:
+def round_of(lesson: KilledVenue, number: int) -> None:
     """A round of one auction, in which the robots trade."""
     if number > 1:
         lesson.goes_on("next", lambda it: bool(it["round"]["round"] == number), round=number)
@@ -116,7 +118,7 @@ def key_of(name: str, number: int) -> str:
 
 
 def test_rounds_under_kills(tmp_path: pathlib.Path, seed: int) -> None:
-    lesson = Lesson(tmp_path)
+    lesson = KilledVenue(tmp_path)
     number = 0
     try:
         names = lesson.venue.do("robots", kind="zero", count=ROBOTS)["names"]
@@ -139,7 +141,7 @@ def test_rounds_under_kills(tmp_path: pathlib.Path, seed: int) -> None:
     print("rounds", number, "kills", lesson.kills)
 
 
-def check_round(lesson: Lesson, number: int) -> None:
+def check_round(lesson: KilledVenue, number: int) -> None:
     """Raises AssertionError where a journal isn't lawful, a robot entered twice, or no uncross or
     more than one was done.
     """

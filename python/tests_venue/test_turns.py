@@ -12,32 +12,32 @@ from callauction.venue.gates import Gate, Gates, Stage
 from callauction.venue.passing import HEAD_SLICE, PassingProtocol, Secured, size_of_slice
 from callauction.venue.turns import Turns
 from certificates import certificate
-from listeners import Line
+from listeners import NoTransport
 
 REQUEST = b"GET /api/day HTTP/1.1\r\nHost: 127.0.0.1\r\n\r\n"
 STRANGERS, ADDRESSES, ROUNDS = 250, 5, 100
-Heard = list[tuple[str, bytes]]
+HeardSlices = list[tuple[str, bytes]]
 pytestmark = pytest.mark.asyncio
 
 
 class Inner(asyncio.Protocol):
     """Writes down what is passed on to it."""
 
-    def __init__(self, name: str, heard: Heard) -> None:
+    def __init__(self, name: str, heard: HeardSlices) -> None:
         self._name, self._heard = name, heard
 
     def data_received(self, data: bytes) -> None:
         self._heard.append((self._name, data))
 
 
-class Failing(asyncio.Protocol):
+class FailingProtocol(asyncio.Protocol):
     """Takes nothing."""
 
     def data_received(self, data: bytes) -> None:
         raise ZeroDivisionError
 
 
-class Closing(asyncio.Protocol):
+class ClosingProtocol(asyncio.Protocol):
     """Ends its connection as soon as something is said."""
 
     def connection_made(self, transport: asyncio.BaseTransport) -> None:
@@ -52,7 +52,7 @@ def passed(
 ) -> PassingProtocol:
     """A connection from an address."""
     one = PassingProtocol(found, Gate(address, socket.socket(), 0.0, **more), inner)
-    one.connection_made(Line())
+    one.connection_made(NoTransport())
     return one
 
 
@@ -60,7 +60,7 @@ async def test_strangers_take_turns_behind_who_is_known() -> None:
     """One request of them in each round of the loop, however many wait and however much each says;
     of one speaker one more. Of each address as many as of each other one.
     """
-    found, heard = Gates(), Heard()
+    found, heard = Gates(), HeardSlices()
     for place in range(STRANGERS):
         address = f"10.0.0.{place % ADDRESSES}" if place < 20 else "10.0.0.0"
         passed(found, Inner(address, heard), address).data_received(REQUEST * 30)
@@ -80,7 +80,7 @@ async def test_strangers_take_turns_behind_who_is_known() -> None:
 
 
 async def test_one_speaker_comes_as_often_as_another_however_many_connections_it_has() -> None:
-    found, heard = Gates(), Heard()
+    found, heard = Gates(), HeardSlices()
     for name in ["Bad"] * STRANGERS + ["Anna"]:
         passed(found, Inner(name, heard), speaker=name).data_received(REQUEST)
     await asyncio.sleep(0)
@@ -98,7 +98,7 @@ class Far:
         context.check_hostname, context.verify_mode = False, ssl.CERT_NONE
         self._heard, self._said = ssl.MemoryBIO(), ssl.MemoryBIO()
         self.end = context.wrap_bio(self._heard, self._said)
-        self.line = Line()
+        self.line = NoTransport()
         done = asyncio.get_running_loop().create_future()
         gate = Gate("a", socket.socket(), 0.0)
         self._near = Secured(found, gate, inner(gate), tls, done)
@@ -133,7 +133,7 @@ def of_server(folder: pathlib.Path) -> ssl.SSLContext:
 
 async def test_tls_keeps_little_more_than_is_deciphered_at_once(tmp_path: pathlib.Path) -> None:
     """While what it gave before isn't looked at, so that what it gives then is little too."""
-    context, found, heard = of_server(tmp_path), Gates(), Heard()
+    context, found, heard = of_server(tmp_path), Gates(), HeardSlices()
     one = Far(found, context, lambda gate: PassingProtocol(found, gate, Inner("one", heard)))
     for _ in range(2):
         one.shake_hands()
@@ -153,7 +153,7 @@ async def test_tls_keeps_little_more_than_is_deciphered_at_once(tmp_path: pathli
 async def test_who_leaves_while_its_connection_is_ended_is_gone(tmp_path: pathlib.Path) -> None:
     """By TLS, whose end waits for what wasn't looked at."""
     context, found = of_server(tmp_path), Gates()
-    one = Far(found, context, lambda gate: PassingProtocol(found, gate, Closing()))
+    one = Far(found, context, lambda gate: PassingProtocol(found, gate, ClosingProtocol()))
     for _ in range(2):
         one.shake_hands()
         await asyncio.sleep(0)
@@ -171,7 +171,7 @@ async def test_who_is_closed_twice_at_its_turn_harms_nobody(tmp_path: pathlib.Pa
     context, found, faults = of_server(tmp_path), Gates(), []
     asyncio.get_running_loop().set_exception_handler(lambda _, why: faults.append(why))
 
-    class Twice(Closing):
+    class Twice(ClosingProtocol):
         def data_received(self, data: bytes) -> None:
             super().data_received(data)
             super().data_received(data)
@@ -191,7 +191,7 @@ async def test_what_is_said_by_tls_takes_turns_too(tmp_path: pathlib.Path) -> No
     """Of all that has come at once, one handshake is gone on with in each round of the loop, and
     the records of one are read.
     """
-    context, found, heard = of_server(tmp_path), Gates(), Heard()
+    context, found, heard = of_server(tmp_path), Gates(), HeardSlices()
     those = [Far(found, context, lambda gate: Inner("one", heard)) for _ in range(20)]
     for each in those:
         each.shake_hands()
@@ -215,9 +215,9 @@ async def test_what_is_said_by_tls_takes_turns_too(tmp_path: pathlib.Path) -> No
 
 async def test_who_waits_is_not_read() -> None:
     found = Gates()
-    one = passed(found, Inner("one", Heard()))
+    one = passed(found, Inner("one", HeardSlices()))
     one.data_received(REQUEST * 2)
-    assert isinstance(one._transport, Line) and not one._transport.is_read
+    assert isinstance(one._transport, NoTransport) and not one._transport.is_read
     await asyncio.sleep(0)
     assert not one._transport.is_read
     await asyncio.sleep(0)
@@ -225,7 +225,7 @@ async def test_who_waits_is_not_read() -> None:
 
 
 async def test_who_has_ended_takes_no_turn() -> None:
-    found, heard = Gates(), Heard()
+    found, heard = Gates(), HeardSlices()
     gone = [passed(found, Inner("gone", heard)) for _ in range(9)]
     for each in gone:
         each.data_received(REQUEST)
@@ -238,10 +238,10 @@ async def test_who_has_ended_takes_no_turn() -> None:
 
 @pytest.mark.parametrize("stage", [Stage.WAITING, Stage.KNOWN])
 async def test_a_fault_ends_its_own_connection_alone(stage: Stage) -> None:
-    found, heard, faults = Gates(), Heard(), []
+    found, heard, faults = Gates(), HeardSlices(), []
     loop = asyncio.get_running_loop()
     loop.set_exception_handler(lambda _, context: faults.append(context["exception"]))
-    bad, good = passed(found, Failing(), stage=stage), passed(found, Inner("good", heard))
+    bad, good = passed(found, FailingProtocol(), stage=stage), passed(found, Inner("good", heard))
     good.data_received(REQUEST)
     try:
         bad.data_received(REQUEST)
@@ -250,7 +250,7 @@ async def test_a_fault_ends_its_own_connection_alone(stage: Stage) -> None:
     await asyncio.sleep(0)
     await asyncio.sleep(0)
     assert heard == [("good", REQUEST)] and [*map(type, faults)] == [ZeroDivisionError]
-    assert isinstance(bad._transport, Line) and bad._transport.is_over
+    assert isinstance(bad._transport, NoTransport) and bad._transport.is_over
 
 
 async def test_turns_go_on_after_a_while_without_any() -> None:

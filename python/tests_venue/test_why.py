@@ -10,8 +10,8 @@ import pytest
 import served
 from browsing import Page, opened
 
-Book = dict[str, Any]
-Orders = list[tuple[str, int, int]]
+ShownBook = dict[str, Any]
+BookOrders = list[tuple[str, int, int]]
 """Sides, limits in cents, and shares."""
 BOOKS = 2_000
 MONEY = r"\d+[.,]\d\d"
@@ -29,7 +29,7 @@ def written(cents: int) -> str:
     return f"{cents // 100}.{cents % 100:02}"
 
 
-def kept_of(levels: list[Book]) -> tuple[int, int]:
+def kept_of(levels: list[ShownBook]) -> tuple[int, int]:
     """The lower and the upper of the best limits that are kept."""
     sides = {side: [it["cents"] for it in levels if it["side"] == side] for side in ("bid", "ask")}
     if not sides["bid"] and not sides["ask"]:
@@ -37,9 +37,9 @@ def kept_of(levels: list[Book]) -> tuple[int, int]:
     return max(sides["bid"], default=0), min(sides["ask"], default=10**9)
 
 
-def book_of(orders: Orders, reference: int) -> Book:
+def book_of(orders: BookOrders, reference: int) -> ShownBook:
     """The book of limit orders as the venue's replay has it."""
-    levels: list[Book] = []
+    levels: list[ShownBook] = []
     for limit in sorted({it[1] for it in orders}, reverse=True):
         bid, ask = (
             sum(it[2] for it in orders if it[:2] == (side, limit)) for side in ("bid", "ask")
@@ -58,7 +58,7 @@ def book_of(orders: Orders, reference: int) -> Book:
     return found | decided(levels, most, reference)
 
 
-def decided(levels: list[Book], most: int, reference: int) -> Book:
+def decided(levels: list[ShownBook], most: int, reference: int) -> ShownBook:
     """The price of a book, in cents too, and the rule that made it."""
     best = [it for it in levels if it["is_best"]]
     if not most:
@@ -106,7 +106,7 @@ CHOICES = {
 """What may be said where the reference decides, with the prices that it names."""
 
 
-def check(book: Book, said: list[str], language: str) -> None:
+def check(book: ShownBook, said: list[str], language: str) -> None:
     """Raises AssertionError where a sentence on the reference isn't so, or one is missing."""
     best = [it for it in book["levels"] if it["is_best"]]
     low, high = kept_of(best)
@@ -133,7 +133,7 @@ def page(tmp_path_factory: pytest.TempPathFactory) -> Iterator[Page]:
         yield found
 
 
-def said_of(page: Page, books: list[Book], language: str) -> list[list[str]]:
+def said_of(page: Page, books: list[ShownBook], language: str) -> list[list[str]]:
     """The sentences of books in a language."""
     page.speaks(language)
     driver: Any = page.driver
@@ -142,7 +142,7 @@ def said_of(page: Page, books: list[Book], language: str) -> list[list[str]]:
     return found
 
 
-TIE: Orders = [("bid", 1200, 100), ("bid", 1150, 50), ("ask", 1150, 100), ("ask", 1175, 50)]
+TIE: BookOrders = [("bid", 1200, 100), ("bid", 1150, 50), ("ask", 1150, 100), ("ask", 1175, 50)]
 """At 11.50 fifty are left to buy, at 11.75 and 12.00 fifty to sell."""
 
 
@@ -169,7 +169,7 @@ def test_a_reference_beyond_the_kept_limits(
 @pytest.mark.parametrize("language", ["en", "de"])
 def test_each_sentence_holds(page: Page, language: str) -> None:
     chance = random.Random(7)
-    books: list[Book] = []
+    books: list[ShownBook] = []
     while len(books) < BOOKS:
         orders = [
             (chance.choice(("bid", "ask")), chance.randrange(190, 211), 50)

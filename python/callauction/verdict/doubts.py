@@ -140,7 +140,7 @@ class Doubts:
     def _odd(self) -> tuple[int, Reason] | None:
         """From which place on the order of rows isn't known, as times can't be read, and why: the
         call phase of the first one, or the day's begin where more than a tenth are so, others fall,
-        rows were sorted by their times, or the last row has none, as it may only have been put last.
+        rows were sorted by their times, or the last row has none: it may only have been put last.
         """
         rows = self.rows
         both = numpy.union1d(self.orders, self.uncrosses)
