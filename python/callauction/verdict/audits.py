@@ -12,6 +12,7 @@ import pandas
 from callauction.program import Day
 from callauction.progress import Progress
 from callauction.verdict import restricted
+from callauction.verdict.corrected_results import corrected, has_more, with_late_results
 from callauction.verdict.coverage import Coverage
 from callauction.verdict.early_rows import Early, doubt_times
 from callauction.verdict.events import rows_of
@@ -19,9 +20,7 @@ from callauction.verdict.extract import read_table
 from callauction.verdict.findings import INCOMPLETE, LAWFUL, STATUSES, UNLAWFUL, Verdict, verdict_of
 from callauction.verdict.joining import with_results
 from callauction.verdict.judging import Judge
-from callauction.verdict.mixed import (
-    corrected, has_more, refuse_days, refuse_sums, with_late_results,
-)  # fmt: skip
+from callauction.verdict.mixed_files import refuse_days, refuse_sums
 from callauction.verdict.otherwise import judged_beside_others
 from callauction.verdict.reading import Reading
 from callauction.verdict.reorderings import all_times

@@ -18,10 +18,10 @@ from callauction.verdict.busts import Busts
 from callauction.verdict.cells import Ints, Mask
 from callauction.verdict.columns import ExtractError
 from callauction.verdict.comparing import Difference, KeyedFill, KeyedTrade, keys_of, member_columns
-from callauction.verdict.mixed import is_one_session
-from callauction.verdict.names import is_placeholder, respelled
+from callauction.verdict.mixed_files import is_one_session
 from callauction.verdict.paths import Moment
 from callauction.verdict.phases import Result, StandingBook
+from callauction.verdict.respelling import is_placeholder, respelled
 from callauction.verdict.rows import AuctionCode, BadRow, Cell, Doubt, Kind, Rows
 from callauction.verdict.ties import Ties
 from callauction.verdict.unnamed_trades import Strays

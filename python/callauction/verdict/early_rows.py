@@ -11,7 +11,6 @@ import numpy
 from callauction.verdict import time_columns, times
 from callauction.verdict.cells import Ints
 from callauction.verdict.comparing import Difference
-from callauction.verdict.mixed import LONGEST
 from callauction.verdict.paths import Judged, Judgement
 from callauction.verdict.row_order import over_midnight
 from callauction.verdict.rows import OF_ORDERS, Kind, Rows
@@ -91,7 +90,7 @@ class Early:
         """
         is_below = (others >= 0) & (self.rows.spots[those] > self.rows.spots[others])
         gaps = numpy.where(is_below, self.gaps(those, others), 0)
-        gaps[gaps > LONGEST] = 0
+        gaps[gaps > time_columns.LONGEST_SESSION] = 0
         many = int((gaps > 0).sum())
         if not many or self.is_no_order:
             return "", -1, -1

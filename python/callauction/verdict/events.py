@@ -13,7 +13,7 @@ from callauction.verdict.column_words import (
 )  # fmt: skip
 from callauction.verdict.columns import KINDS
 from callauction.verdict.joining import join_sides, take_busted
-from callauction.verdict.names import below_their_entries, make_keys
+from callauction.verdict.order_keys import below_their_entries, make_keys
 from callauction.verdict.reading import Reading
 from callauction.verdict.repeated_rows import (
     Gap, drop_sent_again, drop_sides_again, find_holes, gaps_of, remark_of,

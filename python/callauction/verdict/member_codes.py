@@ -5,7 +5,7 @@ import numpy
 import pandas
 
 from callauction.verdict.cells import Ints
-from callauction.verdict.names import is_placeholder
+from callauction.verdict.respelling import is_placeholder
 from callauction.verdict.rows import OF_ORDERS, Cell, Kind, Rows
 
 RENAMED = "members of trades may be renamed: {} in orders, {} in trades{}"

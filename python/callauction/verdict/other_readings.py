@@ -6,25 +6,25 @@ from collections.abc import Mapping
 import numpy
 
 from callauction.verdict.cells import Ints
+from callauction.verdict.corrected_results import (
+    corrected, doubled, has_more, in_parts, stopped_again, with_last_stops, with_parts,
+)  # fmt: skip
 from callauction.verdict.coverage import PRICE_ITEMS
 from callauction.verdict.hidden_shares import lacking, with_rests
 from callauction.verdict.judging import Judge
 from callauction.verdict.lots import in_shares, lot_of, orders_in_shares, parts_in_shares
 from callauction.verdict.member_codes import without_codes
-from callauction.verdict.mixed import (
-    corrected, doubled, has_more, in_parts, namings, stopped_again, with_last_stops, with_names,
-    with_parts,
-)  # fmt: skip
-from callauction.verdict.names import OTHER_IDS, have_other_ids, misentered, renamed, respelled
 from callauction.verdict.other_reading import OtherReading, of_rows
 from callauction.verdict.owners import Owners
 from callauction.verdict.paths import Judgement
 from callauction.verdict.repeated_rows import amended, copies, second_trades, too_many
+from callauction.verdict.respelling import OTHER_IDS, have_other_ids, misentered, renamed, respelled
 from callauction.verdict.rows import INTERRUPTED, Doubt, Kind, Rows
 from callauction.verdict.rules import Rules
 from callauction.verdict.table import End
 from callauction.verdict.totals import Totals
 from callauction.verdict.units import in_one_unit, why_two_units
+from callauction.verdict.unnamed_results import namings, with_names
 from callauction.verdict.unpriced import unpriced
 
 TWICE = "each trade has two rows: is there one for each side?"

@@ -7,14 +7,14 @@ import numpy
 from callauction.progress import Progress
 from callauction.verdict.comparing import doubted
 from callauction.verdict.judging import Judge
-from callauction.verdict.mixed import refuse_markets, refuse_parts
-from callauction.verdict.names import respelled
+from callauction.verdict.mixed_files import refuse_markets, refuse_parts
 from callauction.verdict.other_reading import OtherReading, ReadDay
 from callauction.verdict.other_readings import OtherReadings
 from callauction.verdict.paths import Judgement
 from callauction.verdict.reorderings import (
     by_number, by_time, falls_of, falls_of_numbers, other_orders,
 )  # fmt: skip
+from callauction.verdict.respelling import respelled
 from callauction.verdict.rows import Rows
 from callauction.verdict.rules import Rules
 from callauction.verdict.spellings import in_one_spelling

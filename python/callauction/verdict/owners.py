@@ -7,7 +7,7 @@ import numpy
 
 from callauction.verdict.cells import Ints
 from callauction.verdict.columns import look_of
-from callauction.verdict.names import is_placeholder
+from callauction.verdict.respelling import is_placeholder
 from callauction.verdict.rows import BadRow, Cell, Kind, Rows
 
 ENTRIES_A_FAULT = 20

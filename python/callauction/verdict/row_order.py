@@ -9,7 +9,6 @@ from callauction.verdict import time_columns, times
 from callauction.verdict.cells import Codes, Ints, Mask, numbered, paired_codes
 from callauction.verdict.column_words import Columns
 from callauction.verdict.columns import KINDS, ExtractError
-from callauction.verdict.mixed import LONGEST
 from callauction.verdict.reading import Reading
 from callauction.verdict.rows import OF_ORDERS, Int8s, Kind
 from callauction.verdict.table import Table
@@ -55,14 +54,15 @@ def _timed(table: Table, order: Ints, reading: Reading) -> tuple[Columns, Ints]:
 
 
 def _falls(time: Ints) -> bool:
-    """Whether a time is below the one above it by more than LONGEST."""
-    return bool((numpy.diff(time[time != time_columns.NO_TIME]) < -LONGEST).any())
+    """Whether a time is below the one above it by more than LONGEST_SESSION."""
+    timed = time[time != time_columns.NO_TIME]
+    return bool((numpy.diff(timed) < -time_columns.LONGEST_SESSION).any())
 
 
 def over_midnight(time: Ints, sequence: Ints | None, instruments: Codes) -> Ints:
     """The times, those of an instrument a day later that go on in its sequence, or among its rows,
-    behind one that is later by more than LONGEST: once, as a session goes on over midnight. Dates
-    say it themselves.
+    behind one that is later by more than LONGEST_SESSION: once, as a session goes on over midnight.
+    Dates say it themselves.
     """
     timed = numpy.flatnonzero(time != time_columns.NO_TIME)
     is_known = sequence is None or (sequence[timed] >= 0).all()
@@ -70,7 +70,7 @@ def over_midnight(time: Ints, sequence: Ints | None, instruments: Codes) -> Ints
         return time
     ranks = () if sequence is None else (sequence[timed],)
     timed = timed[numpy.lexsort((timed, *ranks, instruments[timed]))]
-    falls = numpy.flatnonzero(numpy.diff(time[timed]) < -LONGEST)
+    falls = numpy.flatnonzero(numpy.diff(time[timed]) < -time_columns.LONGEST_SESSION)
     above, below = instruments[timed[falls]], instruments[timed[falls + 1]]
     found = time.copy()
     for number in numpy.unique(above).tolist():

@@ -10,6 +10,8 @@ NO_TIME = numpy.iinfo("i8").min
 """The number of a time that isn't there or can't be read."""
 SECOND = 10**9
 DAY = times.DAY_SECONDS * SECOND
+LONGEST_SESSION = 18 * 3600 * SECOND
+"""How long a session may be in nanoseconds: times that fall by more are the next day's."""
 DATED = 2 * DAY
 """From which nanosecond on a time has a date: below it one without may be the next day's."""
 _AT_ONCE = 1 << 17

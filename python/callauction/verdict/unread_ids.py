@@ -8,7 +8,7 @@ import numpy
 
 from callauction.verdict.cells import Codes, Ints
 from callauction.verdict.columns import is_id
-from callauction.verdict.names import MOST_TEXTS
+from callauction.verdict.respelling import MOST_TEXTS
 from callauction.verdict.rows import BadRow, Doubt, Kind, Rows
 
 BEFORE = "{} has {!r}: is it that order? (--columns replace.order={},replace.new_order={})"
