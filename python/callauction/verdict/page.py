@@ -113,7 +113,8 @@ def _explained(verdict: Verdict) -> Iterator[Part]:
     found, many = verdict.shown()[:MOST_EXPLAINED], len(verdict.findings) + len(verdict.doubtful)
     if not found:
         return
-    more = f"The first {len(found)} of {many:,} are here, --findings has all."
+    first = "The first" if len(found) == 1 else f"The first {len(found)}"
+    more = f"{first} of {many:,} {'is' if len(found) == 1 else 'are'} here, --findings has all."
     text = f"<p>{more}</p>" if len(found) < many else ""
     yield "Findings", text + "".join(_finding(verdict, *it) for it in found)
 
