@@ -39,7 +39,7 @@ def row_of(order: Order, day: Day) -> Row:
     visible = order.quantity if order.peak is None else min(order.peak, order.quantity)
     filled = sum(trade.quantity for trade in day.tape if order.id in (trade.bid, trade.ask))
     terms = order.id, order.member, order.side, order.limit, order.quantity
-    return *terms, visible, filled, order.only
+    return *terms, visible, filled, order.restriction
 
 
 def listed(day: Day, member: int | None = None) -> list[Row]:

@@ -52,7 +52,7 @@ def rows_by_the_rules(before: Day, after: Day, interrupted: bool) -> list[Row]:
             filled = sum(quantity for id, quantity in ids if id == order.id)
             left = order.quantity - filled
             expired = left > 0 and order.id not in after.book
-            assert not expired or order.only == kind
+            assert not expired or order.restriction == kind
             if filled or expired:
                 number = int(BID if side == "bid" else ASK)
                 of_order = order.id, tick, order.member, number, int(expired)
