@@ -49,6 +49,7 @@ class Part:
 
 FEW = " -p checks.first_case_of_each_test"
 """What has pytest run one case of each test."""
+REFUSED_RUNS = "test_each_refused_memory_of_a_run_is_said"
 KINDS = " -p first_test_of_each_kind"
 """What has pytest run one test of each kind."""
 TYPED = "env MYPY_CACHE_DIR=../out/mypy/"
@@ -127,7 +128,7 @@ PARTS = [
         f"{cases('refusals')} --tests {TESTS}",
         "cc",
         "pytest",
-        short=cases("refusals").replace(".py", ".py::test_runs") + FEW,
+        short=cases("refusals").replace(".py", f".py::{REFUSED_RUNS}") + FEW,
     ),
     Part(
         "library",
@@ -212,7 +213,7 @@ CRATES = Part(
 """In a short run in place of the gate."""
 ON_PACKAGE = f"env PYTHONSAFEPATH=1 CALLAUCTION_PACKAGE={PACKAGE}"
 INSTALLED = {
-    "refusals": f"{cases('refusals')} -k not(test_calls)",
+    "refusals": f"{cases('refusals')} -k not(test_each_refused_memory_of_a_call)",
     "python": f"python/test --package {PACKAGE} --program {PROGRAM}",
     "report": f"checks/report --package {PACKAGE} {PROGRAM}",
     "market": f"{ON_PACKAGE} {MARKET}",

@@ -57,7 +57,7 @@ def words_of_what_is_built(pytestconfig: pytest.Config, program: str) -> list[st
 
 
 @pytest.mark.parametrize("name", [it for it in names() if it not in LEFT_OUT])
-def test_measure(name: str, given: list[str]) -> None:
+def test_each_measure_prints_its_tables(name: str, given: list[str]) -> None:
     words = [sys.executable, str(BENCH), name, "--smallest", *given]
     ran = subprocess.run(words, capture_output=True, text=True, timeout=600)
     assert ran.returncode == 0, ran.stdout + ran.stderr

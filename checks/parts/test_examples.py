@@ -126,7 +126,7 @@ def test_readme_prints_the_first_example() -> None:
     assert readme_block("    1: entered 1") == lines.splitlines()
 
 
-def test_readme_session(program: str, tmp_path: pathlib.Path) -> None:
+def test_the_session_of_readme_answers_as_it_says(program: str, tmp_path: pathlib.Path) -> None:
     command, *lines = readme_block("    ./callboard --live --journal today.csv")
     records, said = lines[1::2], [lines[0], *lines[2::2]]
     session = Session([program, *command.split()[1:-1], str(tmp_path / "today.csv")], False)

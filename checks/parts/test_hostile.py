@@ -71,12 +71,16 @@ def hold(program: str, tables: dict[str, list[str]], case: Case) -> None:
 
 
 @pytest.mark.parametrize("case", CASES, ids=[case.name for case in CASES])
-def test_order_files(program: str, tables: dict[str, list[str]], case: Case) -> None:
+def test_each_hostile_order_file_is_answered_in_time_and_memory(
+    program: str, tables: dict[str, list[str]], case: Case
+) -> None:
     hold(program, tables, case)
 
 
 @pytest.mark.parametrize("case", JOURNALS, ids=[case.name for case in JOURNALS])
-def test_journals(program: str, tables: dict[str, list[str]], case: Case) -> None:
+def test_each_hostile_journal_is_answered_in_time_and_memory(
+    program: str, tables: dict[str, list[str]], case: Case
+) -> None:
     hold(program, tables, case)
 
 
@@ -135,7 +139,9 @@ def long_file() -> Iterator[str]:
 
 
 @pytest.mark.parametrize("device", DEVICES, ids=[device[0] for device in DEVICES])
-def test_devices(program: str, long_file: str, device: Device) -> None:
+def test_each_device_ends_a_run_as_is_said_and_at_once(
+    program: str, long_file: str, device: Device
+) -> None:
     _, command, status, error = device
     begin = time.perf_counter()
     words = ["bash", "-c", command, "bash", program, long_file]

@@ -178,7 +178,9 @@ def finish(program: str, file: pathlib.Path, day: Kept, words: list[str]) -> Non
 
 
 @pytest.mark.parametrize("seed", SEEDS)
-def test_killed_and_gone_on(program: str, tmp_path: pathlib.Path, seed: int) -> None:
+def test_a_killed_session_goes_on_with_all_that_it_answered(
+    program: str, tmp_path: pathlib.Path, seed: int
+) -> None:
     dice = random.Random(seed)
     day = kept_day(seed)
     file = tmp_path / "day.journal"
@@ -189,7 +191,9 @@ def test_killed_and_gone_on(program: str, tmp_path: pathlib.Path, seed: int) -> 
 
 
 @pytest.mark.parametrize("seed", range(201, 211))
-def test_terminated_and_gone_on(program: str, tmp_path: pathlib.Path, seed: int) -> None:
+def test_a_terminated_session_goes_on_with_all_that_it_answered(
+    program: str, tmp_path: pathlib.Path, seed: int
+) -> None:
     dice = random.Random(seed)
     day = kept_day(seed)
     file = tmp_path / "day.journal"
@@ -217,7 +221,9 @@ TAILS = [
 
 @pytest.mark.parametrize("tail", TAILS, ids=lambda tail: repr(tail[:40]))
 @pytest.mark.parametrize("seed", [3, 7])
-def test_torn_end(program: str, tmp_path: pathlib.Path, tail: bytes, seed: int) -> None:
+def test_a_torn_end_is_put_aside_and_the_day_goes_on(
+    program: str, tmp_path: pathlib.Path, tail: bytes, seed: int
+) -> None:
     day = kept_day(seed)
     for count in {1, 2, len(day.journal)}:
         file = tmp_path / f"{count}.journal"
@@ -252,7 +258,7 @@ FIRST = [
 
 
 @pytest.mark.parametrize("left", FIRST, ids=lambda left: repr(left[:40]))
-def test_what_a_crash_leaves_of_the_first_record(
+def test_what_a_crash_leaves_of_the_first_record_is_written_anew(
     program: str, tmp_path: pathlib.Path, left: bytes
 ) -> None:
     file = tmp_path / "day.journal"
@@ -301,7 +307,7 @@ def refused(
     ],
     ids=lambda value: value if isinstance(value, str) else "",
 )
-def test_another_day(
+def test_a_journal_of_another_day_is_refused_by_what_differs(
     program: str, tmp_path: pathlib.Path, words: list[str], names: str
 ) -> None:
     file = tmp_path / "day.journal"
@@ -324,7 +330,7 @@ def test_another_day(
     ],
     ids=["a command", "a member", "a reply", "unlawful", "no reply"],
 )
-def test_foreign_lines(
+def test_lines_that_no_session_wrote_are_refused_by_their_place(
     program: str, tmp_path: pathlib.Path, lines: str, status: int, fault: str
 ) -> None:
     file = tmp_path / "day.journal"
@@ -350,7 +356,9 @@ FOREIGN = {
 
 
 @pytest.mark.parametrize("bytes_", FOREIGN.values(), ids=FOREIGN)
-def test_foreign_files(program: str, tmp_path: pathlib.Path, bytes_: bytes) -> None:
+def test_a_file_that_is_no_journal_stays_as_it_was(
+    program: str, tmp_path: pathlib.Path, bytes_: bytes
+) -> None:
     file = tmp_path / "prices.xlsx"
     file.write_bytes(bytes_)
     file.chmod(0o640)
@@ -361,7 +369,7 @@ def test_foreign_files(program: str, tmp_path: pathlib.Path, bytes_: bytes) -> N
 
 @pytest.mark.parametrize("zeros", [1, 512], ids=["a byte", "a sector"])
 @pytest.mark.parametrize("at", [0.1, 0.5, 0.8])
-def test_spoiled_in_the_middle(
+def test_a_journal_that_is_spoiled_in_the_middle_is_refused(
     program: str, tmp_path: pathlib.Path, zeros: int, at: float
 ) -> None:
     file = tmp_path / "day.journal"
@@ -379,7 +387,7 @@ def test_spoiled_in_the_middle(
     assert list(tmp_path.iterdir()) == [file]
 
 
-def test_more_behind_the_lines_than_a_torn_commit_leaves(
+def test_more_behind_the_lines_than_a_torn_commit_leaves_is_refused(
     program: str, tmp_path: pathlib.Path
 ) -> None:
     file = tmp_path / "day.journal"
@@ -397,7 +405,9 @@ def test_more_behind_the_lines_than_a_torn_commit_leaves(
     ],
     ids=["bounds", "reference"],
 )
-def test_bad_day(program: str, tmp_path: pathlib.Path, words: list[str], fault: str) -> None:
+def test_a_bad_day_is_refused_before_a_file_is_made(
+    program: str, tmp_path: pathlib.Path, words: list[str], fault: str
+) -> None:
     new, torn = tmp_path / "new", tmp_path / "torn"
     torn.write_bytes(b"day,\0\0")
     for file in (new, torn, tmp_path / "no/such/folder"):
@@ -405,7 +415,9 @@ def test_bad_day(program: str, tmp_path: pathlib.Path, words: list[str], fault: 
     assert list(tmp_path.iterdir()) == [torn]
 
 
-def test_in_use(program: str, tmp_path: pathlib.Path) -> None:
+def test_a_journal_in_use_is_refused_and_its_session_goes_on(
+    program: str, tmp_path: pathlib.Path
+) -> None:
     file = tmp_path / "day.journal"
     session = Session([program, "--live", "--journal", str(file)], False)
     try:
@@ -420,7 +432,7 @@ def test_in_use(program: str, tmp_path: pathlib.Path) -> None:
     assert file.read_text() == f"{DAY}1,ask,{ASK}\n"
 
 
-def test_no_regular_file(program: str, tmp_path: pathlib.Path) -> None:
+def test_a_link_or_what_is_no_regular_file_is_refused(program: str, tmp_path: pathlib.Path) -> None:
     failed = "journal open failed\n"
     irregular = "journal open failed: a link, or no regular file\n"
     file = tmp_path / "day.journal"
@@ -441,7 +453,9 @@ def test_no_regular_file(program: str, tmp_path: pathlib.Path) -> None:
 
 
 @pytest.mark.parametrize("mode", [0o620, 0o602, 0o666, 0o777])
-def test_others_may_write_it(program: str, tmp_path: pathlib.Path, mode: int) -> None:
+def test_a_journal_that_others_may_write_is_refused(
+    program: str, tmp_path: pathlib.Path, mode: int
+) -> None:
     file = tmp_path / "day.journal"
     file.write_text(DAY)
     file.chmod(mode)
@@ -468,7 +482,7 @@ def test_from_the_first_entry_its_owner_alone_may_read_it(
 
 @pytest.mark.skipif(os.geteuid() != 0, reason="only root gives files away")
 @pytest.mark.parametrize("text", ["", DAY])
-def test_another_users_file(program: str, tmp_path: pathlib.Path, text: str) -> None:
+def test_another_users_file_is_refused(program: str, tmp_path: pathlib.Path, text: str) -> None:
     file = tmp_path / "day.journal"
     file.write_text(text)
     os.chown(file, 65534, 65534)
@@ -478,7 +492,7 @@ def test_another_users_file(program: str, tmp_path: pathlib.Path, text: str) -> 
 
 @pytest.mark.parametrize("stream", [0, 1, 2])
 @pytest.mark.parametrize("text", ["", DAY])
-def test_a_stream_of_the_session(
+def test_a_stream_of_the_session_is_refused_as_its_journal(
     program: str, tmp_path: pathlib.Path, stream: int, text: str
 ) -> None:
     """What is read from or printed into the journal itself would spoil it."""
@@ -525,7 +539,7 @@ by_each_change = pytest.mark.parametrize(
 
 @by_each_change
 @pytest.mark.parametrize("words", [[], ["--sync", "none"]], ids=["each", "none"])
-def test_changed_by_others(
+def test_a_journal_that_others_change_ends_the_session(
     program: str,
     tmp_path: pathlib.Path,
     change: Callable[[pathlib.Path], None],
@@ -546,7 +560,7 @@ def test_changed_by_others(
 
 
 @by_each_change
-def test_changed_before_the_end(
+def test_a_journal_that_others_change_before_the_end_is_noticed(
     program: str, tmp_path: pathlib.Path, change: Callable[[pathlib.Path], None]
 ) -> None:
     file = tmp_path / "day.journal"
@@ -650,7 +664,9 @@ def nobodys_program(program: str) -> Iterator[list[str]]:
     [(0o777, 0o400), (0o555, 0o600), (0o555, None), (0o555, 0o400), (0o777, 0o200)],
     ids=["file", "folder", "folder, no file", "both", "not readable"],
 )
-def test_read_only(as_nobody: list[str], of_folder: int, of_file: int | None) -> None:
+def test_a_journal_that_may_not_be_read_and_written_is_refused(
+    as_nobody: list[str], of_folder: int, of_file: int | None
+) -> None:
     with tempfile.TemporaryDirectory() as above:
         folder = pathlib.Path(above) / "day"
         folder.mkdir()
@@ -690,7 +706,9 @@ def limited(most: int) -> Callable[[], None]:
     return set_limit
 
 
-def test_no_room_for_what_is_cut_off(program: str, tmp_path: pathlib.Path) -> None:
+def test_without_room_for_what_is_cut_off_nothing_is_lost(
+    program: str, tmp_path: pathlib.Path
+) -> None:
     file = tmp_path / "day.journal"
     file.write_text(f"{DAY}1,ask,{ASK}\n1,as")
     refused(program, file, [], 3, "journal failed\n", limited(2))
@@ -703,7 +721,7 @@ def test_no_room_for_what_is_cut_off(program: str, tmp_path: pathlib.Path) -> No
     assert pathlib.Path(kept[1]).read_text() == "1,as"
 
 
-def test_no_room_at_first(program: str, tmp_path: pathlib.Path) -> None:
+def test_without_room_at_first_nothing_is_answered(program: str, tmp_path: pathlib.Path) -> None:
     got = subprocess.run(
         [program, "--live", "--journal", str(tmp_path / "day.journal")],
         input="1,ask\n",
@@ -716,7 +734,9 @@ def test_no_room_at_first(program: str, tmp_path: pathlib.Path) -> None:
 
 
 @pytest.mark.parametrize("words", [[], ["--sync", "none"]], ids=["each", "none"])
-def test_no_room_later(program: str, tmp_path: pathlib.Path, words: list[str]) -> None:
+def test_without_room_later_what_was_answered_is_kept(
+    program: str, tmp_path: pathlib.Path, words: list[str]
+) -> None:
     file = tmp_path / "day.journal"
     count = 60_000
     got = subprocess.run(
@@ -773,7 +793,7 @@ def test_bad_records_stand_in_no_journal(program: str, tmp_path: pathlib.Path) -
     ],
     ids=" ".join,
 )
-def test_options_that_do_not_go_together(
+def test_options_that_do_not_go_together_are_refused(
     program: str, tmp_path: pathlib.Path, words: list[str]
 ) -> None:
     file = tmp_path / "day.journal"

@@ -34,7 +34,7 @@ SOURCE = "pub enum Side {\n    Bid,\n    Ask,\n}\n"
 
 
 @pytest.mark.parametrize("rule", RULES, ids=[rule.__name__ for rule in RULES])
-def test_no_fault(rule: Rule) -> None:
+def test_no_rule_finds_a_fault(rule: Rule) -> None:
     faults = [*rule(OURS)]
     assert not faults, "\n" + "\n".join(faults)
 
@@ -71,7 +71,7 @@ def test_a_good_repository_has_no_fault(tmp_path: pathlib.Path) -> None:
         assert faults_of(rule, tree) == []
 
 
-def test_a_term_with_a_second_meaning(tmp_path: pathlib.Path) -> None:
+def test_a_term_with_a_second_meaning_is_found(tmp_path: pathlib.Path) -> None:
     row = "| ask | the question for the price | `Side` |\n"
     tree = planted(tmp_path, **{"docs/GLOSSARY.md": GLOSSARY + row})
     assert faults_of(documents.second_meanings, tree) == [
@@ -79,7 +79,7 @@ def test_a_term_with_a_second_meaning(tmp_path: pathlib.Path) -> None:
     ]
 
 
-def test_a_variant_with_a_second_meaning(tmp_path: pathlib.Path) -> None:
+def test_a_variant_with_a_second_meaning_is_found(tmp_path: pathlib.Path) -> None:
     other = "pub enum Command {\n    Enter(Order),\n    Ask,\n}\n"
     tree = planted(tmp_path, **{"crates/terms/src/command.rt": other})
     assert faults_of(documents.second_meanings, tree) == [
@@ -87,7 +87,7 @@ def test_a_variant_with_a_second_meaning(tmp_path: pathlib.Path) -> None:
     ]
 
 
-def test_a_type_with_a_second_meaning(tmp_path: pathlib.Path) -> None:
+def test_a_type_with_a_second_meaning_is_found(tmp_path: pathlib.Path) -> None:
     tree = planted(tmp_path, **{"crates/other/src/lib.rt": "pub struct Side;\n"})
     where = "crates/other/src/lib.rt:1, crates/terms/src/lib.rt:1"
     assert faults_of(documents.second_meanings, tree) == [
@@ -98,7 +98,7 @@ def test_a_type_with_a_second_meaning(tmp_path: pathlib.Path) -> None:
 
 
 @pytest.mark.parametrize("name", ["IsSound", "line_of"])
-def test_a_definition_with_a_second_meaning(tmp_path: pathlib.Path, name: str) -> None:
+def test_a_definition_with_a_second_meaning_is_found(tmp_path: pathlib.Path, name: str) -> None:
     first = f"abbrev pub {name} : Line → Type 0\n"
     second = f"unfoldable pub {name} : Day → Type 0\n"
     files = {"crates/other/specs/Day.antt": second, "crates/terms/specs/Line.antt": first}
@@ -117,7 +117,7 @@ def test_a_definition_with_a_second_meaning(tmp_path: pathlib.Path, name: str) -
     ("src", "day.rt", "pub(in crate::a_day) fn price() {\n"),
     ("src", "day.rt", "struct price;\n"),
 ])
-def test_a_name_with_a_second_meaning_in_its_crate(
+def test_a_name_with_a_second_meaning_in_its_crate_is_found(
     tmp_path: pathlib.Path, folder: str, first: str, second: str
 ) -> None:
     others = {"specs": ("Line.antt", "unfoldable pub price : Line → ℕ\n"),
@@ -137,7 +137,7 @@ def test_a_name_with_a_second_meaning_in_its_crate(
     ("class LIMIT:\n    pass\n", "LIMIT = list[int]\n"),
     ("def LIMIT() -> int:\n    return 1\n", "async def LIMIT() -> int:\n    return 1\n"),
 ])
-def test_a_name_with_a_second_meaning_in_python(
+def test_a_name_with_a_second_meaning_in_a_package_is_found(
     tmp_path: pathlib.Path, first: str, second: str
 ) -> None:
     folder = "python/callauction/verdict"
@@ -147,7 +147,7 @@ def test_a_name_with_a_second_meaning_in_python(
     ]
 
 
-def test_names_of_python_that_have_one_meaning(tmp_path: pathlib.Path) -> None:
+def test_names_of_python_that_have_one_meaning_are_no_fault(tmp_path: pathlib.Path) -> None:
     """Of two packages, imported, of one module alone, within a function, or of no package."""
     tree = planted(tmp_path, **{
         "python/callauction/verdict/one.py": "LIMIT = 1\nLIMIT = 2\n_MOST = 3\n",
@@ -169,7 +169,7 @@ def test_names_of_python_that_have_one_meaning(tmp_path: pathlib.Path) -> None:
     ('Book = TypeVar("Book")\n', "Book: TypeAlias = list[int]\n"),
 ])
 @pytest.mark.parametrize("other", ["venue/", ""])
-def test_a_type_with_a_second_meaning_in_python(
+def test_a_type_with_a_second_meaning_in_python_is_found(
     tmp_path: pathlib.Path, first: str, second: str, other: str
 ) -> None:
     files = [f"python/callauction/{folder}book.py" for folder in ("verdict/", other)]
@@ -180,7 +180,7 @@ def test_a_type_with_a_second_meaning_in_python(
     ]
 
 
-def test_types_of_python_that_have_one_meaning(tmp_path: pathlib.Path) -> None:
+def test_types_of_python_that_have_one_meaning_are_no_fault(tmp_path: pathlib.Path) -> None:
     """Imported, of one package alone, private, within a class, or of no package; a constant."""
     tree = planted(tmp_path, **{
         "python/callauction/verdict/one.py": "class Book:\n    class Row: ...\nMOST_ROWS = 1\n",
@@ -197,7 +197,7 @@ def test_types_of_python_that_have_one_meaning(tmp_path: pathlib.Path) -> None:
     ("import tests.test_day as days\n", ["tests.test_day is a module of tests"]),
     ("from days import test_day\nimport testing\n", []),
 ])
-def test_a_module_of_tests_that_another_imports(
+def test_a_module_of_tests_that_another_imports_is_found(
     tmp_path: pathlib.Path, text: str, faults: list[str]
 ) -> None:
     tree = planted(tmp_path, **{"python/tests/test_other.py": text})
@@ -216,7 +216,7 @@ def test_a_module_of_tests_that_another_imports(
     {"proofs/day/a/Answers.antt": "pub price : goal.price\n",
      "proofs/day/b/Answers.antt": "pub price : goal.price\n"},
 ])
-def test_a_name_with_one_meaning_in_its_crate(
+def test_a_name_with_one_meaning_in_its_crate_is_no_fault(
     tmp_path: pathlib.Path, files: dict[str, str]
 ) -> None:
     texts = {f"crates/terms/{name}": text for name, text in files.items()}
@@ -233,7 +233,7 @@ LONG = "".join(f"{{}} {number} = Some (twice number {number})\n" for number in r
     ("double : ℕ → Option ℕ\ndouble = double\n", 0),
 ])
 @pytest.mark.parametrize("place", ["book/proofs/BLaws.antt", "terms/proofs/day/a/Answers.antt"])
-def test_a_definition_that_stands_in_two_crates(
+def test_a_definition_that_stands_in_two_crates_is_found(
     tmp_path: pathlib.Path, place: str, other: str, faults: int
 ) -> None:
     """That of the proof of one function may be as another's."""
@@ -248,7 +248,7 @@ def test_a_definition_that_stands_in_two_crates(
 
 
 @pytest.mark.parametrize("place", ["docs/GLOSSARY.md", "README.md", "docs/MODEL.md"])
-def test_a_dead_name(tmp_path: pathlib.Path, place: str) -> None:
+def test_a_dead_name_is_found(tmp_path: pathlib.Path, place: str) -> None:
     rows = GLOSSARY if place == "docs/GLOSSARY.md" else ""
     tree = planted(tmp_path, **{place: rows + "| gone | a name of before | `shown_at` |\n"})
     (fault,) = faults_of(documents.dead_names, tree)
@@ -256,7 +256,7 @@ def test_a_dead_name(tmp_path: pathlib.Path, place: str) -> None:
     assert fault.endswith("`shown_at` is nowhere in the repository")
 
 
-def test_a_dead_path(tmp_path: pathlib.Path) -> None:
+def test_a_dead_path_is_found(tmp_path: pathlib.Path) -> None:
     tree = planted(tmp_path, **{"README.md": "As `docs/NOWHERE.md` and `crates/terms` say.\n"})
     assert faults_of(documents.dead_names, tree)[0] == "README.md:1: there is no docs/NOWHERE.md"
 
@@ -265,7 +265,7 @@ def test_a_dead_path(tmp_path: pathlib.Path) -> None:
     ("docs/GLOSSARY.md", 0), ("docs/GLOSSARY.md#glossary", 0), ("#what-it-is", 0), ("crates", 0),
     ("https://example.org/a", 0), ("docs/GONE.md", 1), ("docs/GLOSSARY.md#gone", 1), ("#gone", 1),
 ])
-def test_a_dead_link(tmp_path: pathlib.Path, link: str, faults: int) -> None:
+def test_a_dead_link_is_found(tmp_path: pathlib.Path, link: str, faults: int) -> None:
     tree = planted(tmp_path, **{"README.md": f"# What `it` is\n\nAs [there]({link}) is said.\n"})
     assert len(faults_of(documents.dead_links, tree)) == faults
 
@@ -275,12 +275,12 @@ def test_a_dead_link(tmp_path: pathlib.Path, link: str, faults: int) -> None:
     ("Run /ro" + "ot/a.", 1), ("../sh" + "ared/a", 1), ("In /wo" + "rk/a.", 1),
     ("In out/wo" + "rk/a, section 3.", 0),
 ])
-def test_a_foreign_text(tmp_path: pathlib.Path, text: str, faults: int) -> None:
+def test_a_foreign_text_is_found(tmp_path: pathlib.Path, text: str, faults: int) -> None:
     tree = planted(tmp_path, **{"crates/terms/src/a.rt": f"// {text}\n"})
     assert len(faults_of(documents.foreign_texts, tree)) == faults
 
 
-def test_documents_that_are_too_long(tmp_path: pathlib.Path) -> None:
+def test_documents_that_are_too_long_are_found(tmp_path: pathlib.Path) -> None:
     tree = planted(tmp_path, **{"README.md": "a" * documents.MOST_BYTES})
     assert len(faults_of(documents.sizes, tree)) == 1
 
@@ -294,31 +294,31 @@ def test_a_list_that_is_made_is_not_counted(tmp_path: pathlib.Path) -> None:
 
 
 @pytest.mark.parametrize("text", ["A list.", "This page is made by `python3 -P -m callauction.no`"])
-def test_a_list_that_no_command_makes(tmp_path: pathlib.Path, text: str) -> None:
+def test_a_list_that_no_command_makes_is_found(tmp_path: pathlib.Path, text: str) -> None:
     tree = planted(tmp_path, **{"docs/made/FIX_MESSAGES.md": f"{text}\n"})
     assert faults_of(documents.made_lists, tree) == [
         "docs/made/FIX_MESSAGES.md: it doesn't say which command makes it"
     ]
 
 
-def test_another_kit(tmp_path: pathlib.Path) -> None:
+def test_another_kit_is_found(tmp_path: pathlib.Path) -> None:
     tree = planted(tmp_path, **{"docs/PROVED.md": "Proved by rattle-kit-1.\n"})
     assert len(faults_of(documents.kits, tree)) == 1
 
 
-def test_this_kit_among_others(tmp_path: pathlib.Path) -> None:
+def test_this_kit_among_others_is_no_fault(tmp_path: pathlib.Path) -> None:
     names = f"rattle-kit-1 and {documents.kit().split()[0]}"
     tree = planted(tmp_path, **{"docs/PROVED.md": f"Proved by {names}.\n"})
     assert not faults_of(documents.kits, tree)
 
 
 @pytest.mark.parametrize("name", ["Side::" + "Buy", "Side." + "SELL", "best_" + "buy"])
-def test_a_name_of_another_side(tmp_path: pathlib.Path, name: str) -> None:
+def test_a_name_of_another_side_is_found(tmp_path: pathlib.Path, name: str) -> None:
     tree = planted(tmp_path, **{"crates/terms/src/other.rt": f"    {name}\n"})
     assert len(faults_of(sources.other_sides, tree)) == 1
 
 
-def test_a_long_line(tmp_path: pathlib.Path) -> None:
+def test_a_long_line_is_found(tmp_path: pathlib.Path) -> None:
     long = "-- " + "x" * sources.MOST_COLUMNS + "\n"
     files = {"crates/terms/specs/Lib.antt": long, "crates/terms/proofs/A.antt": long}
     tree = planted(tmp_path, **files)
@@ -326,7 +326,7 @@ def test_a_long_line(tmp_path: pathlib.Path) -> None:
 
 
 @pytest.mark.parametrize("name", ["python/callauction/a.py", "build/a"])
-def test_a_long_line_of_python(tmp_path: pathlib.Path, name: str) -> None:
+def test_a_long_line_of_python_is_found(tmp_path: pathlib.Path, name: str) -> None:
     most = "# " + "ä" * (sources.MOST_COLUMNS_OF_PYTHON - 2)
     text = f"#!/usr/bin/env python3\n{most}\n{most}ä\n"
     other = f"#!/usr/bin/env bash\n{most}ä\n"
@@ -340,7 +340,9 @@ def test_a_long_line_of_python(tmp_path: pathlib.Path, name: str) -> None:
     ("python/pages/texts.js", "// Words."),
     ("library/build", "#!/usr/bin/env bash"),
 ])
-def test_a_long_line_of_another_language(tmp_path: pathlib.Path, name: str, head: str) -> None:
+def test_a_long_line_of_another_language_is_found(
+    tmp_path: pathlib.Path, name: str, head: str
+) -> None:
     tree = planted(tmp_path, **{name: f"{head}\n{'a' * 120}\n{'a' * 121}\n"})
     assert faults_of(sources.long_lines, tree) == [f"{name}:3: 121 columns, 120 at most"]
 
@@ -353,7 +355,7 @@ HEADS = [
 
 
 @pytest.mark.parametrize("head", HEADS)
-def test_a_walk_without_a_head(tmp_path: pathlib.Path, head: str) -> None:
+def test_a_walk_without_a_head_is_found(tmp_path: pathlib.Path, head: str) -> None:
     good = "-- Invariants of the loops of `f` (src/lib.rt); rt looks here.\n"
     files = {"Answers": head + "\n", "Invariants": good}
     named = {f"crates/terms/proofs/f/{name}.antt": text for name, text in files.items()}
@@ -366,7 +368,7 @@ def test_a_walk_without_a_head(tmp_path: pathlib.Path, head: str) -> None:
     ("`Day::run` (`IsGone`: `wrote`)", ["IsGone"]),
     ("`other` (`gone`), `Day`'s `view` (`gone`)", []),
 ])
-def test_a_clause_that_no_contract_has(
+def test_a_clause_that_no_contract_has_is_found(
     tmp_path: pathlib.Path, cited: str, unknown: list[str]
 ) -> None:
     source = "pub fn run()\n    ensures text { IsRun result }\n{}\n"
@@ -378,7 +380,7 @@ def test_a_clause_that_no_contract_has(
     assert [*edits.unknown_clauses([row], tree.top)] == faults
 
 
-def test_the_list_of_wrong_bodies(tmp_path: pathlib.Path) -> None:
+def test_wrong_bodies_are_listed_with_what_refuses_them(tmp_path: pathlib.Path) -> None:
     row = "wrong, worse | it is wrong | `run` (`text`)\n"
     tree = planted(
         tmp_path,
@@ -428,7 +430,7 @@ impl Other {
         ("result ≡ 1", None),
     ],
 )
-def test_the_function_that_an_edit_changes(
+def test_the_function_that_an_edit_changes_is_known(
     tmp_path: pathlib.Path, old: str, names: set[str] | None
 ) -> None:
     text = f"file: src/deep/sum.rt\nold: {old}\nnew: {old}0\n"
@@ -451,7 +453,7 @@ def test_the_function_that_an_edit_changes(
         ("terms::deep::sum::Sum::one", "not proved", "Sum/one: it has no field `x`", False),
     ],
 )
-def test_what_a_check_says_of_a_body_among_others(
+def test_a_body_among_others_is_refused_by_what_is_said_of_its_function(
     symbol: str, status: str, error: str, refused: bool
 ) -> None:
     folder, _, text = error.partition(": ")
@@ -463,7 +465,7 @@ def test_what_a_check_says_of_a_body_among_others(
 
 
 @pytest.mark.parametrize("others, refused", [([], True), (["terms::third::one"], False)])
-def test_what_a_check_says_of_a_method_of_another_files_type(
+def test_a_method_of_another_files_type_is_refused_where_no_other_is(
     others: list[str], refused: bool
 ) -> None:
     symbols = ["terms::other::Sum::one", *others, "terms::other::Sum::two"]
@@ -482,7 +484,7 @@ def test_what_a_check_says_of_a_method_of_another_files_type(
         ("proved", "deep/sum", 4, False),
     ],
 )
-def test_what_is_noted_of_a_body(
+def test_a_body_is_refused_by_a_note_at_its_own_lines(
     status: str, file: str, line: int, refused: bool
 ) -> None:
     said = f"note: src/{file}.rt:{line}:5: it is not proved that what the function ensures holds"

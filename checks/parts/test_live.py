@@ -30,30 +30,30 @@ RUNS = [*live_cases.run_table()]
 
 
 @pytest.mark.parametrize("talk", TALKS, ids=[talk.name for talk in TALKS])
-def test_over_pipes(program: str, talk: Talk) -> None:
+def test_a_session_over_pipes_answers_each_turn(program: str, talk: Talk) -> None:
     hold(program, talk)
 
 
 @pytest.mark.parametrize("talk", AT_TERMINALS, ids=[talk.name for talk in AT_TERMINALS])
-def test_at_a_terminal(program: str, talk: Talk) -> None:
+def test_a_session_at_a_terminal_answers_each_turn(program: str, talk: Talk) -> None:
     hold(program, talk, at_terminal=True)
 
 
 @pytest.mark.parametrize("seed", SEEDS)
-def test_random_record_by_record(program: str, seed: int) -> None:
+def test_a_random_session_is_answered_record_by_record(program: str, seed: int) -> None:
     found = live_cases.random_session(seed)
     hold(program, Talk("", found.words, found.turns, status=found.status))
 
 
 @pytest.mark.parametrize("seed", SEEDS)
-def test_random_at_once(program: str, seed: int) -> None:
+def test_a_random_session_that_is_sent_at_once_is_answered_alike(program: str, seed: int) -> None:
     found = live_cases.random_session(seed)
     whole = [live_cases.at_once(found.turns)]
     hold(program, Talk("", found.words, whole, status=found.status))
 
 
 @pytest.mark.parametrize("seed", SEEDS)
-def test_random_in_pieces(program: str, seed: int) -> None:
+def test_a_random_session_that_is_sent_in_pieces_is_answered_alike(program: str, seed: int) -> None:
     found = live_cases.random_session(seed)
     dice = random.Random(seed)
     whole = live_cases.at_once(found.turns)
@@ -73,7 +73,7 @@ def test_random_in_pieces(program: str, seed: int) -> None:
 
 
 @pytest.mark.parametrize("run", RUNS, ids=[run[0] for run in RUNS])
-def test_devices_and_options(program: str, run: Run) -> None:
+def test_devices_that_fail_and_wrong_options_end_a_session(program: str, run: Run) -> None:
     _, words, ends, status, out, err = run
     child = subprocess.run(
         ["bash", "-c", f'"$0" "$@" {ends}', program, *words],
@@ -100,7 +100,7 @@ def memory_of(program: str, count: int) -> int:
         return int(figures.read().split()[2])
 
 
-def test_ends_that_do_not_wait(program: str) -> None:
+def test_ends_of_pipes_that_do_not_wait_lose_nothing(program: str) -> None:
     reading, sending = os.pipe()
     answering, writing = os.pipe()
     for end in (reading, writing):

@@ -207,13 +207,15 @@ BAD_ROWS: dict[str, BadRow] = {
 
 
 @pytest.mark.parametrize("row", ROWS, ids=[row[0] for row in ROWS])
-def test_runs(program: str, sweep: Sweep, row: Row) -> None:
+def test_each_refused_memory_of_a_run_is_said(program: str, sweep: Sweep, row: Row) -> None:
     name, words, data, is_right, is_refusal = row
     sweep(name, [program, *words], data, is_right, is_refusal)
 
 
 @pytest.mark.parametrize("name", BAD_ROWS)
-def test_bad_words_and_files(program: str, sweep: Sweep, name: str) -> None:
+def test_bad_words_and_files_are_said_or_the_refused_memory(
+    program: str, sweep: Sweep, name: str
+) -> None:
     """The answer is as on the plain heap, word for word."""
     options, status, text = BAD_ROWS[name]
     words = [program, *options]
@@ -225,7 +227,9 @@ def test_bad_words_and_files(program: str, sweep: Sweep, name: str) -> None:
     sweep(name, words, BAD_INPUT, plain.__eq__, is_refusal_of_program)
 
 
-def test_bad_bounds(program: str, sweep: Sweep) -> None:
+def test_bad_bounds_are_said_without_their_hint_or_the_refused_memory(
+    program: str, sweep: Sweep
+) -> None:
     words = [program, "--low", "5", "--high", "4"]
     line = "bad bounds\n"
     right = (2, "", line + "low 5 is above high 4\n"), (2, "", line)
@@ -249,7 +253,9 @@ def pytest_generate_tests(metafunc: pytest.Metafunc) -> None:
     metafunc.parametrize("call", calls, ids=ids)
 
 
-def test_calls(sweep: Sweep, call: tuple[str, str]) -> None:
+def test_each_refused_memory_of_a_call_leaves_all_as_it_was(
+    sweep: Sweep, call: tuple[str, str]
+) -> None:
     file, name = call
     assert name, f"{file} has no test of refused.rt: build it by `rt test`"
     sweep(name, [file, name], b"", lambda answer: answer[0] == 0, is_refusal_of_test)

@@ -171,7 +171,9 @@ def test_a_file_that_is_too_long_is_no_signal(tmp_path: pathlib.Path) -> None:
 
 
 @pytest.mark.parametrize("is_staged", [True, False], ids=["with a stage", "without a stage"])
-def test_installing(built: dict[str, str], tmp_path: pathlib.Path, is_staged: bool) -> None:
+def test_what_is_installed_is_whole_and_taken_away_whole(
+    built: dict[str, str], tmp_path: pathlib.Path, is_staged: bool
+) -> None:
     room = tmp_path / "a room"
     prefix = "/usr" if is_staged else str(room / "own")
     env = built | ({"DESTDIR": str(room)} if is_staged else {})
@@ -200,7 +202,9 @@ def test_all_may_use_what_is_installed_under_any_umask(
     assert {mode for it, mode in modes.items() if it.is_file()} == {0o755, 0o644}
 
 
-def test_using_what_is_installed(built: dict[str, str], tmp_path: pathlib.Path) -> None:
+def test_what_is_installed_works_in_python_and_in_c(
+    built: dict[str, str], tmp_path: pathlib.Path
+) -> None:
     place = tmp_path / "a place"
     installed = run(TOP / "install", place, env=built)
     assert installed.returncode == 0 and f"LD_LIBRARY_PATH={place}/lib" in installed.stderr
@@ -301,7 +305,7 @@ def test_what_was_changed_stays(built: dict[str, str], tmp_path: pathlib.Path) -
 
 
 @pytest.mark.parametrize("words", [["here"], [], ["/a", "/b"], ["--other", "/a"]])
-def test_wrong_words(words: list[str]) -> None:
+def test_wrong_words_are_refused(words: list[str]) -> None:
     ran = run(TOP / "install", *words)
     assert ran.returncode == 2
     assert words != ["here"] or "'here' doesn't begin with /" in ran.stderr
@@ -345,7 +349,7 @@ def test_a_program_that_is_not_the_librarys_is_refused(
     assert ran.stderr == f"install: {named}: {other}\n"
 
 
-def test_the_library_alone(built: dict[str, str], tmp_path: pathlib.Path) -> None:
+def test_the_library_can_be_installed_alone(built: dict[str, str], tmp_path: pathlib.Path) -> None:
     """No program is asked for or built, nor is one that is named put there."""
     env = built | {"CALLBOARD_PROGRAM": "/nowhere"}
     words = [TOP / "install", "--without-program", "--without-python", tmp_path]
@@ -381,7 +385,7 @@ def venv(tmp_path: pathlib.Path) -> pathlib.Path:
     return folder
 
 
-def test_pip_from_the_sources(
+def test_pip_installs_from_the_sources_by_a_named_library(
     built: dict[str, str], venv: pathlib.Path, tmp_path: pathlib.Path
 ) -> None:
     words = [venv / "bin/pip", "install", "--no-index", "--no-build-isolation", TOP / "python"]
@@ -394,7 +398,7 @@ def test_pip_from_the_sources(
     assert [*venv.rglob("*callauction*")] == []
 
 
-def test_pip_from_an_installed_library(
+def test_pip_installs_from_the_sources_by_an_installed_library(
     built: dict[str, str], venv: pathlib.Path, tmp_path: pathlib.Path
 ) -> None:
     place = tmp_path / "a place"
@@ -491,7 +495,9 @@ def test_another_commit_is_another_version(tmp_path: pathlib.Path) -> None:
     assert last == f"{versions[1]}.changed"
 
 
-def test_what_was_proved(release: pathlib.Path, gate: dict[str, Any]) -> None:
+def test_proved_txt_says_what_was_proved_of_which_files(
+    release: pathlib.Path, gate: dict[str, Any]
+) -> None:
     lines = (release / "PROVED.txt").read_text().splitlines()
     heads = [line.partition(":")[0] for line in lines]
     assert heads[:4] == ["version", "commit", "kit", "gate"]
@@ -513,7 +519,9 @@ def test_the_sums_are_signed(
     assert run(*verify, "-in", changed, *signature).returncode != 0
 
 
-def test_of_what_it_is_made(release: pathlib.Path, gate: dict[str, Any]) -> None:
+def test_the_bill_of_materials_names_what_it_is_made_of(
+    release: pathlib.Path, gate: dict[str, Any]
+) -> None:
     found = json.loads((release / "sbom.spdx.json").read_text())
     assert (found["spdxVersion"], found["SPDXID"]) == ("SPDX-2.3", "SPDXRef-DOCUMENT")
     packages = {it["name"]: it for it in found["packages"]}
@@ -553,7 +561,7 @@ GATES: dict[str, tuple[dict[str, Any], str]] = {
 
 
 @pytest.mark.parametrize("what", GATES)
-def test_a_gate(
+def test_a_gate_that_failed_or_is_of_other_files_is_refused(
     what: str, gate: dict[str, Any], built: dict[str, str], tmp_path: pathlib.Path
 ) -> None:
     change, text = GATES[what]
@@ -564,7 +572,9 @@ def test_a_gate(
     assert text in refused(["--gate", path], built, tmp_path)
 
 
-def test_no_gate(built: dict[str, str], gate: dict[str, Any], tmp_path: pathlib.Path) -> None:
+def test_without_a_gate_there_is_no_release(
+    built: dict[str, str], gate: dict[str, Any], tmp_path: pathlib.Path
+) -> None:
     path = tmp_path / "gate.json"
     text = refused(["--gate", path], built, tmp_path)
     assert text == "release: the gate was not run on this tree: ./check\n"
@@ -577,7 +587,7 @@ def test_no_gate(built: dict[str, str], gate: dict[str, Any], tmp_path: pathlib.
     assert text == "release: /bin/true is not the callboard over which the gate was run\n"
 
 
-def test_what_the_test_command_writes(
+def test_the_test_command_writes_which_binaries_passed(
     tmp_path: pathlib.Path, monkeypatch: pytest.MonkeyPatch
 ) -> None:
     (tmp_path / "callboard").write_bytes(b"program")
@@ -594,7 +604,7 @@ def test_what_the_test_command_writes(
     found.check(found.tree, {"callboard": tmp_path / "callboard"}, ["ci"])
 
 
-def test_a_folder_that_is_there(built: dict[str, str], tmp_path: pathlib.Path) -> None:
+def test_a_folder_that_is_there_is_refused(built: dict[str, str], tmp_path: pathlib.Path) -> None:
     env = {**os.environ, **built}
     words = [str(TOP / "release"), "--without-gate", str(tmp_path)]
     ran = subprocess.run(words, env=env, capture_output=True, text=True)
@@ -602,7 +612,9 @@ def test_a_folder_that_is_there(built: dict[str, str], tmp_path: pathlib.Path) -
     assert [*tmp_path.iterdir()] == []
 
 
-def test_the_tarball(release: pathlib.Path, tmp_path: pathlib.Path) -> None:
+def test_the_tarballs_program_runs_where_it_is_unpacked(
+    release: pathlib.Path, tmp_path: pathlib.Path
+) -> None:
     (tarball,) = release.glob("*.tar.gz")
     with tarfile.open(tarball) as archive:
         archive.extractall(tmp_path)
@@ -614,7 +626,7 @@ def test_the_tarball(release: pathlib.Path, tmp_path: pathlib.Path) -> None:
     assert re.findall(r"NEEDED.*\[(.*)\]", done("readelf", "--dynamic", program)) == ["libc.so.6"]
 
 
-def test_the_wheel(
+def test_the_wheel_is_whole_and_passes_the_packages_tests(
     release: pathlib.Path, venv: pathlib.Path, is_short: bool, tmp_path: pathlib.Path
 ) -> None:
     (wheel,) = release.glob("*.whl")
@@ -656,7 +668,9 @@ def test_the_packages_have_all_files(release: pathlib.Path, tmp_path: pathlib.Pa
     assert is_whole(tmp_path / "usr")
 
 
-def test_the_packages_config_for_cmake(release: pathlib.Path, tmp_path: pathlib.Path) -> None:
+def test_cmake_finds_the_library_of_the_packages(
+    release: pathlib.Path, tmp_path: pathlib.Path
+) -> None:
     for name in ("libcallauction1", "libcallauction-dev"):
         (deb,) = release.glob(f"{name}_*.deb")
         done("dpkg-deb", "--extract", deb, tmp_path / "a root")
@@ -689,7 +703,7 @@ def files_of(root: pathlib.Path) -> set[str]:
     return set(done(*words, "-print", cwd=root).splitlines())
 
 
-def test_debians_packages(
+def test_debians_packages_install_work_and_go_away(
     release: pathlib.Path,
     tables: dict[str, list[str]],
     is_short: bool,

@@ -173,7 +173,7 @@ liar: 2 passed, 0 failed
 
 
 @pytest.mark.parametrize("jobs", ["1", "4"])
-def test_what_is_printed(plant: Plant, jobs: str) -> None:
+def test_what_parts_print_is_shown_where_they_fail(plant: Plant, jobs: str) -> None:
     planted = plant(*MIXED)
     status, lines = planted.run("-j", jobs)
     assert status == 1
@@ -183,13 +183,13 @@ def test_what_is_printed(plant: Plant, jobs: str) -> None:
     assert sorted(planted.begun()) == sorted(row.split()[0] for row in MIXED)
 
 
-def test_all_passes(plant: Plant) -> None:
+def test_a_run_whose_parts_all_pass_says_how_long_it_took(plant: Plant) -> None:
     status, lines = plant("one passes", "other passes").run()
     assert (status, lines[-1]) == (0, "6 passed, 0 failed")
     assert re.fullmatch(r"check: \d+:\d\d on \d+ cores?, \d+ at once; the longest: .*", lines[-2])
 
 
-def test_what_parts_print_is_shown(plant: Plant) -> None:
+def test_with_show_all_that_parts_print_is_shown(plant: Plant) -> None:
     planted = plant("one passes", "bad fails")
     planted.record.write_text("")
     out, error = planted.start("--show").communicate(timeout=SECONDS)
@@ -198,13 +198,13 @@ def test_what_parts_print_is_shown(plant: Plant) -> None:
 
 
 @pytest.mark.parametrize("words", [["none"], ["-j", "0"], ["-j", "x"], ["--jobs", "-1"]])
-def test_wrong_words(plant: Plant, words: list[str]) -> None:
+def test_wrong_words_start_nothing(plant: Plant, words: list[str]) -> None:
     planted = plant("one passes")
     assert planted.run(*words)[0] == 2
     assert planted.begun() == []
 
 
-def test_one_run_at_a_time(plant: Plant) -> None:
+def test_a_second_run_is_refused(plant: Plant) -> None:
     planted = plant("one hangs")
     first = planted.start()
     planted.until(1)
@@ -222,13 +222,13 @@ def test_parts_run_side_by_side(plant: Plant) -> None:
     assert plant(*(f"part{it} meets" for it in range(4))).run("-j", "4")[0] == 0
 
 
-def test_one_part_at_a_time(plant: Plant) -> None:
+def test_with_one_job_parts_run_one_after_the_other(plant: Plant) -> None:
     planted = plant(*(f"part{it} passes" for it in range(4)))
     assert planted.run("-j", "1")[0] == 0
     assert planted.apart()
 
 
-def test_one_that_runs_alone(plant: Plant) -> None:
+def test_nothing_runs_beside_a_part_that_runs_alone(plant: Plant) -> None:
     planted = plant("alone passes alone", "one passes", "two passes", "lone passes alone")
     assert planted.run("-j", "4")[0] == 0
     words = [line.split()[:2] for line in planted.record.read_text().splitlines()]
@@ -238,7 +238,7 @@ def test_one_that_runs_alone(plant: Plant) -> None:
     assert {name for _, name in words[:4]} == {"one", "two"}
 
 
-def test_the_longest_first(plant: Plant) -> None:
+def test_parts_begin_with_the_new_and_the_longest(plant: Plant) -> None:
     planted = plant("short passes", "long passes", "new passes", "longest passes")
     (planted.top / "out/check").mkdir(parents=True)
     rows = "short 2.0\nlonger 8\nlong 9.5\nlongest 99.0\n"
@@ -247,7 +247,7 @@ def test_the_longest_first(plant: Plant) -> None:
     assert planted.begun() == ["new", "longest", "long", "short"]
 
 
-def test_the_longest_first_in_a_new_clone(plant: Plant) -> None:
+def test_parts_of_a_new_clone_begin_with_the_longest_too(plant: Plant) -> None:
     planted = plant("short passes", "long passes", "longest passes")
     (planted.top / "checks").mkdir()
     stored = planted.top / "checks/part_seconds.txt"
@@ -272,7 +272,7 @@ def test_seconds_are_learned(plant: Plant) -> None:
 
 
 @pytest.mark.parametrize("text", ["", "one\n", "one x\n", "\n\n", "one 1 2 3\n", "\0"])
-def test_files_that_are_damaged(plant: Plant, text: str) -> None:
+def test_damaged_files_of_earlier_runs_are_passed_over(plant: Plant, text: str) -> None:
     planted = plant("one passes")
     (planted.top / "out/check").mkdir(parents=True)
     for name in ("seconds.txt", "passed.txt"):
@@ -283,7 +283,7 @@ def test_files_that_are_damaged(plant: Plant, text: str) -> None:
 
 # ---- what goes wrong
 
-def test_a_part_that_hangs_until_it_is_killed(plant: Plant) -> None:
+def test_a_part_that_is_killed_has_failed(plant: Plant) -> None:
     planted = plant("one hangs", "two passes")
     child = planted.start()
     planted.until(2)
@@ -296,7 +296,7 @@ def test_a_part_that_hangs_until_it_is_killed(plant: Plant) -> None:
 
 
 @pytest.mark.parametrize("how", [signal.SIGTERM, signal.SIGINT], ids=["SIGTERM", "SIGINT"])
-def test_a_run_that_is_broken_off(plant: Plant, how: signal.Signals) -> None:
+def test_a_run_that_is_broken_off_ends_its_parts(plant: Plant, how: signal.Signals) -> None:
     planted = plant("one passes", "two refuses", "three hangs", "four passes alone")
     child = planted.start("-j", "3")
     planted.until(3)
@@ -397,7 +397,7 @@ def test_what_fails_later_passed_no_more(plant: Plant) -> None:
     assert planted.run("--resume")[0] == 1
 
 
-def test_sources_that_change_meanwhile(plant: Plant) -> None:
+def test_sources_that_change_meanwhile_have_all_run_again(plant: Plant) -> None:
     planted = plant("one edits", "two passes")
     lines = planted.run("-j", "1")[1]
     note = "check: sources were changed meanwhile: nothing more is kept for --resume"
@@ -471,20 +471,22 @@ def test_a_product_is_there_before_its_maker_ends(scheduled: Scheduled) -> None:
 
 
 @pytest.mark.parametrize("text", ["echo one", "echo one; exit 3", "printf 'on\\ne'"])
-def test_a_product_that_is_not_made(scheduled: Scheduled, text: str) -> None:
+def test_who_needs_a_product_that_is_not_made_does_not_begin(
+    scheduled: Scheduled, text: str
+) -> None:
     product = Product("it", frozenset({"one", "two"}))
     rows = scheduled(shell("maker", text, gives=[product]), shell("user", "true", "it"))
     assert rows[-1] == "end user maker made no it: see maker.log"
     assert "begin user" not in rows
 
 
-def test_a_product_of_a_task_that_fails(scheduled: Scheduled) -> None:
+def test_who_needs_a_product_of_a_task_that_fails_does_not_begin(scheduled: Scheduled) -> None:
     product = Product("it")
     rows = scheduled(shell("maker", "exit 1", gives=[product]), shell("user", "true", "it"))
     assert rows == ["begin maker", "end maker 1", "end user maker made no it: see maker.log"]
 
 
-def test_a_product_that_cannot_be_taken(scheduled: Scheduled) -> None:
+def test_who_needs_a_product_that_cannot_be_taken_does_not_begin(scheduled: Scheduled) -> None:
     def refuse() -> None:
         raise beside.Fault("it is broken")
 
@@ -515,12 +517,12 @@ def test_a_part_that_hangs_fails(plant: Plant) -> None:
     assert "one: ended after 0:01, its longest time" in lines
 
 
-def test_a_product_of_nobody(scheduled: Scheduled) -> None:
+def test_a_product_that_nobody_makes_is_said(scheduled: Scheduled) -> None:
     rows = scheduled(shell("user", "true", "it"), shell("other", "true"))
     assert sorted(rows) == ["begin other", "end other 0", "end user nothing makes it"]
 
 
-def test_a_command_that_is_not_there(scheduled: Scheduled) -> None:
+def test_a_command_that_is_not_there_is_said(scheduled: Scheduled) -> None:
     (row,) = scheduled(Task("one", lambda: ["./nowhere"]))
     assert row.startswith("end one [Errno 2] No such file")
 
@@ -529,7 +531,7 @@ def test_a_command_that_is_not_there(scheduled: Scheduled) -> None:
     "free, is_proof, beside_another",
     [(3.9, True, False), (7.9, True, False), (8.1, True, True), (0.9, False, False)],
 )
-def test_memory_that_has_to_be_free(
+def test_tasks_begin_beside_others_where_memory_is_free(
     scheduled: Scheduled,
     monkeypatch: pytest.MonkeyPatch,
     free: float,
@@ -549,7 +551,9 @@ def test_a_proof_leaves_room_to_others(
     assert rows[:2] == ["begin proof", "begin other"]
 
 
-def test_the_gates_copy(plant: Plant, monkeypatch: pytest.MonkeyPatch) -> None:
+def test_the_gates_copy_has_the_sources_alone(
+    plant: Plant, monkeypatch: pytest.MonkeyPatch
+) -> None:
     planted = plant("one passes")
     (planted.top / "out").mkdir()
     (planted.top / "out/made").write_text("")
@@ -586,7 +590,7 @@ def built_files(tmp_path: pathlib.Path, monkeypatch: pytest.MonkeyPatch) -> path
 EVERY = {"PROGRAM", "TESTS", "CLOCK", "LIBRARY"}
 
 
-def test_what_is_built_without_the_gate(three: pathlib.Path) -> None:
+def test_without_the_gate_what_is_old_is_built(three: pathlib.Path) -> None:
     found = build_tasks.Builds(EVERY, False, False, three)
     assert found.there == {"PROGRAM", "LIBRARY"}
     assert found.path("PROGRAM") == str(three / "usual/PROGRAM")
@@ -600,7 +604,7 @@ def test_what_is_built_without_the_gate(three: pathlib.Path) -> None:
     ]
 
 
-def test_what_is_built_after_the_gate(three: pathlib.Path) -> None:
+def test_after_the_gate_what_it_built_is_taken(three: pathlib.Path) -> None:
     found = build_tasks.Builds(EVERY, False, True, three)
     assert found.there == EVERY and [*found.tasks()] == []
     assert found.path("TESTS") == str(three / "kept/TESTS")
@@ -609,7 +613,7 @@ def test_what_is_built_after_the_gate(three: pathlib.Path) -> None:
     assert usual == str(three / "usual/PROGRAM")
 
 
-def test_what_is_built_by_the_gate(
+def test_in_the_gate_all_comes_of_what_it_proves(
     three: pathlib.Path, monkeypatch: pytest.MonkeyPatch
 ) -> None:
     found = build_tasks.Builds(EVERY, True, False, three)
@@ -635,7 +639,7 @@ def test_what_is_built_by_the_gate(
 @pytest.mark.parametrize(
     "change, is_kept", [("nothing", True), ("program", False), ("sources", False), ("gate", False)]
 )
-def test_over_which_binaries_a_run_was(
+def test_a_run_over_the_gates_binaries_is_kept(
     three: pathlib.Path, monkeypatch: pytest.MonkeyPatch, change: str, is_kept: bool
 ) -> None:
     written: list[tuple[str, list[str]]] = []
@@ -780,7 +784,9 @@ def test_a_build_that_cannot_begin_has_a_status_of_its_own(
     assert capsys.readouterr().err == f"callboard: {said}\n"
 
 
-def test_seconds_of_crates(tmp_path: pathlib.Path, monkeypatch: pytest.MonkeyPatch) -> None:
+def test_seconds_of_crates_are_kept_as_they_are_proved(
+    tmp_path: pathlib.Path, monkeypatch: pytest.MonkeyPatch
+) -> None:
     here, kept = tmp_path / "here", tmp_path / "kept"
     monkeypatch.setattr(building, "SECONDS", here)
     monkeypatch.setattr(building, "KEPT_SECONDS", kept)
@@ -839,7 +845,7 @@ def repository_of_crates(tmp_path: pathlib.Path, monkeypatch: pytest.MonkeyPatch
         ("crates.txt", CRATES_TXT.replace("other:", "other: slab"), ["other"]),
     ],
 )
-def test_crates_that_changed(
+def test_what_changed_names_the_crates_that_stand_on_it(
     repository: pathlib.Path, file: str, text: str, names: list[str]
 ) -> None:
     commit = changed.usual_commit()
@@ -850,7 +856,7 @@ def test_crates_that_changed(
     assert names == [] or changed.changed("HEAD")[0] == names[0]
 
 
-def test_since_origins_main(repository: pathlib.Path) -> None:
+def test_what_changed_is_since_origins_main(repository: pathlib.Path) -> None:
     first = changed.usual_commit()
     git = ["git", "-c", "user.name=x", "-c", "user.email=x@x"]
     subprocess.run([*git, "update-ref", "refs/remotes/origin/main", "HEAD"], cwd=repository)
@@ -911,7 +917,7 @@ OF_INSTALL = ("bin/callboard", "lib/libcallauction.a", "share/callauction/instal
     ],
     ids=["tarball", "./install --without-python", "wheel", "packages of Debian"],
 )
-def test_what_is_installed(
+def test_what_a_package_has_is_found(
     capsys: pytest.CaptureFixture[str], tmp_path: pathlib.Path, places: list[str], there: set[str]
 ) -> None:
     prefix = package_in(tmp_path / "a prefix", *places)
@@ -931,7 +937,7 @@ def test_what_is_installed(
     assert ("has no package for Python\n" in said) == ("python" not in parts)
 
 
-def test_what_is_not_installed(tmp_path: pathlib.Path) -> None:
+def test_a_package_that_is_none_is_refused(tmp_path: pathlib.Path) -> None:
     with pytest.raises(beside.Fault, match="has no program bin/callboard or callboard"):
         package.Package(tmp_path, tmp_path)
     old = package_in(tmp_path, "callboard", version_of="1.2.3")
@@ -995,7 +1001,7 @@ def tarball_in(folder: pathlib.Path) -> pathlib.Path:
     return folder
 
 
-def test_the_files_of_a_package(tmp_path: pathlib.Path) -> None:
+def test_files_of_a_package_that_differ_are_told(tmp_path: pathlib.Path) -> None:
     prefix = tarball_in(tmp_path / "a prefix")
     words = [sys.executable, "-B", TOP / "checks/package.py", prefix]
     ran = subprocess.run(words, capture_output=True, text=True)
@@ -1007,7 +1013,7 @@ def test_the_files_of_a_package(tmp_path: pathlib.Path) -> None:
     assert ran.returncode == 1 and ran.stdout.splitlines() == [*lines, "1 passed, 2 failed"]
 
 
-def test_a_library_that_is_installed(tmp_path: pathlib.Path) -> None:
+def test_the_library_of_a_package_is_linked_as_it_is(tmp_path: pathlib.Path) -> None:
     prefix = package_in(tmp_path / "prefix", "bin/callboard", "lib/libcallauction.a")
     for part in runner.PARTS:
         (tmp_path / part.name).mkdir()  # as each has a folder for its temporary files
@@ -1046,7 +1052,7 @@ def test_with_a_folder_too(case: int, tmp_path: object) -> None:
         ("first_test_of_each_kind", "4 passed, 10 deselected"),
     ],
 )
-def test_one_of_each(plugin: str, said: str, tmp_path: pathlib.Path) -> None:
+def test_a_plugin_runs_one_of_each(plugin: str, said: str, tmp_path: pathlib.Path) -> None:
     for name in ("test_planted.py", "test_beside.py")[: 2 if "kind" in plugin else 1]:
         (tmp_path / name).write_text(PLANTED_TESTS)
     words = [sys.executable, "-B", "-m", "pytest", "-q", "-p", plugin, str(tmp_path)]
@@ -1058,5 +1064,5 @@ def test_one_of_each(plugin: str, said: str, tmp_path: pathlib.Path) -> None:
 @pytest.mark.parametrize(
     "words", [["--since", "HEAD"], ["--installed", "/", "--short"], ["--installed", "/nowhere"]]
 )
-def test_words_that_do_not_go_together(plant: Plant, words: list[str]) -> None:
+def test_words_that_do_not_go_together_are_refused(plant: Plant, words: list[str]) -> None:
     assert plant("one passes").run(*words)[0] == 2

@@ -15,12 +15,12 @@ TALKS = [*view_cases.view_talks()]
 
 
 @pytest.mark.parametrize("talk", TALKS, ids=[talk.name for talk in TALKS])
-def test_worked_views(program: str, talk: Talk) -> None:
+def test_each_worked_view_is_shown(program: str, talk: Talk) -> None:
     hold(program, talk)
 
 
 @pytest.mark.parametrize("seed", SEEDS)
-def test_random_views(program: str, seed: int) -> None:
+def test_random_views_are_the_models(program: str, seed: int) -> None:
     talk = random_talk(seed)
     hold(program, dataclasses.replace(talk, turns=[at_once(talk.turns)]))
 

@@ -53,7 +53,7 @@ def open_files() -> int:
     return len(os.listdir("/proc/self/fd"))
 
 
-def test_what_it_reads_prints_and_says(tmp_path: pathlib.Path) -> None:
+def test_it_reads_prints_and_says_why_it_ends(tmp_path: pathlib.Path) -> None:
     errors = tmp_path / "errors"
     before = open_files()
     with shell("cat; echo bad >&2; exit 5", errors, "a text\n") as child:
@@ -89,7 +89,7 @@ def test_one_that_only_ends_its_output_is_not_waited_for(tmp_path: pathlib.Path)
         os.kill(process, 0)
 
 
-def test_where_the_kernel_does_not_tell(
+def test_its_end_is_found_where_the_kernel_does_not_tell(
     tmp_path: pathlib.Path, monkeypatch: pytest.MonkeyPatch
 ) -> None:
     def refused(_process: int) -> int:

@@ -86,7 +86,7 @@ def test_a_run_has_no_verdict(program: str, tmp_path: pathlib.Path) -> None:
     assert line.startswith("instruments 3, entries 0, faults 0, seconds ")
 
 
-def test_names_of_any_bytes(program: str, tmp_path: pathlib.Path) -> None:
+def test_names_of_any_bytes_are_shown_in_a_line(program: str, tmp_path: pathlib.Path) -> None:
     folder = os.fsencode(tmp_path / "journals")
     os.mkdir(folder)
     for name in (b"\xff\xfe", b"a\nb", b"\x1b[31mred", b"=1+2", b"\xe2\x80\xae"):
@@ -105,7 +105,7 @@ def test_names_of_any_bytes(program: str, tmp_path: pathlib.Path) -> None:
     ]
 
 
-def test_names_for_a_terminal_of_ascii(program: str, tmp_path: pathlib.Path) -> None:
+def test_names_are_shown_on_a_terminal_of_ascii(program: str, tmp_path: pathlib.Path) -> None:
     write(tmp_path / "journals", {"Ärzte": BAD["D"]})
     words = words_of("audit", tmp_path / "journals")
     env = environment(program) | {"PYTHONIOENCODING": "ascii"}
@@ -113,7 +113,7 @@ def test_names_for_a_terminal_of_ascii(program: str, tmp_path: pathlib.Path) -> 
     assert ran.stdout.startswith("\\xc4rzte: fault: ") and (ran.returncode, ran.stderr) == (1, "")
 
 
-def test_what_is_expected(program: str, tmp_path: pathlib.Path) -> None:
+def test_what_is_missing_of_a_list_is_a_fault(program: str, tmp_path: pathlib.Path) -> None:
     write(tmp_path / "journals", LAWFUL)
     wanted = tmp_path / "list"
     words = ["audit", tmp_path / "journals", "--expect", wanted, "-o", tmp_path / "result.csv"]
@@ -195,14 +195,14 @@ def test_wrong_words_are_refused_in_a_line(
     assert wrong.text in printed.err.splitlines()[-1]
 
 
-def test_no_program(tmp_path: pathlib.Path) -> None:
+def test_a_program_that_is_not_there_is_said(tmp_path: pathlib.Path) -> None:
     write(tmp_path, LAWFUL)
     ran = command("audit", tmp_path, program=tmp_path / "none")
     assert (ran.returncode, ran.stdout) == (3, "")
     assert ran.stderr == f"market: CALLBOARD names no program: {tmp_path / 'none'}\n"
 
 
-def test_a_file_that_may_not_be_read(program: str, tmp_path: pathlib.Path) -> None:
+def test_a_file_that_may_not_be_read_is_a_fault(program: str, tmp_path: pathlib.Path) -> None:
     (path, *_) = write(tmp_path, LAWFUL)
     os.chmod(path, 0)
     drop = "--bounding-set=-dac_override,-dac_read_search"  # root may read all files else

@@ -151,7 +151,7 @@ WRONG = [
 
 
 @pytest.mark.parametrize("words, text", WRONG)
-def test_words_that_open_a_door(
+def test_words_that_would_open_a_door_are_refused(
     words: list[str], text: str, program: str, tmp_path: pathlib.Path
 ) -> None:
     new_keys(tmp_path)

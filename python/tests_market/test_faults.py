@@ -30,7 +30,9 @@ def rows_with(faults: dict[str, str]) -> list[rules.KnownColumns]:
     return sorted(rules.rows_of(TEXTS) + bad, key=lambda row: str(row["instrument"]))
 
 
-def test_bad_files(crew: Client | None, tmp_path: pathlib.Path) -> None:
+def test_a_bad_file_is_a_fault_of_its_row_alone(
+    crew: Client | None, tmp_path: pathlib.Path
+) -> None:
     texts = {
         "cut": f"{EMPTY_DAY}1,enter,bid,7,5,entered 1\n2,enter,as\n",
         "empty": "",
@@ -64,7 +66,7 @@ def test_a_reply_that_was_cut_accuses_nobody(client: Client, tmp_path: pathlib.P
     assert "day" not in row and "first_unlawful" not in row
 
 
-def test_programs_that_end_badly(
+def test_a_program_that_ends_badly_is_a_fault_of_its_row(
     crew: Client | None, harmful: pathlib.Path, tmp_path: pathlib.Path
 ) -> None:
     faults = {
@@ -78,7 +80,7 @@ def test_programs_that_end_badly(
 
 
 @pytest.mark.parametrize("name", ["never ends", "prints for ever", "closes and never ends"])
-def test_a_program_that_takes_too_long(
+def test_a_program_that_takes_too_long_is_ended(
     name: str, harmful: pathlib.Path, tmp_path: pathlib.Path
 ) -> None:
     paths = write(tmp_path / "journals", TEXTS | {name: EMPTY_DAY})
@@ -101,7 +103,9 @@ def test_limits_go_by_the_size() -> None:
 
 
 @pytest.mark.parametrize("memory, status", [("0", 2), ("7", 2), ("x", 2), ("-8", 2), ("8", 0)])
-def test_the_least_memory(memory: str, status: int, capsys: pytest.CaptureFixture[str]) -> None:
+def test_less_than_the_least_memory_is_refused(
+    memory: str, status: int, capsys: pytest.CaptureFixture[str]
+) -> None:
     words = ["audit", "folder", "--memory", memory]
     if status == 0:
         assert arguments().parse_args(words).memory == int(memory)
@@ -111,7 +115,7 @@ def test_the_least_memory(memory: str, status: int, capsys: pytest.CaptureFixtur
     assert found.value.code == status and "from 8 on" in capsys.readouterr().err
 
 
-def test_a_program_that_runs_out_of_memory(
+def test_a_program_that_runs_out_of_memory_is_a_fault_of_its_row(
     crew: Client | None, program: str, tmp_path: pathlib.Path
 ) -> None:
     large = "day,1,65536,200,64,65536,1048576,\n"
@@ -181,7 +185,7 @@ def test_who_kills_each_worker_is_told(
     assert columns(found) == rows_with({"kills its worker": "its worker ended each time"})
 
 
-def test_workers_without_the_program(client: Client, tmp_path: pathlib.Path) -> None:
+def test_workers_without_the_program_are_refused(client: Client, tmp_path: pathlib.Path) -> None:
     try:
         market.audit(write(tmp_path, TEXTS), client, program=tmp_path / "none")
     except market.MarketError as fault:

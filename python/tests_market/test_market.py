@@ -81,7 +81,7 @@ def test_what_is_printed_is_kept(crew: Client | None, tmp_path: pathlib.Path) ->
         assert (into / f"A.{form}.{end}").read_text() == expected
 
 
-def test_two_files_of_an_instrument(client: Client) -> None:
+def test_wrong_arguments_are_refused_before_a_run(client: Client) -> None:
     with pytest.raises(market.MarketError, match="two files of one instrument"):
         market.audit(["/a/X.csv", "/b/X.csv"], client)
     with pytest.raises(ValueError, match="'prices' is none of"):
@@ -90,7 +90,7 @@ def test_two_files_of_an_instrument(client: Client) -> None:
         market.run(["/a/X.csv"], [], client)
 
 
-def test_no_files(crew: Client | None) -> None:
+def test_without_files_there_are_no_rows(crew: Client | None) -> None:
     assert market.audit([], crew).empty
 
 
@@ -107,7 +107,7 @@ def test_tasks_take_all_files_once_and_the_largest_first(tmp_path: pathlib.Path)
     assert len(workers.batches_of([*files, "/none.csv"], 1)) < len(files)
 
 
-def test_what_is_expected(program: str, tmp_path: pathlib.Path) -> None:
+def test_what_is_missing_or_unexpected_is_a_fault(program: str, tmp_path: pathlib.Path) -> None:
     paths = write(tmp_path, {"A": TEXTS["short 1"], "B": TEXTS["short 2"], "C": "day\n"})
     found = market.audit(paths, expect=["B", "D", "Ä"], workers=1)
     assert columns(found) == [

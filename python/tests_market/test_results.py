@@ -139,7 +139,7 @@ FORGED: dict[str, tuple[list[int], Callable[[str], str], str]] = {
 
 
 @pytest.mark.parametrize("what", FORGED)
-def test_a_forged_log(what: str, harmful: pathlib.Path, tmp_path: pathlib.Path) -> None:
+def test_a_forged_log_is_found(what: str, harmful: pathlib.Path, tmp_path: pathlib.Path) -> None:
     places, forge, text = FORGED[what]
     texts = LAWFUL | {"E": DAY + DONE, "F": DAY + DONE}
     write(tmp_path / "journals", texts)
@@ -163,7 +163,9 @@ def test_a_forged_log(what: str, harmful: pathlib.Path, tmp_path: pathlib.Path) 
     assert again(harmful) == set(names[2 + kept :])
 
 
-def test_a_log_that_others_may_write_to(harmful: pathlib.Path, tmp_path: pathlib.Path) -> None:
+def test_a_log_that_others_may_write_to_is_not_believed(
+    harmful: pathlib.Path, tmp_path: pathlib.Path
+) -> None:
     write(tmp_path / "journals", LAWFUL)
     words = ["audit", tmp_path / "journals", "-o", tmp_path / "result.csv"]
     command(*words, program=harmful)
@@ -176,7 +178,7 @@ def test_a_log_that_others_may_write_to(harmful: pathlib.Path, tmp_path: pathlib
     assert again(harmful) == set(LAWFUL)
 
 
-def test_two_runs_of_a_result(harmful: pathlib.Path, tmp_path: pathlib.Path) -> None:
+def test_a_result_in_use_is_refused(harmful: pathlib.Path, tmp_path: pathlib.Path) -> None:
     write(tmp_path / "journals", LAWFUL)
     output = tmp_path / "result.csv"
     words = ["audit", tmp_path / "journals", "-o", output]
@@ -190,7 +192,9 @@ def test_two_runs_of_a_result(harmful: pathlib.Path, tmp_path: pathlib.Path) -> 
     assert left == {"result.csv", "result.csv.log"}
 
 
-def test_two_runs_that_keep_outputs(harmful: pathlib.Path, tmp_path: pathlib.Path) -> None:
+def test_a_folder_of_outputs_in_use_is_refused(
+    harmful: pathlib.Path, tmp_path: pathlib.Path
+) -> None:
     write(tmp_path / "journals", LAWFUL)
     words = ["run", tmp_path / "journals", "--print", "book", "--into", tmp_path / "kept"]
     (tmp_path / "kept").mkdir()
@@ -226,7 +230,7 @@ def test_a_kept_output_replaces_a_link(program: str, tmp_path: pathlib.Path) -> 
     assert not (tmp_path / "kept/A.book.csv").is_symlink()
 
 
-def test_results_among_the_files(program: str, tmp_path: pathlib.Path) -> None:
+def test_a_result_among_the_files_is_refused(program: str, tmp_path: pathlib.Path) -> None:
     folder = tmp_path / "journals"
     (path, *_) = write(folder, LAWFUL)
     (tmp_path / "link").symlink_to(folder)
@@ -269,7 +273,9 @@ def is_alive(process: psutil.Process) -> bool:
 
 
 @pytest.mark.parametrize("name", ["INT", "TERM", "KILL"])
-def test_an_interrupted_run(name: str, harmful: pathlib.Path, tmp_path: pathlib.Path) -> None:
+def test_an_interrupted_run_leaves_its_log_and_no_result(
+    name: str, harmful: pathlib.Path, tmp_path: pathlib.Path
+) -> None:
     slow = {f"slow {place}": LAWFUL["A"] for place in range(40)}
     write(tmp_path / "journals", slow | ({"never ends": LAWFUL["A"]} if name == "INT" else {}))
     output = tmp_path / "result.csv"
@@ -288,7 +294,7 @@ def test_an_interrupted_run(name: str, harmful: pathlib.Path, tmp_path: pathlib.
     assert child.returncode != 0 and not output.exists()
 
 
-def test_a_full_disk(harmful: pathlib.Path, tmp_path: pathlib.Path) -> None:
+def test_a_run_that_met_a_full_disk_goes_on(harmful: pathlib.Path, tmp_path: pathlib.Path) -> None:
     write(tmp_path / "journals", SLOW)
     output, whole = tmp_path / "result.csv", tmp_path / "whole.csv"
     words = ["audit", tmp_path / "journals", "-o"]
@@ -332,7 +338,7 @@ def end(child: subprocess.Popen[bytes]) -> None:
     child.wait()
 
 
-def test_a_scheduler_that_dies(
+def test_a_run_whose_scheduler_dies_goes_on(
     keys: Keys, harmful: pathlib.Path, program: str, tmp_path: pathlib.Path
 ) -> None:
     write(tmp_path / "journals", SLOW | UNLAWFUL)

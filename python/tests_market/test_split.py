@@ -191,7 +191,7 @@ ROW = "A,1,enter,bid,5,7,entered 1\n"
 OTHER = "B,0,uncross,,,,\n"
 
 
-def test_a_byte_order_mark_and_commas_at_the_end(tmp_path: pathlib.Path) -> None:
+def test_a_byte_order_mark_and_commas_at_the_end_change_nothing(tmp_path: pathlib.Path) -> None:
     texts = [HEADER + ROW + OTHER, f"\ufeff{HEADER}{ROW}{OTHER}"]
     texts += [HEADER + ROW.replace("\n", ",,\n") + OTHER.replace("\n", ",\n")]
     texts += [f"{HEADER}\n{ROW}\n{OTHER}\n".replace("\n", "\r\n"), f"{HEADER}{ROW}B,0,uncross\n"]
@@ -239,7 +239,7 @@ def test_columns_are_passed_over(program: str, tmp_path: pathlib.Path) -> None:
     assert (tmp_path / "journals/A.csv").read_text().endswith("\n1,enter,bid,5,7,\n")
 
 
-def test_a_folder_in_use(program: str, tmp_path: pathlib.Path) -> None:
+def test_a_folder_in_use_is_refused(program: str, tmp_path: pathlib.Path) -> None:
     table = tmp_path / "table.csv"
     table.write_text(HEADER + ROW)
     (tmp_path / "journals").mkdir()
@@ -250,7 +250,7 @@ def test_a_folder_in_use(program: str, tmp_path: pathlib.Path) -> None:
     assert list((tmp_path / "journals").iterdir()) == []
 
 
-def test_bad_files_of_tables(tmp_path: pathlib.Path) -> None:
+def test_bad_files_of_tables_are_refused(tmp_path: pathlib.Path) -> None:
     (tmp_path / "bad.csv").write_text('instrument,member,command\nX,1,"ask\n')
     (tmp_path / "bad.parquet").write_text("")
     for path, error in (("bad.csv", market.TableError), ("none.csv", FileNotFoundError)):
@@ -273,6 +273,6 @@ def peak_of_split(rows_of_table: int, program: str, folder: pathlib.Path) -> int
     return int(figures.read_text().split()[2])
 
 
-def test_memory_stays(program: str, tmp_path: pathlib.Path) -> None:
+def test_memory_does_not_grow_with_the_table(program: str, tmp_path: pathlib.Path) -> None:
     small, large = (peak_of_split(count, program, tmp_path) for count in (200_000, 600_000))
     assert large < 1.2 * small

@@ -1,4 +1,5 @@
 """What who watches a venue sees: health, measures, and lines on standard error."""
+import contextlib
 import io
 import json
 import logging
@@ -28,49 +29,88 @@ from served import ended
 from watched import looked, measured
 
 
-def test_health_and_metrics(tmp_path: pathlib.Path) -> None:
+@contextlib.contextmanager
+def looked_at(folder: pathlib.Path) -> Iterator[tuple[served.Served, str]]:
+    """A venue with pages for operations, and where these are."""
     port = served.free_port()
-    url = f"http://127.0.0.1:{port}"
-    with served.served(tmp_path, FAST, "--metrics", f"127.0.0.1:{port}") as venue:
-        anna, bert = venue.join("Anna"), venue.join("Bert")
+    with served.served(folder, FAST, "--metrics", f"127.0.0.1:{port}") as venue:
+        yield venue, f"http://127.0.0.1:{port}"
+
+
+@contextlib.contextmanager
+def traded(venue: served.Served) -> Iterator[None]:
+    """While two members are connected who entered six orders, of which two traded: with the uncross
+    seven entries.
+    """
+    anna, bert = venue.join("Anna"), venue.join("Bert")
+    venue.do("start")
+    with Client(venue.url, anna) as me, Client(venue.url, bert) as other:
+        for _ in range(5):
+            me.enter("bid", 10, "2.00")
+        other.enter("ask", 10, "2.00")
+        venue.do("uncross")
+        yield
+
+
+def kill_programs(venue: served.Served) -> None:
+    """Kills the programs of a venue's instruments."""
+    for child in psutil.Process(venue.child.pid).children():
+        child.kill()
+
+
+def test_a_venue_that_runs_is_healthy(tmp_path: pathlib.Path) -> None:
+    with looked_at(tmp_path) as (_, url):
         assert looked(f"{url}/healthz") == (200, '{"status": "ok", "halted": {}}')
         with urllib.request.urlopen(f"{url}/metrics") as answer:
             assert answer.headers["X-Content-Type-Options"] == "nosniff"
-        venue.do("start")
-        with Client(venue.url, anna) as me, Client(venue.url, bert) as other:
-            for _ in range(5):
-                me.enter("bid", 10, "2.00")
-            other.enter("ask", 10, "2.00")
-            venue.do("uncross")
-            until(lambda: measured(url)["callboard_trades_total"][("XYZ",)] == 1)
-            time.sleep(metrics.KEPT_SECONDS)
-            found = measured(url)
-            assert found["callboard_up"] == {(): 1}
-            assert found["callboard_orders_total"] == {("XYZ",): 7}
-            assert found["callboard_orders_open"] == {("XYZ",): 4}
-            assert found["callboard_orders_left"] == {("XYZ",): 4092}
-            assert found["callboard_restarts_total"] == {("XYZ",): 0}
-            assert found["callboard_phase"][("XYZ", "waiting")] == 1
-            assert sum(found["callboard_phase"].values()) == 1
-            assert found["callboard_halted"] == {("XYZ",): 0}
-            assert found["callboard_waiting"] == {("XYZ",): 0}
-            assert found["callboard_members"] == {(): 2}
-            assert found["callboard_members_connected"] == {(): 2}
-            assert found["callboard_answer_seconds_count"] == {("XYZ",): 7}
-            assert 0 < found["callboard_answer_seconds_sum"][("XYZ",)] < 60
-            room = os.statvfs(tmp_path)
-            assert found["callboard_disk_free_bytes"][()] == pytest.approx(
-                room.f_bavail * room.f_frsize, rel=0.1
-            )
+
+
+def test_metrics_are_what_members_did(tmp_path: pathlib.Path) -> None:
+    with looked_at(tmp_path) as (venue, url), traded(venue):
+        until(lambda: measured(url)["callboard_trades_total"][("XYZ",)] == 1)
+        time.sleep(metrics.KEPT_SECONDS)
+        found = measured(url)
+        assert found["callboard_up"] == {(): 1}
+        assert found["callboard_orders_total"] == {("XYZ",): 7}
+        assert found["callboard_orders_open"] == {("XYZ",): 4}
+        assert found["callboard_orders_left"] == {("XYZ",): 4092}
+        assert found["callboard_restarts_total"] == {("XYZ",): 0}
+        assert found["callboard_phase"][("XYZ", "waiting")] == 1
+        assert sum(found["callboard_phase"].values()) == 1
+        assert found["callboard_halted"] == {("XYZ",): 0}
+        assert found["callboard_waiting"] == {("XYZ",): 0}
+        assert found["callboard_members"] == {(): 2}
+        assert found["callboard_members_connected"] == {(): 2}
+        assert found["callboard_answer_seconds_count"] == {("XYZ",): 7}
+        assert 0 < found["callboard_answer_seconds_sum"][("XYZ",)] < 60
+        room = os.statvfs(tmp_path)
+        assert found["callboard_disk_free_bytes"][()] == pytest.approx(
+            room.f_bavail * room.f_frsize, rel=0.1
+        )
+
+
+def test_members_have_no_pages_for_operations(tmp_path: pathlib.Path) -> None:
+    with looked_at(tmp_path) as (venue, _):
         assert venue.call("metrics")[0] == venue.call("healthz")[0] == 404
-        for child in psutil.Process(venue.child.pid).children():
-            child.kill()
+
+
+def test_a_program_that_was_killed_is_counted_and_the_venue_healthy(
+    tmp_path: pathlib.Path,
+) -> None:
+    with looked_at(tmp_path) as (venue, url):
+        with traded(venue):
+            pass
+        kill_programs(venue)
         until(lambda: measured(url)["callboard_restarts_total"] == {("XYZ",): 1})
         assert looked(f"{url}/healthz")[0] == 200
-        journal = tmp_path / "venue/XYZ.journal.csv"
-        journal.rename(tmp_path / "away")
-        for child in psutil.Process(venue.child.pid).children():
-            child.kill()
+
+
+def test_health_says_why_an_instrument_has_halted(tmp_path: pathlib.Path) -> None:
+    with looked_at(tmp_path) as (venue, url):
+        with traded(venue):
+            pass
+        (tmp_path / "venue/XYZ.journal.csv").rename(tmp_path / "away")
+        kill_programs(venue)
         until(lambda: looked(f"{url}/healthz")[0] == 503)
         why = {"XYZ": "the journal is missing, and the log knows of 7 entries"}
         assert json.loads(looked(f"{url}/healthz")[1]) == {"status": "halted", "halted": why}

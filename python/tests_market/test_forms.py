@@ -1,77 +1,12 @@
-"""Names of files, cells of records, and what is read of the program's output."""
-import csv
+"""What is read of the program's output and of results, whatever comes."""
 import io
-import os
 import pathlib
 
 import pytest
-from callauction.market import Row, forms, instrument_names, rows
-from hypothesis import given, strategies
-
-NAMES = ["SAP", "a b", "Ärzte", "x/y", "..", ".", "-", "A%41", "SAP.DE"]
-NAMES += ["~", "c:\\d", "\n", "I" * 251, "\udcff", "\x1b[31m", "=1+2", "\u202e", "'"]
+from callauction.market import Row, forms, rows
 
 
-@pytest.mark.parametrize("name", NAMES)
-def test_an_instrument_has_a_file_of_its_own(name: str, tmp_path: pathlib.Path) -> None:
-    path = tmp_path / instrument_names.file_of(name)
-    path.write_text("")
-    assert list(tmp_path.iterdir()) == [path]
-    instrument = instrument_names.instrument_of(str(path))
-    assert instrument.isprintable()
-    assert instrument_names.name_of(instrument) == os.fsencode(name)
-
-
-@pytest.mark.parametrize("name", ["", "I" * 252, "Ä" * 42])
-def test_no_file_can_be_named(name: str) -> None:
-    with pytest.raises(ValueError, match="no file can be named"):
-        instrument_names.file_of(name)
-
-
-def test_names_of_files_are_told_apart() -> None:
-    assert len({instrument_names.file_of(name).lower() for name in NAMES}) == len(NAMES)
-
-
-SHOWN = {
-    b"SAP": "SAP",
-    b"a\nb": "a\\x0ab",
-    b"\x1b[31m": "\\x1b[31m",
-    b"\xff": "\\xff",
-    b"\\xff": "\\\\xff",
-    "Ä\u202e\x85\U000e0001".encode(): "Ä\\u202e\\u0085\\U000e0001",
-    b"\xed\xb2\x80": "\\xed\\xb2\\x80",
-}
-
-
-@pytest.mark.parametrize("name", SHOWN)
-def test_a_name_of_any_bytes_is_one_line(name: bytes) -> None:
-    assert instrument_names.printable(name) == SHOWN[name]
-    assert instrument_names.name_of(SHOWN[name]) == name
-
-
-@given(strategies.binary(), strategies.binary())
-def test_two_names_are_two_lines(one: bytes, other: bytes) -> None:
-    shown = instrument_names.printable(one), instrument_names.printable(other)
-    assert (shown[0] == shown[1]) == (one == other)
-    assert instrument_names.name_of(shown[0]) == one
-    assert shown[0].isprintable()
-
-
-RUN = ["=1+2", "+1", "-1", "@SUM(A1)", "'", "'=1", "\uff1d1"]
-
-
-@pytest.mark.parametrize("text", [*RUN, "a=1", "1", ""])
-def test_no_spreadsheet_runs_a_cell(text: str, tmp_path: pathlib.Path) -> None:
-    row = Row(text or "I", opening_side=text or None, fault=text or None)
-    rows.write_rows([row], tmp_path / "result.csv")
-    with open(tmp_path / "result.csv", encoding="utf-8", newline="") as found:
-        (record,) = csv.DictReader(found)
-    assert not record["instrument"].startswith(("=", "+", "-", "@", "\uff1d"))
-    assert record["fault"] == (f"'{text}" if text in RUN else text)
-    assert rows.read_rows(tmp_path / "result.csv") == [row]
-
-
-def test_what_is_no_result(tmp_path: pathlib.Path) -> None:
+def test_what_is_no_result_is_refused(tmp_path: pathlib.Path) -> None:
     header = ",".join(rows.WRITTEN)
     for text in ("", "instrument\n", f"{header}\nA,1\n", f"{header}\nA,x{',' * 18}\n"):
         (tmp_path / "result.csv").write_text(text)
@@ -173,12 +108,12 @@ def test_results_are_read_whatever_comes_together(size: int) -> None:
         UNCROSSES + b"in closing\n",
     ],
 )
-def test_other_results_are_none(text: bytes) -> None:
+def test_results_of_another_form_are_refused(text: bytes) -> None:
     with pytest.raises(forms.OutputFault):
         forms.read_results(blocks(text, 64))
 
 
-def test_a_day_without_entries() -> None:
+def test_a_day_without_entries_is_read() -> None:
     assert forms.read_lines(blocks(b"", 9)) == {
         "entries": 0,
         "day": "opening",
@@ -190,13 +125,13 @@ def test_a_day_without_entries() -> None:
 
 
 @pytest.mark.parametrize("cut", [0, 10, len(AUDIT) - 30, len(AUDIT) - 1])
-def test_a_cut_audit_is_none(cut: int) -> None:
+def test_a_cut_audit_is_refused(cut: int) -> None:
     with pytest.raises(forms.OutputFault):
         forms.read_audit(blocks(AUDIT[:cut], 64))
 
 
 @pytest.mark.parametrize("text", [b"1: opening price 5\n", b"hello\n", b"1: entered 1\n2"])
-def test_other_lines_are_none(text: bytes) -> None:
+def test_lines_of_another_form_are_refused(text: bytes) -> None:
     with pytest.raises(forms.OutputFault):
         forms.read_lines(blocks(text, 64))
     with pytest.raises(forms.OutputFault):
