@@ -14,7 +14,7 @@
 - No two modules of a crate have types or public functions of one name, nor public definitions and
   lemmas. A function may be named as the definition that it meets, and methods as those of others.
 - No two modules of a package of callauction have constants, types or public functions of one name,
-  and no two packages of it types of one name, but for those of TWICE.
+  and no two packages of it types of one name.
 - No definition or law of specs or proofs stands in two crates under any names, where it is longer
   than SHORT and isn't of the proof of one function.
 - A limit of the market or of memory (LIMITS) isn't written as a number, where it isn't the value of
@@ -44,8 +44,6 @@ SHARED = {"Lib", "Answers", "Invariants", "Proof"}
 SHORT = 80
 """As many characters of a definition or law may stand in two crates, without its name."""
 MODELS = {"Leaders"}
-TWICE = {"State", "Uncross"}
-"""Types of callauction.words that callauction.verdict has by their names, too, as others."""
 TYPE = re.compile(r"(?:pub(?:\([a-z]+\))? )?(?:struct|enum|trait|union) (?P<name>\w+)")
 DEFINED = r"(?:(?:pub|abbrev|unfoldable|opaque|record|data) +)+(?P<name>[{}]\w*)(?= *[:({{])"
 NAMES_IN = {
@@ -262,7 +260,7 @@ def names_of_two_python_packages(tree: Tree) -> Iterator[str]:
         if name[0].isupper() and not name.isupper():
             places[name].setdefault(folder, f"{tree.name(file)}:{line}")
     for name, folders in sorted(places.items()):
-        if len(folders) > 1 and name not in TWICE:
+        if len(folders) > 1:
             yield f"{name} has two meanings: {', '.join(folders.values())}"
 
 
