@@ -10,7 +10,7 @@ and of two crates that use a third it lets the second wait. So each is proved in
 out/build/rooms/CRATE, with a copy of its text and of what was built below it, and what is made
 there is moved to the crate's own out/. On a terminal one line is rewritten; elsewhere each crate
 has a line of its own. What is proved is kept, so a build that was interrupted goes on where it
-stopped. How long each crate took is kept in out/build/crate_seconds.txt, and the log of each in
+stopped. How long each crate took is kept in out/build/seconds.txt, and the log of each in
 out/build/CRATE.log. A new clone takes build/crate_seconds.txt for it, which `build/program.py
 --keep-seconds` makes of a run's. The status is 0 where all is built, 1 where a crate failed, which
 is named with its log, and 2 where a build can't begin.
