@@ -1,10 +1,11 @@
 """Days whose rows write ids in two ways, as 0017 and 17 or A-17 and A17: a lawful one is never
 unlawful, and beside one fault no right trade is a certain finding.
 """
+import io
 import random
 
 import pytest
-from callauction.verdict import Verdict, audit_events
+from callauction.verdict import Reading, Verdict, audit_events
 from damage import places, timed_day
 from extracts import Rows
 from faults import FAULTS
@@ -104,3 +105,33 @@ def test_the_wrong_item_is_the_one_certain_finding(
     verdict = verdict_on(DAY.replace(right, wrong).format(own=own, other=own))
     assert [(it.row, it.item) for it in verdict.findings] == [finding], str(verdict)
     assert not verdict.doubtful
+
+
+SPELLED = """event,time,order,member,side,price,quantity,surplus,trades,auction,bid,ask,bid_member
+new,08:50:00,A,Dorn,bid,10.00,100,,,,,,
+replace,08:50:01,A,Dorn,bid,10.00,200,,,,,,
+new,08:50:02,B,{},bid,10.00,100,,,,,,
+new,08:50:03,S,ADLER,ask,10.00,300,,,,,,
+uncross,09:00:00,,,,10.00,300,0,2,opening,,,
+trade,09:00:00,,,,10.00,200,,,opening,A,S,{}
+trade,09:00:00,,,,10.00,100,,,opening,B,S,{}
+"""
+"""A and B buy what S sells: 200 and 100."""
+
+
+@pytest.mark.parametrize("entered, traded, word", [
+    ("DORN", ("DORN", "DORN"), "incomplete"),  # are Dorn, who entered A, and DORN one?
+    ("DORN", ("Dorn", "DORN"), "lawful"),
+    ("BIRK", ("BIRK", "BIRK"), "unlawful"),
+])
+def test_a_member_of_one_order_in_the_spelling_of_another_order_may_be_right(
+    entered: str, traded: tuple[str, str], word: str
+) -> None:
+    text = SPELLED.format(entered, *traded)
+    verdict = audit_events(io.BytesIO(text.encode()), reference="10.00", tick_size="0.01",
+                           auctions=["opening"], reading=Reading(unrestricted=True))  # fmt: skip
+    assert verdict.word == word
+    if word == "incomplete":
+        assert verdict.doubtful[0].doubt == (
+            "ids or members are written in two ways: DORN and Dorn"
+        )

@@ -21,7 +21,7 @@ from callauction.verdict.comparing import Difference, KeyedFill, KeyedTrade, key
 from callauction.verdict.mixed_files import is_one_session
 from callauction.verdict.paths import Moment
 from callauction.verdict.phases import Result, StandingBook
-from callauction.verdict.respelling import is_placeholder, respelled
+from callauction.verdict.respelling import TWO_WAYS, is_placeholder, is_respelled, respelled
 from callauction.verdict.rows import AuctionCode, BadRow, Cell, Doubt, Kind, Rows
 from callauction.verdict.ties import Ties
 from callauction.verdict.unnamed_trades import Strays
@@ -298,18 +298,24 @@ class Doubts:
         ]  # fmt: skip
 
     def _why_naming(self, each: Difference) -> str:
-        """Why the members of a trade or fill that is lawful else may be right: placeholders."""
+        """Why the members of a trade or fill that is lawful else may be right: as placeholders,
+        or as other spellings of the orders' own.
+        """
         one, other, rows = each.recorded, each.lawful, self.rows
         if not isinstance(one, KeyedTrade | KeyedFill) or one != other:
             return ""
-        names = [
-            rows.names.recorded(place, column, int(getattr(rows, column)[place]))
+        owners = [int(rows.member[self.entered[key]]) for key in keys_of(one)]
+        pairs = [
+            (rows.names.recorded(place, column, int(getattr(rows, column)[place])),
+             rows.names.member(owner))
             for place in each.places
-            for key, column in zip(keys_of(one), member_columns(one))
-            if getattr(rows, column)[place] not in (Cell.MISSING, rows.member[self.entered[key]])
-        ]
-        if names and all(map(is_placeholder, names)):
-            return f"{names[0]!r} is no member of orders, and may stand for any"
+            for owner, column in zip(owners, member_columns(one))
+            if getattr(rows, column)[place] not in (Cell.MISSING, owner)
+        ]  # fmt: skip
+        if pairs and all(is_placeholder(name) for name, _ in pairs):
+            return f"{pairs[0][0]!r} is no member of orders, and may stand for any"
+        if pairs and all(is_respelled(*pair) for pair in pairs):
+            return TWO_WAYS.format(*pairs[0])
         return self._other_names
 
     @functools.cached_property

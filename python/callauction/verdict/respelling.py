@@ -21,6 +21,7 @@ _BETWEEN = re.compile(r"(?<=\w)[-_/.:](?=\w)")
 """A sign between the parts of an id, as in A-17."""
 _QUOTES = "'\"`"
 """What a sheet may write before a number that is to stay a text."""
+TWO_WAYS = "ids or members are written in two ways: {} and {}"
 OTHER_IDS = "no trade has an order's id: are theirs of another column, or another spelling?"
 _MOST_PARTS = 12
 MOST_TEXTS = 100_000
@@ -34,7 +35,7 @@ def respelled(rows: Rows) -> tuple[Rows, str] | None:
     both = both or members
     if not both:
         return None
-    return found, f"ids or members are written in two ways: {' and '.join(both)}"
+    return found, TWO_WAYS.format(*both)
 
 
 def have_other_ids(rows: Rows, judgement: Judgement, again: Ints) -> bool:
@@ -84,6 +85,11 @@ def _may_be(due: int, sure: int, parts: list[int]) -> bool:
 def is_placeholder(name: str) -> bool:
     """Whether a member's name seems to be a word for none, or one sign again and again."""
     return name.casefold() in _ANYONE or bool(_ONE_SIGN.fullmatch(name))
+
+
+def is_respelled(name: str, other: str) -> bool:
+    """Whether two names may be two spellings of one."""
+    return _plain(name) == _plain(other)
 
 
 def _plain(text: str) -> str:
