@@ -374,7 +374,7 @@ def test_doubts_of_one_reason_are_one_line_and_all_in_the_file(
     assert sum(it.startswith("doubtful: ") for it in capsys.readouterr().out.splitlines()) == 1
     told = html.unescape(page.html_of(verdict_of(rows), "Day"))
     assert "86 doubtful findings of 1 reason" in told and told.count("In doubt: ") == 1
-    assert "85 more, in row 95" in told and "The first 1 of 86 are here" in told
+    assert "85 more, in row 95" in told and "The first of 86 is here" in told
 
 
 def test_doubts_of_two_reasons_are_two_lines() -> None:
