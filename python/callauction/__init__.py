@@ -33,10 +33,10 @@ if TYPE_CHECKING:
     )
     from callauction.gains import Gains, gains_of
     from callauction.outcomes import Played
-    from callauction.reading import reply_of
     from callauction.reasons import explain
     from callauction.recording import RecordedAuction
     from callauction.refused import refusals
+    from callauction.replies import reply_of
     from callauction.tables import audit, read_book, read_journal, read_trades
     from callauction.ticks import Ticks
     from callauction.verdict import audit_auction, audit_events
@@ -164,7 +164,7 @@ _LATER = {
     "read_trades": "tables",
     "refusals": "refused",
 }
-_PLACES = ("words", "arrays", "errors", "reading", "auction", "board")
+_PLACES = ("words", "arrays", "errors", "replies", "auction", "board")
 
 
 def __getattr__(name: str) -> object:

@@ -6,9 +6,9 @@ from typing import Any
 
 import numpy
 
+from callauction.arguments import number
 from callauction.arrays import Shares, Structs, joined
 from callauction.library import ffi
-from callauction.reading import number
 from callauction.words import Config, MarketOrders
 
 _Call = Callable[..., None]

@@ -9,6 +9,7 @@ from typing import Any, Self, cast
 import numpy
 
 from callauction import array_copies, words
+from callauction.arguments import check_enumeration, fault_of, number, numbers
 from callauction.arrays import (
     COMMAND,
     ORDER,
@@ -29,15 +30,11 @@ from callauction.errors import (
 )
 from callauction.library import ffi, lib
 from callauction.limits import MOST_NUMBER
-from callauction.reading import (
+from callauction.replies import (
     entered,
     error_of,
-    fault_of,
-    member_of,
     not_applied,
     not_entered,
-    number,
-    numbers,
     price,
     read,
     state_of,
@@ -201,10 +198,10 @@ class Auction:
         a side that isn't Side.BID or Side.ASK.
         """
         if side is not _BID and side is not _ASK:
-            member_of("side", side, Side)
+            check_enumeration("side", side, Side)
             raise ValueError("side must be BID or ASK")
         if type(restriction) is not Restriction:
-            member_of("restriction", restriction, Restriction)
+            check_enumeration("restriction", restriction, Restriction)
         tick, has = (0, 0) if limit is None else (limit, _HAS_LIMIT)
         shown = 0
         if peak is not None:

@@ -10,6 +10,7 @@ from typing import TYPE_CHECKING, Any, Self, cast
 import numpy
 
 from callauction import array_copies, words
+from callauction.arguments import MOST_OF_FIELDS, check_enumeration, fault_of, number, numbers
 from callauction.arrays import (
     ENTRY,
     ORDER,
@@ -27,13 +28,11 @@ from callauction.carried import CarriedOver, all_entered, commands_in
 from callauction.errors import AuctionError, NotAppliedError, close_after
 from callauction.library import ffi, lib
 from callauction.limits import MOST_CLIENT, MOST_MEMBERS, MOST_NUMBER, MOST_RANGE
-from callauction.reading import (
+from callauction.replies import (
     board_error_of,
     entered,
-    member_of,
     not_applied,
     not_entered,
-    number,
     read,
     state_of,
 )
@@ -53,6 +52,8 @@ if TYPE_CHECKING:
 
 _TERMS, _CHANGE = ("quantity", "limit", "peak", "client"), ("id", "quantity", "limit")
 """The numbers of commands, in the order in which the library takes them."""
+_MOST = dict.fromkeys(MOST_OF_FIELDS, MOST_NUMBER) | {"client": MOST_CLIENT}
+"""The greatest that each may be: that of a journal, and of a client that of an order."""
 _BID, _ASK = Side.BID, Side.ASK
 _HAS_LIMIT, _HAS_PEAK = int(lib.PYTHON_HAS_LIMIT), int(lib.PYTHON_HAS_PEAK)
 _REFUSED, _LOW = int(lib.PYTHON_REFUSED), (1 << 32) - 1
@@ -147,22 +148,24 @@ class Member:
     ) -> Receipt:
         """Enters an order, as Auction.enter."""
         if side is not _BID and side is not _ASK:
-            member_of("side", side, Side)
+            check_enumeration("side", side, Side)
             raise ValueError("side must be BID or ASK")
         if type(restriction) is not Restriction:
-            member_of("restriction", restriction, Restriction)
+            check_enumeration("restriction", restriction, Restriction)
         tick, has = (0, 0) if limit is None else (limit, _HAS_LIMIT)
         shown = 0
         if peak is not None:
             shown, has = peak, has | _HAS_PEAK
         if not type(quantity) is type(tick) is type(shown) is type(client) is int:
-            quantity, tick, shown, client = _numbers(_TERMS, (quantity, tick, shown, client))
+            quantity, tick, shown, client = numbers(
+                _TERMS, (quantity, tick, shown, client), _MOST
+            )
         try:
             answer = _enter(
                 self._own, self._number, quantity, tick, shown, client, side, restriction, has
             )
         except OverflowError:
-            raise _fault_of(_TERMS, (quantity, tick, shown, client)) from None
+            raise fault_of(_TERMS, (quantity, tick, shown, client), _MOST) from None
         if answer < 0:
             raise board_error_of(-answer)
         said = answer & _LOW
@@ -176,11 +179,11 @@ class Member:
         """Changes an own order, as Auction.change."""
         tick, has = (0, 0) if limit is None else (limit, _HAS_LIMIT)
         if not type(id) is type(quantity) is type(tick) is int:
-            id, quantity, tick = _numbers(_CHANGE, (id, quantity, tick))
+            id, quantity, tick = numbers(_CHANGE, (id, quantity, tick), _MOST)
         try:
             receipt = _change(self._own, self._number, id, quantity, tick, has)
         except OverflowError:
-            raise _fault_of(_CHANGE, (id, quantity, tick)) from None
+            raise fault_of(_CHANGE, (id, quantity, tick), _MOST) from None
         return self._read(receipt, check)
 
     def delete(self, id: int, *, check: bool = False) -> Receipt:
@@ -318,11 +321,11 @@ class Member:
     def _of_id(self, tag: CommandTag, id: int, check: bool, name: str = "id") -> Receipt:
         """The receipt of the command that has no number but this one."""
         if type(id) is not int:
-            (id,) = _numbers((name,), (id,))
+            (id,) = numbers((name,), (id,), _MOST)
         try:
             receipt = _call(self._own, self._number, tag, id)
         except OverflowError:
-            raise _fault_of((name,), (id,)) from None
+            raise fault_of((name,), (id,), _MOST) from None
         return self._read(receipt, check)
 
     def _read(self, receipt: Any, check: bool) -> Receipt:
@@ -522,24 +525,7 @@ def _keep_busy() -> None:
 os.register_at_fork(after_in_child=_keep_busy)
 
 
-# ---- the numbers of a command, and receipts
-
-
-def _numbers(names: tuple[str, ...], values: tuple[object, ...]) -> tuple[int, ...]:
-    """The integers that the values of these arguments are. Raises TypeError or ValueError for the
-    first that is none, that no journal has, or of a client that no order has.
-    """
-    most = {"client": MOST_CLIENT}
-    return tuple(number(name, it, most.get(name, MOST_NUMBER)) for name, it in zip(names, values))
-
-
-def _fault_of(names: tuple[str, ...], values: tuple[object, ...]) -> Exception:
-    """The first fault of the values of these arguments, of which one doesn't fit."""
-    try:
-        _numbers(names, values)
-    except (TypeError, ValueError) as fault:
-        return fault
-    return OverflowError("an argument doesn't fit the library's number")
+# ---- receipts
 
 
 _new = object.__new__

@@ -4,7 +4,7 @@ from callauction.board_replay import carried_over_after, uncrossed_orders
 from callauction.carried import CarriedOver
 from callauction.day_frames import DayTables, written_day
 from callauction.program import Day
-from callauction.reading import reply_of
+from callauction.replies import reply_of
 from callauction.words import AuctionKind, Config
 from callauction.written import command_of
 

@@ -3,10 +3,10 @@ import dataclasses
 
 import numpy
 
+from callauction.arguments import check_enumeration
 from callauction.arrays import OUTCOME, Structs
 from callauction.auction import Auction
 from callauction.carried import CarriedOver
-from callauction.reading import member_of
 from callauction.words import AuctionKind, Config, ReplyTag
 
 
@@ -16,7 +16,7 @@ def uncrossed_orders(config: Config, history: Structs, kind: AuctionKind) -> Str
     are applied to an auction once more. Raises TypeError for a kind that is no AuctionKind, and
     MemoryError.
     """
-    member_of("kind", kind, AuctionKind)
+    check_enumeration("kind", kind, AuctionKind)
     replies = history["reply"]
     ended = (replies["tag"] == ReplyTag.UNCROSSED) & (replies["auction"] == kind)
     if not ended.any():

@@ -6,11 +6,11 @@ from collections.abc import Iterable
 
 import pandas
 
+from callauction.arguments import number
 from callauction.course import Course, course_of, references_of
 from callauction.limits import MOST_RANGE
 from callauction.outcomes import outcomes_of
 from callauction.program import Day
-from callauction.reading import number
 from callauction.reasons import Explanation, explain
 from callauction.tables import audit_of, book_at, books_of, journal_of, trades_of
 from callauction.words import Command, Config, Reply

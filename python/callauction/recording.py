@@ -10,13 +10,14 @@ from typing import Any, Self, cast
 import pandas
 
 from callauction import words
+from callauction.arguments import number
 from callauction.arrays import Shares, Structs, look_through, refuse_first
 from callauction.auction import Auction
 from callauction.day_frames import DayTables, written_day
 from callauction.errors import BusyError, NotAppliedError, RefusedError, close_after
 from callauction.limits import MOST_MEMBERS, MOST_NUMBER, MOST_RANGE
 from callauction.program import Day
-from callauction.reading import number, reply_of
+from callauction.replies import reply_of
 from callauction.tables import audit_of, commands_of, journal_of, orders_frame, whole_lines_of
 from callauction.words import Command, Config, MarketOrders, Reply, Restriction, Side
 from callauction.written import command_of

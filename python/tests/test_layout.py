@@ -8,7 +8,7 @@ import pytest
 from callauction import COMMAND, ORDER, OUTCOME, REPLY, TRADE
 from callauction import AuctionKind, CommandTag, Refusal, ReplyTag, Restriction, Side
 from callauction._native import ffi, lib
-from callauction.reading import BITS
+from callauction.arguments import BITS
 
 
 @pytest.mark.parametrize(
