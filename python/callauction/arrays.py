@@ -168,7 +168,7 @@ def whole(
     return array
 
 
-def look_through(commands: Structs) -> None:
+def check_recordable(commands: Structs) -> None:
     """Raises TypeError or ValueError for an array that isn't one of commands, or that has a number
     that no journal has.
     """

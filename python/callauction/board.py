@@ -18,8 +18,8 @@ from callauction.arrays import (
     TRADE,
     Shares,
     Structs,
+    check_recordable,
     joined,
-    look_through,
     refuse_first,
 )
 from callauction.auction import ALL_MEMBERS, Auction, config_of, config_struct, copy_over
@@ -216,7 +216,7 @@ class Member:
         ValueError for another's command: the `member` of a struct is 0 or this member, or is 1 in
         all of them, as `commands` makes them. Then none is recorded.
         """
-        look_through(commands)
+        check_recordable(commands)
         self._refuse_others(commands)
         given = ffi.from_buffer("callauction_command[]", commands)
         receipts = numpy.zeros(len(given), RECEIPT)
@@ -444,7 +444,7 @@ class Board:
     def _entered(self, commands: Structs) -> Structs:
         """The receipts of commands, each of which its own member gives."""
         count = len(self)
-        look_through(commands)
+        check_recordable(commands)
         wrong = commands["member"] >= count
         refuse_first(commands, "member", wrong, f"from 0 to {count - 1}")
         made = [numpy.zeros(0, RECEIPT)]

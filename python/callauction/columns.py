@@ -105,7 +105,7 @@ def _array_of(columns: "dict[str, _Column]") -> Structs:
         if name in FLAGGED:
             found[f"has_{name}"] = True if column.is_there is None else column.is_there
     for name in NEEDED:
-        _has_needed(found, name, columns.get(name))
+        _check_needed(found, name, columns.get(name))
     return found
 
 
@@ -134,7 +134,7 @@ def _length(columns: "dict[str, _Column]") -> int:
     return counts.pop() if counts else 1
 
 
-def _has_needed(found: Structs, name: str, column: "_Column | None") -> None:
+def _check_needed(found: Structs, name: str, column: "_Column | None") -> None:
     """Raises ValueError where a command needs this column and has no value of it."""
     lacking = NEEDED[name][found["tag"]]
     if name == "side":
@@ -160,7 +160,7 @@ class _Column:
         self.length: int | None = None
         value = _plain(name, value)
         if isinstance(value, numpy.ndarray) and value.dtype.kind in "biuf":
-            _look_at(name, value)
+            _check_numbers(name, value)
             self.values, self.length = value, len(value)
         elif isinstance(value, numpy.ndarray | Sequence) and not isinstance(value, str | bytes):
             self._take(name, [*value])
@@ -197,7 +197,7 @@ def _plain(name: str, value: Any) -> Any:
     return value if value.ndim else value.item()
 
 
-def _look_at(name: str, array: NDArray[Any]) -> None:
+def _check_numbers(name: str, array: NDArray[Any]) -> None:
     """Raises TypeError for an array of bools, and ValueError where its field can't hold a number
     of this array as it is.
     """

@@ -457,7 +457,7 @@ def _rows_of(frame: pandas.DataFrame, ignore: Collection[str]) -> list[FrameRow]
         raise ValueError("frame has a column twice")
     refuse_unknown(frame.columns, COLUMNS, ignore)
     rows = [FrameRow(*pair) for pair in zip(frame.index, frame.to_dict("records"))]
-    _look_at_times(frame)
+    _check_times_rise(frame)
     return rows
 
 
@@ -516,7 +516,7 @@ def _bounds(
     return lowest, highest
 
 
-def _look_at_times(frame: pandas.DataFrame) -> None:
+def _check_times_rise(frame: pandas.DataFrame) -> None:
     """Raises FrameError where a time, which isn't a text, comes before the one above it."""
     if "time" not in frame or frame["time"].dtype == "object":
         return

@@ -11,7 +11,7 @@ import pandas
 
 from callauction import words
 from callauction.arguments import number
-from callauction.arrays import Shares, Structs, look_through, refuse_first
+from callauction.arrays import Shares, Structs, check_recordable, refuse_first
 from callauction.auction import Auction
 from callauction.day_frames import DayTables, written_day
 from callauction.errors import BusyError, NotAppliedError, RefusedError, close_after
@@ -158,7 +158,7 @@ class RecordedAuction(DayTables):
         """As Auction.apply_many: an array of REPLY. Raises ValueError where the array has a member
         or a number that no journal has, and then nothing was applied.
         """
-        look_through(commands)
+        check_recordable(commands)
         wrong = commands["member"] >= self._members
         refuse_first(commands, "member", wrong, f"from 0 to {self._members - 1}")
         with self._lock:
@@ -172,7 +172,7 @@ class RecordedAuction(DayTables):
 
     def _applied(self, member: int, command: Command, check: bool) -> Reply:
         """The reply to a command, which is kept with it."""
-        self._look_at(member, command)
+        self._check_recordable(member, command)
         with self._lock:
             reply = self._auction.apply(member, command)
             self._record.append((member, command, reply))
@@ -180,7 +180,7 @@ class RecordedAuction(DayTables):
             raise RefusedError(reply.refusal)
         return reply
 
-    def _look_at(self, member: object, command: Command) -> None:
+    def _check_recordable(self, member: object, command: Command) -> None:
         """Raises TypeError or ValueError for a member or a number that the journal can't have."""
         number("member", member, self._members - 1)
         if isinstance(command, words.Enter | words.Change):
