@@ -145,7 +145,7 @@ def replies_in(answers: Structs) -> Structs:
     return answers["reply"] if answers.dtype == RECEIPT else answers
 
 
-def whole(
+def checked_array(
     name: str, array: object, *kinds: "numpy.dtype[numpy.void]", is_written: bool
 ) -> Structs:
     """The array itself, which is one-dimensional, of one of these dtypes, contiguous and aligned,
@@ -172,7 +172,7 @@ def check_recordable(commands: Structs) -> None:
     """Raises TypeError or ValueError for an array that isn't one of commands, or that has a number
     that no journal has.
     """
-    whole("commands", commands, COMMAND, is_written=False)
+    checked_array("commands", commands, COMMAND, is_written=False)
     readers = {"quantity": (CommandTag.ENTER, CommandTag.CHANGE), "peak": (CommandTag.ENTER,)}
     for name, tags in readers.items():
         wrong = commands[name] > MOST_NUMBER

@@ -18,7 +18,7 @@ from callauction.arrays import (
     TRADE,
     Shares,
     Structs,
-    whole,
+    checked_array,
 )
 from callauction.carried import CarriedOver, all_entered, carried_over, commands_in
 from callauction.errors import (
@@ -325,10 +325,10 @@ class Auction:
         its member (FullError). Their `applied` says how many were applied, and `replies`
         are the replies to those. Raises TypeError or ValueError for a bad array.
         """
-        whole("commands", commands, COMMAND, is_written=False)
+        checked_array("commands", commands, COMMAND, is_written=False)
         if replies is None:
             replies = numpy.zeros(len(commands), REPLY)
-        whole("replies", replies, REPLY, is_written=True)
+        checked_array("replies", replies, REPLY, is_written=True)
         # The lengths are those of what is handed over, whatever the arrays say.
         given = ffi.from_buffer("callauction_command[]", commands)
         written = ffi.from_buffer("callauction_reply[]", replies, require_writable=True)

@@ -2,7 +2,7 @@
 import numpy
 import pandas
 
-from callauction.arrays import COMMAND, RECEIPT, REPLY, Structs, replies_in, whole
+from callauction.arrays import COMMAND, RECEIPT, REPLY, Structs, checked_array, replies_in
 from callauction.words import CommandTag, Refusal, ReplyTag
 
 REFUSAL_COLUMNS = {"place": "int64", "refusal": "int64", "name": "object"}
@@ -18,7 +18,7 @@ def refusals(replies: Structs, commands: Structs | None = None) -> pandas.DataFr
     gave them and what they were: the `member` of each struct. Raises TypeError or ValueError for
     another array, or where there are fewer than replies.
     """
-    whole("replies", replies, REPLY, RECEIPT, is_written=False)
+    checked_array("replies", replies, REPLY, RECEIPT, is_written=False)
     replies = replies_in(replies)
     places = numpy.flatnonzero(replies["tag"] == ReplyTag.REFUSED)
     numbers = replies["refusal"][places]
@@ -27,7 +27,7 @@ def refusals(replies: Structs, commands: Structs | None = None) -> pandas.DataFr
     found = found.astype(REFUSAL_COLUMNS)
     if commands is None:
         return found
-    whole("commands", commands, COMMAND, is_written=False)
+    checked_array("commands", commands, COMMAND, is_written=False)
     if len(commands) < len(replies):
         raise ValueError(f"commands must have {len(replies)} elements or more, not {len(commands)}")
     given = commands[places]
