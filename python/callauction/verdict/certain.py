@@ -102,7 +102,7 @@ class Certain:
             if (owners < 0).any():
                 return
             sides = [filled[rows.side[owners] == side] for side in (1, 2)]
-        end = self.doubts.lost(place, traded, filled, volume)
+        end = self.doubts.why_executions_missing(place, traded, filled, volume)
         excused = bool(self.doubts.why_missing(None) or rows.dropped or end)
         for those in sides:
             added = int(rows.quantity[those].sum())

@@ -279,7 +279,7 @@ class Doubts:
         why = self.ties.of_shares(book, moment.auction, result, *made)
         why = why or self.ties.of_shares(book, moment.auction, result, *own)
         strays = {*outside.tolist()}
-        end = "" if why else self.lost(moment.place, *made, result.volume)
+        end = "" if why else self.why_executions_missing(moment.place, *made, result.volume)
         of_orders = [
             self.stray(it).doubt if _is_extra(it, strays) else self._why_trade(it, end)
             for it in by_order if not why
@@ -393,7 +393,7 @@ class Doubts:
         return "" if first is None else f"row {self.rows.labels[first]} {MAY_BE_OUTSIDE}"
 
     @functools.cached_property
-    def _lost(self) -> dict[int, object]:
+    def _unentered(self) -> dict[int, object]:
         """By the key of an order that no row enters the first row that changes or cancels it; none
         where a row that isn't read may enter it.
         """
@@ -402,26 +402,26 @@ class Doubts:
             return {}
         return {int(self.rows.key[row.place]): row.label for row in those}
 
-    def _why_lost(self, each: Difference) -> str:
+    def _why_unentered(self, each: Difference) -> str:
         """Why a trade or a fill may be of an order that is known by another id."""
         one = each.recorded
         keys = keys_of(one) if isinstance(one, KeyedTrade | KeyedFill) else ()
-        lost = next((key for key in keys if key in self._lost), None)
-        if lost is None:
+        unentered = next((key for key in keys if key in self._unentered), None)
+        if unentered is None:
             return ""
-        name = self.rows.names.order(lost)
-        return f"row {self._lost[lost]} changes {name}, which none enters: is it another's new id?"
+        name, label = self.rows.names.order(unentered), self._unentered[unentered]
+        return f"row {label} changes {name}, which none enters: is it another's new id?"
 
     def _why_trade(self, each: Difference, end: str) -> str:
         """Why the difference of a trade or a fill isn't certain."""
-        if lost := self._why_lost(each):
-            return lost
+        if why := self._why_unentered(each):
+            return why
         if each.recorded is None or each.excess < 0:
             found = self.why_missing(each.lawful) or end
             return found or self.busts.why(each) * (each.recorded is not None)
         return self.busts.why(each)
 
-    def lost(self, place: int, traded: Ints, filled: Ints, volume: int) -> str:
+    def why_executions_missing(self, place: int, traded: Ints, filled: Ints, volume: int) -> str:
         """Why trades or fills of an auction may be missing: a hole is below its uncross and above
         the next one, or above it without an order between, or the file ends.
         """
