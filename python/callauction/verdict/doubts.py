@@ -1,6 +1,6 @@
 """What leaves a difference in doubt: readings of the rows by which what was published is lawful.
 
-Each reason is a line's end, empty where there is none. docs/AUDIT.md has the rules with an example
+Each doubt is a line's end, empty where there is none. docs/AUDIT.md has the rules with an example
 of each.
 """
 import dataclasses
@@ -37,20 +37,20 @@ OF_OTHERS = f"no row enters its orders, and it isn't at the auction's time, so i
 
 
 @dataclasses.dataclass(frozen=True)
-class Reason:
+class BookDoubt:
     """Why books are in doubt; `lacks_orders` says that all that they may lack are orders."""
 
     text: str
     lacks_orders: bool = False
 
 
-def reason_of(rows: Iterable[BadRow], place: int) -> Reason | None:
+def book_doubt_of(rows: Iterable[BadRow], place: int) -> BookDoubt | None:
     """Why the book at a place is in doubt, for rows that aren't read; None where it isn't."""
     above = [row for row in rows if row.is_order and row.since < place]
     worst = next((row for row in above if row.is_blank), None)
     if worst is not None:
-        return Reason(worst.unknown)
-    return Reason(f"an order may be missing: {above[0]}", True) if above else None
+        return BookDoubt(worst.unknown)
+    return BookDoubt(f"an order may be missing: {above[0]}", True) if above else None
 
 
 class Doubts:
@@ -109,7 +109,7 @@ class Doubts:
             )
         return len(falls)
 
-    def _other_day(self) -> Reason | None:
+    def _other_day(self) -> BookDoubt | None:
         """Why all books are in doubt: rows of orders have other dates than results, or several."""
         rows, known = self.rows, dict[datetime.date | None, int]()
         starts = numpy.unique(rows.time[self.orders] // time_columns.DAY, return_index=True)[1]
@@ -117,11 +117,11 @@ class Doubts:
             known.setdefault(rows.names.date(place), place)
         labels = [rows.labels[place] for date, place in known.items() if date is not None][:2]
         if self.rows.next_day:
-            return Reason(self.rows.next_day)
+            return BookDoubt(self.rows.next_day)
         if len(labels) < 2 or is_one_session(rows) or self._has_carried_orders():
             return None
         are = f"rows {labels[0]} and {labels[1]} are of two days"
-        return Reason(f"{are}: which orders of the first stand isn't said; --by parts two days")
+        return BookDoubt(f"{are}: which orders of the first stand isn't said; --by parts two days")
 
     def _has_carried_orders(self) -> bool:
         """Whether rows of orders with another date than the first result's are of orders that stand
@@ -137,7 +137,7 @@ class Doubts:
         named = numpy.concatenate([it[own] for it in (rows.key, rows.bid, rows.ask)])
         return bool(numpy.isin(rows.key[old], named).all())
 
-    def _odd(self) -> tuple[int, Reason] | None:
+    def _odd(self) -> tuple[int, BookDoubt] | None:
         """From which place on the order of rows isn't known, as times can't be read, and why: the
         call phase of the first one, or the day's begin where more than a tenth are so, others fall,
         rows were sorted by their times, or the last row has none: it may only have been put last.
@@ -155,7 +155,7 @@ class Doubts:
             text = f"the time of row {rows.labels[first]}, {cell!r}, can't be read"
         is_placed = is_few and not is_put_last and len(above) > 0
         begin = int(above[-1]) if is_placed else -1
-        return begin, Reason(f"{text}, and which row came first decides")
+        return begin, BookDoubt(f"{text}, and which row came first decides")
 
     def _gap(self, due: list[int]) -> tuple[int, str] | None:
         """From which place on a row of an uncross may be missing, and why: the names of the
@@ -183,17 +183,17 @@ class Doubts:
         self.gap = (0, NO_NAMES) if is_new else self.gap
         return is_new
 
-    def above(self, place: int, refused: Iterable[BadRow]) -> Reason | None:
+    def above(self, place: int, refused: Iterable[BadRow]) -> BookDoubt | None:
         """Why the book at a place is in doubt: rows above are missing, or orders traded between."""
         if self.gap is not None and place >= self.gap[0]:
-            return Reason(self.gap[1])
+            return BookDoubt(self.gap[1])
         if len(self.within) and self.within[0] < place:
-            return Reason(f"row {self.rows.labels[self.within[0]]} {IN_A_PHASE}")
-        found = [reason_of([*self.bad, *refused], place), self.unknown, self.other_day]
+            return BookDoubt(f"row {self.rows.labels[self.within[0]]} {IN_A_PHASE}")
+        found = [book_doubt_of([*self.bad, *refused], place), self.unknown, self.other_day]
         if self.odd is not None and self.odd[0] < place:
             found.insert(1, self.odd[1])
-        reasons = [it for it in found if it is not None]
-        return next((it for it in reasons if not it.lacks_orders), next(iter(reasons), None))
+        doubts = [it for it in found if it is not None]
+        return next((it for it in doubts if not it.lacks_orders), next(iter(doubts), None))
 
     def why_name(self, place: int) -> str:
         """Why an uncross may be another auction's than the due one, or late: that is no matter of
@@ -208,13 +208,13 @@ class Doubts:
         odd = (row for row in self.bad if row.doubt is Doubt.ANY and row.since < place)
         return next((row.unknown for row in odd), "")
 
-    def _unknown(self) -> Reason | None:
+    def _unknown(self) -> BookDoubt | None:
         """Why all books of the day are in doubt: a trade or a fill, busted ones too, is of an order
         no row enters, or may be, as one is of which a side isn't said.
         """
         rows, named = self.rows, []
         if (self.entered < 0).all():
-            return Reason("no row enters an order")
+            return BookDoubt("no row enters an order")
         unread, own = numpy.zeros(len(rows.kind), bool), self.entered.copy()
         bad = (row.place for row in rows.bad if row.doubt in (Doubt.TRADES, Doubt.BUST))
         unread[[place for place in bad if place >= 0]] = True
@@ -229,11 +229,11 @@ class Doubts:
         if named:
             why = f"row {rows.labels[min(named)]} is a trade of an order that no row enters"
             given = next(iter(rows.given.values()), "")
-            return Reason(f"{why}: {given}", False) if given else Reason(why, True)
+            return BookDoubt(f"{why}: {given}", False) if given else BookDoubt(why, True)
         place, side = self._one_sided()
         trade = f"the trade of row {rows.labels[place]}"
         why = f"the {side} of {trade} isn't said: does a row enter it?"
-        return Reason(why, True) if side else None
+        return BookDoubt(why, True) if side else None
 
     def _one_sided(self) -> tuple[int, str]:
         """The first trade of which one side isn't said, beside others, and which side it is, empty

@@ -10,7 +10,7 @@ from callauction.verdict.certain import Certain, with_certain
 from callauction.verdict.comparing import PRIORITY, Difference, doubted
 from callauction.verdict.coverage import PRICE_ITEMS
 from callauction.verdict.day_rows import DayRows
-from callauction.verdict.doubts import Doubts, Reason
+from callauction.verdict.doubts import BookDoubt, Doubts
 from callauction.verdict.paths import Judged, Moment, Path
 from callauction.verdict.phases import Result, StandingBook, Taken
 from callauction.verdict.rows import AuctionCode, BadRow, Rows
@@ -40,35 +40,35 @@ class UncrossDoubts:
 
     def why(self, path: Path, place: int) -> str:
         """Why what is recorded at a place is in doubt, whatever its sums are."""
-        reason = self.doubts.above(place, path.refused)
-        return path.doubt or ("" if reason is None or reason.lacks_orders else reason.text)
+        doubt = self.doubts.above(place, path.refused)
+        return path.doubt or ("" if doubt is None or doubt.lacks_orders else doubt.text)
 
     def doubted_books(
         self, differences: tuple[Difference, ...], items: Items, moment: Moment, taken: Taken
     ) -> tuple[Difference, ...]:
         """The differences of an uncross in doubt where its book is."""
-        reason = self._reason(moment, (*moment.path.refused, *taken.refused))
-        if reason is None:
+        doubt = self._book_doubt(moment, (*moment.path.refused, *taken.refused))
+        if doubt is None:
             return differences
-        return self._with_reason(differences, items, reason, moment, taken.book)
+        return self._with_book_doubt(differences, items, doubt, moment, taken.book)
 
-    def _reason(self, moment: Moment, refused: tuple[BadRow, ...]) -> Reason | None:
+    def _book_doubt(self, moment: Moment, refused: tuple[BadRow, ...]) -> BookDoubt | None:
         """Why the book of an uncross is in doubt, if it is."""
         if moment.path.doubt:
-            return Reason(moment.path.doubt)
+            return BookDoubt(moment.path.doubt)
         return self.doubts.above(moment.place, refused)
 
-    def _with_reason(
-        self, differences: tuple[Difference, ...], items: Items, reason: Reason, moment: Moment,
+    def _with_book_doubt(
+        self, differences: tuple[Difference, ...], items: Items, doubt: BookDoubt, moment: Moment,
         book: StandingBook,
     ) -> tuple[Difference, ...]:  # fmt: skip
-        """The differences in doubt for a reason, but for those that a missing order can't change,
+        """The differences in their book's doubt, but for those that a missing order can't change,
         where no execution above of their orders is in doubt: whether a replace kept its place, and
         all where the sums at the price are those of the book, and no such order is in it.
         """
         above = moment.path.judged
-        found = self._doubted(differences, reason.text, moment.place, above)
-        if not reason.lacks_orders:
+        found = self._doubted(differences, doubt.text, moment.place, above)
+        if not doubt.lacks_orders:
             return found
         is_fixed = all(item in items and items[item] is None for item in PRICE_ITEMS)
         open_ones = (each for it in above for each in it.differences if each.doubt)
