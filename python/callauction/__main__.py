@@ -19,7 +19,7 @@ from callauction import packages
 
 packages.check_start()  # before what needs pandas
 
-from callauction.cells import FrameError  # noqa: E402
+from callauction.frame_cells import FrameError  # noqa: E402
 from callauction.overwriting import (  # noqa: E402
     STANDARD_INPUT, STANDARD_OUTPUT, refuse_overwriting,
 )

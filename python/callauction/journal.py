@@ -31,8 +31,8 @@ from typing import Any
 import pandas
 
 from callauction.auction import Auction
-from callauction.cells import FrameError, cell_of
 from callauction.course import references_of
+from callauction.frame_cells import FrameError, cell_of
 from callauction.limits import MOST_CALLS, MOST_MEMBERS, MOST_OPEN, MOST_TICKS
 from callauction.prices import (
     BadCellError,

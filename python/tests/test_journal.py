@@ -8,7 +8,7 @@ import callauction as words
 import numpy
 import pandas
 import pytest
-from callauction.cells import FrameError
+from callauction.frame_cells import FrameError
 from callauction.journal import EVENTS, Journal, from_frame
 from callauction.prices import BadCellError, decimal_of, grid_of, whole_of
 from callauction.program import Day

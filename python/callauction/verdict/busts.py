@@ -8,7 +8,7 @@ import numpy
 
 from callauction.verdict.cells import Ints, Mask
 from callauction.verdict.comparing import Difference, KeyedFill, KeyedTrade, keys_of
-from callauction.verdict.rows import BadRow, Cell, Doubt, Kind, Rows
+from callauction.verdict.rows import BadRow, CellCode, Doubt, Kind, Rows
 
 UNREAD = "a row that isn't read may take it out: {}"
 MOST = 300
@@ -37,7 +37,8 @@ class Busts:
         if row.place < 0:
             return set()
         rows, at = self.rows, row.place
-        return {int(rows.key[at]), int(rows.bid[at]), int(rows.ask[at])} - {Cell.MISSING, Cell.BAD}
+        keys = {int(rows.key[at]), int(rows.bid[at]), int(rows.ask[at])}
+        return keys - {CellCode.MISSING, CellCode.BAD}
 
     def _is_one(self, row: BadRow) -> bool:
         """Whether a row is of one trade, as what names its bid or its ask is."""

@@ -8,7 +8,7 @@ import numpy
 from callauction.verdict.cells import Ints, Mask
 from callauction.verdict.comparing import Difference, KeyedTrade
 from callauction.verdict.doubts import Doubts
-from callauction.verdict.rows import INTERRUPTED, AuctionCode, Cell, Kind, PriceCode, Rows
+from callauction.verdict.rows import INTERRUPTED, AuctionCode, CellCode, Kind, PriceCode, Rows
 from callauction.words import AUCTIONS
 
 ONE_PRICE = "All trades of an auction are at its one price."
@@ -135,7 +135,7 @@ class Certain:
         rows = self.rows
         limits = rows.of(Kind.NEW, Kind.REPLACE)
         key, at = rows.key[limits], rows.price[limits].astype("i8")
-        worst = numpy.full(len(self.entered), Cell.MISSING, "i8")
+        worst = numpy.full(len(self.entered), CellCode.MISSING, "i8")
         order = numpy.argsort(at if side == 1 else -at, kind="stable")
         worst[key[order]] = at[order]
         is_known = self.entered >= 0

@@ -11,7 +11,9 @@ from callauction.verdict import times
 from callauction.verdict.cells import Cells, Codes, Ints, Mask, Source, paired_codes
 from callauction.verdict.columns import EMPTY, ExtractError, is_unknown
 from callauction.verdict.reading import Reading
-from callauction.verdict.rows import CONTINUOUS, RESTRICTIONS, SAID_AUCTIONS, Cell, Int8s, PriceCode
+from callauction.verdict.rows import (
+    CONTINUOUS, RESTRICTIONS, SAID_AUCTIONS, CellCode, Int8s, PriceCode,
+)
 
 SIDE_NUMBERS = {"bid": 1, "buy": 1, "ask": 2, "sell": 2}
 """By the words of a column the number of each, here of `side` in rows of orders and trades."""
@@ -70,18 +72,18 @@ class Columns:
         return Cells(cells.buffer, cells.start, length)
 
     def texts(self, name: str) -> tuple[Codes, list[str]]:
-        """A number for each text of a column in our words, Cell.MISSING for none, and the texts:
-        one of several that mean the same.
+        """A number for each text of a column in our words, CellCode.MISSING for none, and the
+        texts: one of several that mean the same.
         """
         if name not in self.names:
-            return numpy.full(len(self.source), Cell.MISSING, "i4"), []
+            return numpy.full(len(self.source), CellCode.MISSING, "i4"), []
         codes, texts = self.cells(name).texts()
         words = self._said(name)
         if not words:
             return codes, texts
         found = [words.get(text, text) for text in texts]
         known = {text: number for number, text in enumerate(dict.fromkeys(found))}
-        numbers = numpy.array([*(known[text] for text in found), Cell.MISSING], codes.dtype)
+        numbers = numpy.array([*(known[text] for text in found), CellCode.MISSING], codes.dtype)
         return numbers[codes], [*known]
 
     def _said(self, name: str) -> Mapping[str, str]:
@@ -91,29 +93,33 @@ class Columns:
         return {**self.reading.values.get("member", {}), **own} if is_member else own
 
     def words(self, name: str, known: Mapping[str, int]) -> Int8s:
-        """What is known of each word of a column, Cell.MISSING for none, Cell.BAD for another."""
+        """What is known of each word of a column, CellCode.MISSING for none, CellCode.BAD for
+        another.
+        """
         codes, texts = self.texts(name)
-        found = [known.get(text.casefold(), Cell.BAD) if text else Cell.MISSING for text in texts]
-        return numpy.array([*found, Cell.MISSING], "i1")[codes]
+        found = [
+            known.get(text.casefold(), CellCode.BAD) if text else CellCode.MISSING for text in texts
+        ]
+        return numpy.array([*found, CellCode.MISSING], "i1")[codes]
 
     def wholes(self, name: str) -> Ints:
-        """The whole number of each row, Cell.MISSING for none, Cell.BAD for another text, as 1.000
-        is beside whole numbers, of which it isn't known that it is 1,000.
+        """The whole number of each row, CellCode.MISSING for none, CellCode.BAD for another text,
+        as 1.000 is beside whole numbers, of which it isn't known that it is 1,000.
         """
         codes, texts = self.texts(name)
         plain = [self.reading.plain(text) for text in texts]
         is_whole = any(text.isdigit() and text != "0" for text in plain)
         found = [
-            Cell.BAD if is_whole and _THOUSANDS.fullmatch(text) else self._whole(text)
+            CellCode.BAD if is_whole and _THOUSANDS.fullmatch(text) else self._whole(text)
             for text in plain
         ]
-        return numpy.array([*found, Cell.MISSING], "i8")[codes]
+        return numpy.array([*found, CellCode.MISSING], "i8")[codes]
 
     def _whole(self, text: str) -> int:
         try:
-            return whole_of(text) if text else Cell.MISSING
+            return whole_of(text) if text else CellCode.MISSING
         except BadCellError:
-            return Cell.BAD
+            return CellCode.BAD
 
     def decimal(self, text: str) -> Decimal | None:
         """The number that a text is, None where it is none."""
@@ -150,7 +156,7 @@ class Columns:
             return None
         if self._whole_sequences is not None:
             numbers, places = numpy.unique(self._whole_sequences, return_inverse=True)
-            if numbers.max(initial=Cell.MISSING) < 0:
+            if numbers.max(initial=CellCode.MISSING) < 0:
                 return None
             return places.astype("i8") + min(0, int(numbers[0]))
         codes, keys = self._sequences
@@ -162,11 +168,11 @@ class Columns:
                 raise ExtractError("sequence has texts that have no order: leave it out")
             return codes.astype("i8")
         ranks = {key: place for place, key in enumerate(sorted({*known}))}
-        return numpy.array([*(ranks[key] for key in known), Cell.MISSING], "i8")[codes]
+        return numpy.array([*(ranks[key] for key in known), CellCode.MISSING], "i8")[codes]
 
     @functools.cached_property
     def _whole_sequences(self) -> Ints | None:
-        """The whole number of each row's sequence, Cell.MISSING for none; None where some are
+        """The whole number of each row's sequence, CellCode.MISSING for none; None where some are
         others: these alone need a text of each.
         """
         has_words = bool(self.reading.values.get("sequence"))
@@ -179,10 +185,10 @@ class Columns:
         return codes, [self._counted(text) for text in texts]
 
     def row_numbers(self) -> Ints:
-        """Each row's whole number in a sequence, Cell.MISSING for none; for all where some count in
-        another way, as times do.
+        """Each row's whole number in a sequence, CellCode.MISSING for none; for all where some
+        count in another way, as times do.
         """
-        none = numpy.full(len(self.source), Cell.MISSING, "i8")
+        none = numpy.full(len(self.source), CellCode.MISSING, "i8")
         if "sequence" not in self.names:
             return none
         if self._whole_sequences is not None:
@@ -191,8 +197,8 @@ class Columns:
         ways = {it and it[0] for it in keys}
         if len(ways) != 1 or ways & {None, _OF_TIMES}:
             return none
-        found = [int(it[1]) if it and it[1] == int(it[1]) else Cell.MISSING for it in keys]
-        return numpy.array([*found, Cell.MISSING], "i8")[codes]
+        found = [int(it[1]) if it and it[1] == int(it[1]) else CellCode.MISSING for it in keys]
+        return numpy.array([*found, CellCode.MISSING], "i8")[codes]
 
     def _counted(self, text: str) -> tuple[str, Decimal] | None:
         """What is before a number, and the number; None where the text is no such. A decimal is

@@ -7,7 +7,7 @@ import pandas
 
 from callauction.verdict.cells import Codes, Ints, Mask
 from callauction.verdict.phases import Result, Sums, sums
-from callauction.verdict.rows import SAID_AUCTIONS, SIDES, AuctionCode, Cell, PriceCode, Rows
+from callauction.verdict.rows import SAID_AUCTIONS, SIDES, AuctionCode, CellCode, PriceCode, Rows
 from callauction.words import AUCTIONS
 
 FILL_ITEM = "fill"
@@ -16,7 +16,7 @@ PRIORITY = "priority"
 """The item of an extract that says whether a replace kept its place."""
 NAMED = 100
 """The stamp of a trade that names its auction is this and the auction's number; else it is the
-number of the uncross nearest in time, or Cell.MISSING.
+number of the uncross nearest in time, or CellCode.MISSING.
 """
 
 
@@ -186,7 +186,7 @@ def _of_others(rows: Rows, these: Ints, owners: Ints) -> Mask:
     found = numpy.zeros(len(these), bool)
     for keys, members in ((rows.bid, rows.bid_member), (rows.ask, rows.ask_member)):
         owner, member = owners[keys[these]], members[these]
-        found |= (member != Cell.MISSING) & (owner >= 0) & (member != owner)
+        found |= (member != CellCode.MISSING) & (owner >= 0) & (member != owner)
     return found
 
 
@@ -305,7 +305,7 @@ def compared_fills(
     """How these fills differ from the lawful ones, or from each order's member in `owners`."""
     filled = sums(rows.key[these], rows.quantity[these])
     owner, member = owners[rows.key[these]], rows.member[these]
-    of_others = (owner >= 0) & (member != Cell.MISSING) & (member != owner)
+    of_others = (owner >= 0) & (member != CellCode.MISSING) & (member != owner)
     odd = these[_at_other_prices(rows, these, result, allowed) | of_others]
     if filled.agrees(result.fills) and not len(odd):
         return []
@@ -416,7 +416,7 @@ def reconciled_uncrosses(
             found[other].remove(gap)
             found[number].remove(each)
             name = AUCTIONS[auctions[other]]
-            is_there = each.stamp in (None, Cell.MISSING, other, NAMED + auctions[other])
+            is_there = each.stamp in (None, CellCode.MISSING, other, NAMED + auctions[other])
             if not is_there and each.auction != name:
                 found[number].append(dataclasses.replace(each, lawful=name))
     return [paired(those) for those in found]

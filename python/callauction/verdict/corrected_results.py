@@ -7,7 +7,7 @@ import numpy
 from callauction.verdict import time_columns
 from callauction.verdict.cells import Ints
 from callauction.verdict.rows import (
-    OF_ORDERS, SAID, AuctionCode, BadRow, Cell, Doubt, Kind, PriceCode, Rows,
+    OF_ORDERS, SAID, AuctionCode, BadRow, CellCode, Doubt, Kind, PriceCode, Rows,
 )  # fmt: skip
 from callauction.words import AUCTIONS
 
@@ -74,7 +74,7 @@ def others_said(rows: Rows, one: Ints, other: Ints | int) -> Ints:
     """In how many things results that say them differ."""
     said = numpy.array([getattr(rows, name) for name in SAID])
     own, others = said[:, one], said[:, other].reshape(len(SAID), -1)
-    is_said = (own != Cell.MISSING) & (others != Cell.MISSING)
+    is_said = (own != CellCode.MISSING) & (others != CellCode.MISSING)
     found: Ints = (is_said & (own != others)).sum(axis=0)
     return found
 
@@ -112,7 +112,7 @@ def in_parts(rows: Rows, due: Sequence[int]) -> Ints:
     if not has_more(rows, due):
         return numpy.zeros(0, "i8")
     ends, orders = ends_of(rows), rows.of(*OF_ORDERS)
-    said = numpy.array([getattr(rows, name)[ends] != Cell.MISSING for name in SAID])
+    said = numpy.array([getattr(rows, name)[ends] != CellCode.MISSING for name in SAID])
     state, before, time = rows.auction[ends], numpy.searchsorted(orders, ends), rows.time[ends]
     is_named = (state[:-1] > 0) & (state[1:] > 0)
     are_parts = (state[:-1] == state[1:]) & ~(said[:, :-1] & said[:, 1:]).any(axis=0)

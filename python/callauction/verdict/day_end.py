@@ -14,7 +14,7 @@ from callauction.verdict.executions import Executions
 from callauction.verdict.fix import TAGS
 from callauction.verdict.orders import notes_of
 from callauction.verdict.paths import Judged, Judgement, Path
-from callauction.verdict.rows import Cell, Kind, Rows
+from callauction.verdict.rows import CellCode, Kind, Rows
 from callauction.words import AUCTIONS
 
 FALLING = "times that come before that of the row above (sort reads rows by time)"
@@ -25,7 +25,7 @@ UNSAID = ": no column says which auction they are of (--columns auction=THEIRS)"
 LATE_ORDERS = "orders and replaces after the last auction"
 BEYOND = "auctions beyond what this program holds"
 NO_SEARCH = "uncrosses whose other moments are too many orders to try"
-NO_AUCTION_NAMED = (Cell.BAD, Cell.MISSING, 0)
+NO_AUCTION_NAMED = (CellCode.BAD, CellCode.MISSING, 0)
 """What a row says of its auction where it names none."""
 
 

@@ -22,7 +22,7 @@ from callauction.verdict.mixed_files import is_one_session
 from callauction.verdict.paths import Moment
 from callauction.verdict.phases import Result, StandingBook
 from callauction.verdict.respelling import TWO_WAYS, is_placeholder, is_respelled, respelled
-from callauction.verdict.rows import AuctionCode, BadRow, Cell, Doubt, Kind, Rows
+from callauction.verdict.rows import AuctionCode, BadRow, CellCode, Doubt, Kind, Rows
 from callauction.verdict.ties import Ties
 from callauction.verdict.unnamed_trades import Strays
 from callauction.words import AUCTIONS
@@ -310,7 +310,7 @@ class Doubts:
              rows.names.member(owner))
             for place in each.places
             for owner, column in zip(owners, member_columns(one))
-            if getattr(rows, column)[place] not in (Cell.MISSING, owner)
+            if getattr(rows, column)[place] not in (CellCode.MISSING, owner)
         ]  # fmt: skip
         if pairs and all(is_placeholder(name) for name, _ in pairs):
             return f"{pairs[0][0]!r} is no member of orders, and may stand for any"

@@ -21,7 +21,7 @@ from callauction.verdict.repeated_rows import (
 from callauction.verdict.row_order import (
     are_moved, blank_orders, groups_of, has_cells, ordered, slack_of, untimed_rows,
 )  # fmt: skip
-from callauction.verdict.rows import SIDES, Cell, Int8s, Kind, Names, PriceCode, Rows
+from callauction.verdict.rows import SIDES, CellCode, Int8s, Kind, Names, PriceCode, Rows
 from callauction.verdict.table import Table
 from callauction.verdict.unread_ids import look_for_given
 from callauction.verdict.unread_rows import look_at_executions, look_at_orders, look_at_results
@@ -108,7 +108,7 @@ def _look_at_peaks(rows: Rows, columns: Columns) -> None:
         peak = columns.wholes("peak")
         rows.is_iceberg = (peak > 0) & (peak < rows.quantity) & (rows.kind == Kind.NEW)
         odd = (peak <= 0) | (peak > rows.quantity) | (rows.price == PriceCode.MARKET)
-        rows.notes[PEAKS] += int((odd & (peak != Cell.MISSING) & (rows.kind == Kind.NEW)).sum())
+        rows.notes[PEAKS] += int((odd & (peak != CellCode.MISSING) & (rows.kind == Kind.NEW)).sum())
 
 
 def _unread_ids(rows: Rows, kind: Int8s) -> Codes:
@@ -162,7 +162,7 @@ def _read(
     instruments: Codes,
 ) -> tuple[Rows, Mask]:
     """The rows as they are in columns, and which have a word for a market order."""
-    reading, none = columns.reading, numpy.full(len(time), Cell.MISSING, "i4")
+    reading, none = columns.reading, numpy.full(len(time), CellCode.MISSING, "i4")
     price, prices, is_market = columns.prices(given)
     ids, first = _ids(columns, instruments)
     member, members = columns.texts("member")
@@ -227,11 +227,11 @@ def _ids(columns: Columns, instruments: Codes) -> tuple[dict[str, Codes], Ints]:
 
 
 def _members(columns: Columns, name: str, known: list[str]) -> Codes:
-    """The number of each row's member, Cell.BAD for one who has no order."""
+    """The number of each row's member, CellCode.BAD for one who has no order."""
     numbers = {member: place for place, member in enumerate(known)}
     codes, texts = columns.texts(name)
-    found = [numbers.get(text, Cell.BAD) for text in texts]
-    return numpy.array([*found, Cell.MISSING], "i4")[codes]
+    found = [numbers.get(text, CellCode.BAD) for text in texts]
+    return numpy.array([*found, CellCode.MISSING], "i4")[codes]
 
 
 def _dropped(table: Table, names: Mapping[str, str], reading: Reading) -> frozenset[str]:

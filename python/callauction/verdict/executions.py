@@ -12,7 +12,7 @@ from callauction.verdict.day_rows import DayRows
 from callauction.verdict.doubts import Doubts
 from callauction.verdict.paths import Moment
 from callauction.verdict.phases import NOTHING, Result, StandingBook
-from callauction.verdict.rows import AuctionCode, Cell, PriceCode
+from callauction.verdict.rows import AuctionCode, CellCode, PriceCode
 
 
 class Executions:
@@ -20,7 +20,7 @@ class Executions:
 
     def __init__(self, day: DayRows, doubts: Doubts) -> None:
         self.day, self.rows, self.doubts = day, day.rows, doubts
-        self.stamps = numpy.full(len(self.rows.kind), Cell.MISSING, "i8")
+        self.stamps = numpy.full(len(self.rows.kind), CellCode.MISSING, "i8")
         """By its row what a trade or a fill says of its uncross: its time, or its auction."""
         self.traded, self.filled = self._by_uncross(day.traded), self._by_uncross(day.filled)
 
@@ -32,7 +32,7 @@ class Executions:
         rows, uncrosses, due = self.rows, self.day.uncrosses, self.day.due
         done = numpy.flatnonzero(rows.auction[uncrosses] != AuctionCode.INTERRUPTED)
         named = rows.auction[these].astype("i8") - 1
-        by = numpy.full(len(these), Cell.MISSING, "i8")
+        by = numpy.full(len(these), CellCode.MISSING, "i8")
         at = rows.time[uncrosses]
         if len(done):
             by = done[numpy.maximum(numpy.searchsorted(uncrosses[done], these) - 1, 0)]
@@ -40,7 +40,7 @@ class Executions:
             timed = rows.time[these] != time_columns.NO_TIME
             own = numpy.where(timed, rows.time[these], 0)[:, None]
             by = numpy.where(timed, done[numpy.abs(own - at[done]).argmin(1)], by)
-            self.stamps[these] = numpy.where(timed, numpy.abs(own - at).argmin(1), Cell.MISSING)
+            self.stamps[these] = numpy.where(timed, numpy.abs(own - at).argmin(1), CellCode.MISSING)
         is_named = named >= 0
         self.stamps[these[is_named]] = NAMED + named[is_named]
         is_once = numpy.isin(named, [it for it in due if due.count(it) == 1])

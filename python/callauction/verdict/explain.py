@@ -8,7 +8,9 @@ from callauction.verdict.comparing import (
     FILL_ITEM, PRIORITY, Difference, KeyedFill, KeyedTrade, keys_of,
 )  # fmt: skip
 from callauction.verdict.context import Context, RestingOrder
-from callauction.verdict.rows import INTERRUPTED, RESTRICTION_OF, RESTRICTIONS, SIDES, Cell, Kind
+from callauction.verdict.rows import (
+    INTERRUPTED, RESTRICTION_OF, RESTRICTIONS, SIDES, CellCode, Kind,
+)
 
 KEPT = (
     "A replace keeps the place in time where the limit is the same and the quantity isn't greater, "
@@ -280,7 +282,7 @@ def _recorded_member(context: Context, places: tuple[int, ...], key: int, side: 
         keys, column = (getattr(rows, own), f"{own}_member") if own else (rows.key, "member")
         number = int(getattr(rows, column)[place])
         is_known = own == side or number in context.owners
-        if keys[place] == key and number != Cell.MISSING and is_known:
+        if keys[place] == key and number != CellCode.MISSING and is_known:
             return rows.names.recorded(place, column, number)
     return ""
 

@@ -8,7 +8,7 @@ from callauction.verdict.cells import Ints
 from callauction.verdict.judging import Judge
 from callauction.verdict.paths import Judged, Judgement
 from callauction.verdict.phases import recorded_sums
-from callauction.verdict.rows import RESTRICTION_OF, Cell, Kind, PriceCode, Rows
+from callauction.verdict.rows import RESTRICTION_OF, CellCode, Kind, PriceCode, Rows
 from callauction.verdict.rules import Rules
 
 MORE = "row {} has {:,} shares, and {:,} are executed: are hidden ones missing?{}"
@@ -28,7 +28,7 @@ def lacking(found: Judgement, rows: Rows) -> tuple[Rows, str] | None:
         made = recorded_sums(rows, judged.traded, judged.filled).by_key()
         for key, shares in made.items() if judged.result is not None else ():
             place = _row_of(rows, key, judged.place) if shares > book.get(key, 0) else -1
-            counts = (Cell.MISSING, RESTRICTION_OF[judged.auction])
+            counts = (CellCode.MISSING, RESTRICTION_OF[judged.auction])
             if place >= 0 and rows.restriction[entered[key]] in counts:
                 more[place] += shares - book.get(key, 0)
                 own, hint = int(rows.quantity[place]), COLUMN * ("peak" not in rows.names.theirs)

@@ -5,7 +5,7 @@ import numpy
 
 from callauction.verdict.cells import Codes, Ints, paired_codes
 from callauction.verdict.rows import (
-    OF_ORDERS, SIDES, AuctionCode, Cell, Doubt, Kind, PriceCode, Rows,
+    OF_ORDERS, SIDES, AuctionCode, CellCode, Doubt, Kind, PriceCode, Rows,
 )  # fmt: skip
 
 ONE_SIDED = "trades without the row of their other side, read as fills of their orders"
@@ -49,7 +49,7 @@ def _join(rows: Rows, bids: Ints, asks: Ints) -> None:
             array[first] = own[those]
             setattr(rows, name, array)
     rows.member = rows.member.copy()
-    rows.member[numpy.concatenate([bids, asks])] = Cell.MISSING
+    rows.member[numpy.concatenate([bids, asks])] = CellCode.MISSING
     rows.kind[second] = Kind.BAD
 
 
@@ -132,7 +132,7 @@ def with_results(rows: Rows) -> Rows:
     held = {*rows.auction[uncrosses].tolist()} - {AuctionCode.INTERRUPTED}
     made = rows.of(Kind.TRADE, Kind.FILL)
     made = made[(rows.auction[made] > 0) & (rows.auction[made] != AuctionCode.INTERRUPTED)]
-    if not rows.makes_results or Cell.MISSING in held:
+    if not rows.makes_results or CellCode.MISSING in held:
         return rows
     firsts: dict[int, int] = {}
     for place in made.tolist():
@@ -179,4 +179,4 @@ def _make_result(rows: Rows, place: int) -> None:
     rows.kind[place] = Kind.UNCROSS
     rows.price[place] = prices[0] if len(prices) == 1 else PriceCode.UNSAID
     for name in ("key", "new_id", "bid", "ask", "side", "quantity", "surplus", "count"):
-        getattr(rows, name)[place] = Cell.MISSING
+        getattr(rows, name)[place] = CellCode.MISSING

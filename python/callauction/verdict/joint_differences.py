@@ -11,7 +11,7 @@ from callauction.verdict.cells import Array
 from callauction.verdict.comparing import Difference, KeyedFill, KeyedTrade, keys_of
 from callauction.verdict.context import Context
 from callauction.verdict.phases import BeyondError, Result, StandingBook, uncross
-from callauction.verdict.rows import RESTRICTION_OF, SIDES, Cell, Kind, PriceCode
+from callauction.verdict.rows import RESTRICTION_OF, SIDES, CellCode, Kind, PriceCode
 
 
 def grouped(context: Context, differences: Sequence[Difference]) -> list[list[Difference]]:
@@ -111,7 +111,7 @@ def _absent(context: Context, each: Difference) -> list[int]:
 def _counts(context: Context, key: int) -> bool:
     """Whether an order is open, and not for another auction alone."""
     restriction = context.judged.book.restriction
-    own = (Cell.MISSING, 0, RESTRICTION_OF[context.judged.auction])
+    own = (CellCode.MISSING, 0, RESTRICTION_OF[context.judged.auction])
     return key in context.at and restriction[context.at[key]] in own
 
 
@@ -149,7 +149,7 @@ def _last_open(context: Context, keys: Sequence[int]) -> dict[int, tuple[int, in
     """
     rows, found = context.rows, dict[int, tuple[int, int, int, int]]()
     for key in keys:
-        at = context.entered.get(key, Cell.MISSING)
+        at = context.entered.get(key, CellCode.MISSING)
         if at >= 0:
             found[key] = at, int(rows.price[at]), int(rows.quantity[at]), at
     for each in context.earlier:

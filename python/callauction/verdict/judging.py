@@ -26,7 +26,7 @@ from callauction.verdict.phases import (
     BeyondError, Result, Sums, Taken, advance, empty, recorded_sums, uncross,
 )  # fmt: skip
 from callauction.verdict.rows import (
-    INTERRUPTED, RESTRICTION_OF, SAID_AUCTIONS, AuctionCode, Cell, PriceCode, Rows,
+    INTERRUPTED, RESTRICTION_OF, SAID_AUCTIONS, AuctionCode, CellCode, PriceCode, Rows,
 )  # fmt: skip
 from callauction.verdict.rules import Rules
 from callauction.verdict.tie_search import Orderings
@@ -130,7 +130,7 @@ class Judge:
             word = SAID_AUCTIONS[max(0, self.rows.auction[place])] or "uncross"
             late = Difference("auction", word, "day over", (place,))
             found = doubted([late], self.uncross_doubts.why_auction(path, place))
-            yield path.longer(Judged(place, Cell.MISSING, found, traded=traded, filled=filled))
+            yield path.longer(Judged(place, CellCode.MISSING, found, traded=traded, filled=filled))
             return
         these = self.orders[path.taken : int(numpy.searchsorted(self.orders, place))]
         moment = Moment(number, place, path, self.due[ended], these, traded, filled)

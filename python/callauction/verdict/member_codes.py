@@ -6,7 +6,7 @@ import pandas
 
 from callauction.verdict.cells import Ints
 from callauction.verdict.respelling import is_placeholder
-from callauction.verdict.rows import OF_ORDERS, Cell, Kind, Rows
+from callauction.verdict.rows import OF_ORDERS, CellCode, Kind, Rows
 
 RENAMED = "members of trades may be renamed: {} in orders, {} in trades{}"
 _PARTS = (
@@ -52,7 +52,7 @@ def _said(rows: Rows) -> "pandas.DataFrame":
         these = these[entered[getattr(rows, ids)[these]] >= 0]
         order, said = getattr(rows, ids)[these], getattr(rows, column)[these]
         owner = rows.member[entered[order]]
-        is_new = (said != Cell.MISSING) & ~numpy.isin(said, known)
+        is_new = (said != CellCode.MISSING) & ~numpy.isin(said, known)
         cells = {"place": these, "column": column, "order": order, "owner": owner, "code": ""}
         part = pandas.DataFrame(cells)
         part.loc[is_new, "code"] = _texts(rows, these[is_new], column)

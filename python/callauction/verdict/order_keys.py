@@ -7,7 +7,7 @@ import numpy
 import pandas
 
 from callauction.verdict.cells import Codes, Ints
-from callauction.verdict.rows import SIDES, Cell, Doubt, Kind, Rows
+from callauction.verdict.rows import SIDES, CellCode, Doubt, Kind, Rows
 
 
 QUOTES = "ids of a bid and an ask, read as two orders"
@@ -24,7 +24,7 @@ def make_keys(rows: Rows, unread: Codes) -> None:
     root = _roots(rows, entered, count)
     for name in ("key", "bid", "ask"):
         array = getattr(rows, name)
-        setattr(rows, name, numpy.where(array >= 0, root[array], Cell.MISSING).astype("i4"))
+        setattr(rows, name, numpy.where(array >= 0, root[array], CellCode.MISSING).astype("i4"))
     named = numpy.flatnonzero((rows.kind == Kind.REPLACE) & (rows.new_id >= 0))
     for place in named[root[rows.new_id[named]] != rows.key[named]]:
         name = rows.names.order(rows.new_id[place])
@@ -82,7 +82,7 @@ def _part_quotes(rows: Rows, ids: Ints, count: int) -> int:
         rows.refuse(place, why, Doubt.BOOKS)
     is_ask = are & (rows.side == SIDES.index("ask"))
     rows.key = numpy.where(is_ask, other[rows.key], rows.key).astype("i4")
-    rows.ask = numpy.where(rows.ask >= 0, other[rows.ask], Cell.MISSING).astype("i4")
+    rows.ask = numpy.where(rows.ask >= 0, other[rows.ask], CellCode.MISSING).astype("i4")
     places = numpy.concatenate([rows.names.ids, rows.names.ids[ids]])
     rows.names = dataclasses.replace(rows.names, ids=places)
     rows.notes[QUOTES] += len(ids)

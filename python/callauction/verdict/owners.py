@@ -8,7 +8,7 @@ import numpy
 from callauction.verdict.cells import Ints
 from callauction.verdict.columns import look_of
 from callauction.verdict.respelling import is_placeholder
-from callauction.verdict.rows import BadRow, Cell, Kind, Rows
+from callauction.verdict.rows import BadRow, CellCode, Kind, Rows
 
 ENTRIES_A_FAULT = 20
 """Of so many entries one may be wrong at most, or one of less."""
@@ -31,7 +31,7 @@ class Owners:
         self.rows = rows
         self.entered = rows.entered(len(rows.names.ids) + 1)
         owned = self.entered[self.entered >= 0]
-        self.owner = numpy.full(len(self.entered), Cell.MISSING, "i8")
+        self.owner = numpy.full(len(self.entered), CellCode.MISSING, "i8")
         self.owner[rows.key[owned]] = rows.member[owned]
         self.lost = {row.place: row for row in rows.bad
                      if row.kind == Kind.REPLACE and row.place >= 0}  # fmt: skip
@@ -66,7 +66,7 @@ class Owners:
             agreed[keys[same]] = True
         for column, places, keys in parts:
             members = getattr(rows, column)[places]
-            is_named = (keys >= 0) & (members != Cell.MISSING)
+            is_named = (keys >= 0) & (members != CellCode.MISSING)
             differs = is_named & (self.owner[keys] >= 0) & ~agreed[keys]
             differs &= (members != self.owner[keys]) & (rows.kind[places] != Kind.CANCEL)
             for place, key in zip(places[differs].tolist(), keys[differs].tolist()):

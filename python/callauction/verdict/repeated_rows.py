@@ -15,7 +15,7 @@ from callauction.verdict.columns import is_id, is_trade_id, is_unknown, look_of
 from callauction.verdict.paths import Judgement
 from callauction.verdict.phases import recorded_sums
 from callauction.verdict.rows import (
-    OF_ORDERS, SAID, AuctionCode, BadRow, Cell, Doubt, Hole, Kind, Rows,
+    OF_ORDERS, SAID, AuctionCode, BadRow, CellCode, Doubt, Hole, Kind, Rows,
 )  # fmt: skip
 
 _NO_RESULT = -100
@@ -93,7 +93,7 @@ def _unsay(rows: Rows, place: int, these: Ints) -> None:
     for name in SAID:
         values = getattr(rows, name)
         odd = these[is_own & (values[these] != values[place])]
-        values[odd] = Cell.MISSING
+        values[odd] = CellCode.MISSING
         for other in odd.tolist():
             why = f"row {rows.labels[place]} says another {name}, and has its sequence"
             rows.bad.append(BadRow(other, rows.labels[other], why, Doubt.ITEM, other))

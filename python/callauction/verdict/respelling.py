@@ -12,7 +12,7 @@ from callauction.verdict.cells import Ints
 from callauction.verdict.columns import UNKNOWN, form_of_id, look_of
 from callauction.verdict.paths import Judged, Judgement
 from callauction.verdict.phases import recorded_sums, sums
-from callauction.verdict.rows import AuctionCode, BadRow, Cell, Kind, PriceCode, Rows
+from callauction.verdict.rows import AuctionCode, BadRow, CellCode, Kind, PriceCode, Rows
 
 
 _ANYONE = ("anon", "anonymous", "hidden", "masked", "unknown", "na", *UNKNOWN)
@@ -143,7 +143,7 @@ def _add_new_ids(rows: Rows, lost: list[BadRow], known: dict[str, tuple[int, str
     for place in those[rows.new_id[those] >= 0].tolist():
         key, text = int(rows.key[place]), rows.names.order(rows.new_id[place])
         if place in named:
-            key = known.get(_plain(rows.names.order(key)), (Cell.MISSING, ""))[0]
+            key = known.get(_plain(rows.names.order(key)), (CellCode.MISSING, ""))[0]
         if key in keys:
             known.setdefault(_plain(text), (key, text))
 
@@ -175,7 +175,7 @@ def _with_members(rows: Rows) -> tuple[Rows, tuple[str, ...]]:
     parts = ("bid_member", Kind.TRADE), ("ask_member", Kind.TRADE), ("member", Kind.FILL)
     for column, kind in parts:
         numbers, these = getattr(rows, column).copy(), rows.of(kind)
-        odd = these[(numbers[these] != Cell.MISSING) & ~numpy.isin(numbers[these], own)]
+        odd = these[(numbers[these] != CellCode.MISSING) & ~numpy.isin(numbers[these], own)]
         for place in odd[:MOST_TEXTS].tolist():
             text = rows.names.recorded(place, column, int(numbers[place]))
             numbers[place], member = known.get(_plain(text), (numbers[place], ""))
@@ -246,7 +246,7 @@ def _with_keys(rows: Rows, meant: Mapping[int, int]) -> Rows:
 
 def _retired(rows: Rows) -> dict[int, int]:
     """Each order's last row, a replace; none where an order has trades or fills after its own."""
-    last = numpy.full(len(rows.names.ids) + 1, Cell.MISSING, "i8")
+    last = numpy.full(len(rows.names.ids) + 1, CellCode.MISSING, "i8")
     for keys in (rows.key, rows.bid, rows.ask):
         places = numpy.flatnonzero(keys >= 0)
         numpy.maximum.at(last, keys[places], places)

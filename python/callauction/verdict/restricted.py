@@ -17,7 +17,7 @@ from callauction.verdict.doubts import has_lawful_orders
 from callauction.verdict.judging import Judge
 from callauction.verdict.paths import Judged, Judgement
 from callauction.verdict.phases import recorded_sums
-from callauction.verdict.rows import INTERRUPTED, SIDES, Cell, PriceCode
+from callauction.verdict.rows import INTERRUPTED, SIDES, CellCode, PriceCode
 from callauction.words import AUCTIONS
 
 WHY = "no column restriction says which orders are for one auction alone (--unrestricted: none is)"
@@ -206,12 +206,12 @@ class _Sums:
             return False
         most = self._at(price, numpy.ones(len(self.book), bool))
         least = self._at(price, ~self.may_be_out)
-        volume = int(rows.quantity[place]) if "volume" in items else Cell.MISSING
+        volume = int(rows.quantity[place]) if "volume" in items else CellCode.MISSING
         if volume < 0:
             return True
         if not min(least) <= volume <= min(most):
             return False
-        surplus = int(rows.surplus[place]) if "surplus" in items else Cell.MISSING
+        surplus = int(rows.surplus[place]) if "surplus" in items else CellCode.MISSING
         sides = [int(rows.side[place])] if "side" in items and rows.side[place] >= 0 else [BID, ASK]
         both = [[volume + surplus * (side == it) for it in (BID, ASK)] for side in sides]
         is_odd = "side" in items and rows.side[place] >= 0 and (surplus > 0) != (max(sides) > 0)

@@ -55,7 +55,7 @@ class Kind:
     """A trade or a fill that a bust takes out."""
 
 
-class Cell:
+class CellCode:
     """What a cell is that has no value, in all arrays but `kind` and `price`."""
 
     MISSING: Final = -1
@@ -93,7 +93,7 @@ class AuctionCode:
 
 OF_ORDERS = (Kind.NEW, Kind.REPLACE, Kind.CANCEL)
 """The kinds of rows of orders."""
-RESTRICTION_OF = (1, Cell.MISSING, 2)
+RESTRICTION_OF = (1, CellCode.MISSING, 2)
 """By the number of an auction the restriction to it alone, in `only`, where there is one."""
 
 
@@ -357,8 +357,8 @@ class Rows:
         return found
 
     def entered(self, many: int) -> Ints:
-        """By its key the first row that enters an order, Cell.MISSING where none does."""
-        found, news = numpy.full(many, Cell.MISSING, "i8"), self.of(Kind.NEW)[::-1]
+        """By its key the first row that enters an order, CellCode.MISSING where none does."""
+        found, news = numpy.full(many, CellCode.MISSING, "i8"), self.of(Kind.NEW)[::-1]
         found[self.key[news]] = news
         return found
 
@@ -366,14 +366,14 @@ class Rows:
         """The rows, of which one says what another result says, or none."""
         said = {name: getattr(self, name).copy() for name in SAID}
         for values in said.values():
-            values[place] = Cell.MISSING if other is None else values[other]
+            values[place] = CellCode.MISSING if other is None else values[other]
         return dataclasses.replace(self, **said)
 
     def with_more_said(self, place: int, other: int) -> "Rows":
         """The rows, of which one says what another result says too, which counts where both do."""
         said = {name: getattr(self, name).copy() for name in SAID}
         for values in said.values():
-            values[place] = values[place] if values[other] == Cell.MISSING else values[other]
+            values[place] = values[place] if values[other] == CellCode.MISSING else values[other]
         return dataclasses.replace(self, **said)
 
     def _parts(self) -> dict[str, Any]:
@@ -406,7 +406,7 @@ class Rows:
         keys = [parts[name][parts[name] >= 0] for name in ids]
         base = min((int(each.min()) for each in keys if len(each)), default=0)
         for name in ids:
-            parts[name] = numpy.where(parts[name] >= 0, parts[name] - base, Cell.MISSING)
+            parts[name] = numpy.where(parts[name] >= 0, parts[name] - base, CellCode.MISSING)
         bad = [
             dataclasses.replace(it, place=it.place - begin, since=max(-1, it.since - begin))
             for it in self.bad

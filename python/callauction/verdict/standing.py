@@ -10,7 +10,7 @@ from callauction.verdict.judging import Judge
 from callauction.verdict.other_reading import OtherReading, ReadDay, of_rows
 from callauction.verdict.paths import Judged, Judgement
 from callauction.verdict.phases import recorded_sums
-from callauction.verdict.rows import Cell, Kind, Rows
+from callauction.verdict.rows import CellCode, Kind, Rows
 from callauction.verdict.uncross_doubts import Mark, marked
 
 LATE = "trades without a time or an auction may be of any"
@@ -63,7 +63,7 @@ def _says_otherwise(rows: Rows, read: Rows) -> bool:
     these = rows.of(Kind.UNCROSS, Kind.TRADE, Kind.FILL)
     both = [(getattr(rows, name)[these], getattr(read, name)[these])
             for name in ("price", "quantity", "surplus")]  # fmt: skip
-    are_others = any(((one != it) & (it != Cell.MISSING)).any() for one, it in both)
+    are_others = any(((one != it) & (it != CellCode.MISSING)).any() for one, it in both)
     return are_others or rows.prices != read.prices
 
 

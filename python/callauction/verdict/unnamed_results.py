@@ -8,7 +8,7 @@ import numpy
 from callauction.verdict.cells import Ints
 from callauction.verdict.corrected_results import ends_of, others_said, with_last
 from callauction.verdict.paths import Judgement
-from callauction.verdict.rows import AuctionCode, Cell, Kind, Rows
+from callauction.verdict.rows import AuctionCode, CellCode, Kind, Rows
 from callauction.verdict.rules import Rules
 
 MOST_RESULTS, MOST_ODD = 8, 2
@@ -98,7 +98,7 @@ def with_names(rows: Rows, due: Sequence[int], way: Named) -> Rows:
     stopped = AuctionCode.INTERRUPTED
     state[results] = [stopped if role is Role.STOP else 1 + due[it] for it, role in way]
     rows = dataclasses.replace(rows, auction=state)
-    numbers = numpy.array([Cell.MISSING if role is Role.STOP else it for it, role in way])
+    numbers = numpy.array([CellCode.MISSING if role is Role.STOP else it for it, role in way])
     for number in numpy.unique(numbers[numbers >= 0]).tolist():
         those = results[numbers == number]
         if len(those) > 1:

@@ -16,7 +16,7 @@ from callauction.verdict.column_words import (
 )  # fmt: skip
 from callauction.verdict.columns import EVENTS
 from callauction.verdict.rows import (
-    RESTRICTIONS, SAID_AUCTIONS, AuctionCode, BadRow, Cell, Doubt, Kind, PriceCode, Rows,
+    RESTRICTIONS, SAID_AUCTIONS, AuctionCode, BadRow, CellCode, Doubt, Kind, PriceCode, Rows,
 )  # fmt: skip
 
 NO_AUCTION = "a trade of continuous trading (audit-auction judges auctions of such days)"
@@ -48,15 +48,15 @@ def look_at_orders(rows: Rows, columns: Columns, is_market: Mask) -> None:
     _refuse_cells(rows, columns, is_new & (rows.side <= 0), "side", _none_of(SIDE_NUMBERS))
     if not rows.has_market:
         rows.price[is_limit & (rows.price == PriceCode.EMPTY)] = PriceCode.MARKET
-    quantity = is_limit & (rows.quantity < 0) | is_cancel & (rows.quantity == Cell.BAD)
+    quantity = is_limit & (rows.quantity < 0) | is_cancel & (rows.quantity == CellCode.BAD)
     _refuse_cells(rows, columns, quantity, "quantity", _NO_WHOLE)
     unread = rows.price < PriceCode.MARKET
     if columns.reading.market:
         unread |= rows.price == PriceCode.MARKET
     _refuse_cells(rows, columns, is_limit & unread & ~is_market, "price", _NO_DECIMAL)
-    restriction = is_new & (rows.restriction == Cell.BAD)
+    restriction = is_new & (rows.restriction == CellCode.BAD)
     _refuse_cells(rows, columns, restriction, "restriction", _none_of(RESTRICTIONS))
-    kept = (kind == Kind.REPLACE) & (rows.kept == Cell.BAD)
+    kept = (kind == Kind.REPLACE) & (rows.kept == CellCode.BAD)
     _refuse_cells(rows, columns, kept, "kept", _none_of(KEPT_NUMBERS))
     rows.price[is_limit & is_market] = PriceCode.MARKET
 
@@ -76,7 +76,7 @@ def look_at_executions(rows: Rows, columns: Columns) -> None:
     _refuse_cells(rows, columns, is_trade & (rows.ask < 0), "ask", "")
     _refuse_cells(rows, columns, both & (rows.quantity < 0), "quantity", _NO_WHOLE)
     _refuse_cells(rows, columns, both & (rows.price < PriceCode.MARKET), "price", _NO_DECIMAL)
-    named = (rows.auction == Cell.BAD) | (rows.auction == AuctionCode.INTERRUPTED)
+    named = (rows.auction == CellCode.BAD) | (rows.auction == AuctionCode.INTERRUPTED)
     _refuse_cells(rows, columns, both & named, "auction", _none_of(SAID_AUCTIONS[1:-1]))
 
 
@@ -84,9 +84,9 @@ def look_at_results(rows: Rows, columns: Columns) -> None:
     """Refuses the cells of uncrosses that can't be read, which are missing from then on."""
     uncross = rows.kind == Kind.UNCROSS
     rows.price[uncross & (rows.price == PriceCode.EMPTY)] = PriceCode.UNSAID
-    rows.auction[uncross & (rows.auction == AuctionCode.CONTINUOUS)] = Cell.BAD
+    rows.auction[uncross & (rows.auction == AuctionCode.CONTINUOUS)] = CellCode.BAD
     volume = columns.wholes("volume")
-    rows.quantity = numpy.where(uncross & (volume != Cell.MISSING), volume, rows.quantity)
+    rows.quantity = numpy.where(uncross & (volume != CellCode.MISSING), volume, rows.quantity)
     unread = uncross & (rows.price < PriceCode.NO_PRICE)
     _refuse_cells(rows, columns, unread, "price", _NO_DECIMAL)
     rows.price[unread] = PriceCode.UNSAID
@@ -100,9 +100,9 @@ def look_at_results(rows: Rows, columns: Columns) -> None:
         ("auction", rows.auction, _none_of(SAID_AUCTIONS[1:])),
     ]
     for name, values, why in cells:
-        unread = uncross & (values == Cell.BAD)
+        unread = uncross & (values == CellCode.BAD)
         _refuse_cells(rows, columns, unread, name, why)
-        values[unread] = Cell.MISSING
+        values[unread] = CellCode.MISSING
 
 
 def _refuse_cells(rows: Rows, columns: Columns, which: Mask, name: str, why: str) -> None:
@@ -163,7 +163,7 @@ def read_zeros(rows: Rows, said: Iterable[Decimal]) -> None:
     made = (rows.kind == Kind.TRADE) | (rows.kind == Kind.FILL)
     if is_zero[made].all():
         rows.price[made] = PriceCode.UNSAID
-    idle = is_zero & (rows.kind == Kind.UNCROSS) & (rows.quantity == Cell.MISSING)
+    idle = is_zero & (rows.kind == Kind.UNCROSS) & (rows.quantity == CellCode.MISSING)
     rows.price[idle] = PriceCode.NO_PRICE
     zero = is_zero & ((rows.kind == Kind.NEW) | (rows.kind == Kind.REPLACE))
     if not rows.has_market:
