@@ -23,7 +23,7 @@ from callauction.frame_cells import FrameError  # noqa: E402
 from callauction.overwriting import (  # noqa: E402
     STANDARD_INPUT, STANDARD_OUTPUT, refuse_overwriting,
 )
-from callauction.program import OPTIONS, Day, ProgramError  # noqa: E402
+from callauction.program import DAY_FIELDS, Day, ProgramError  # noqa: E402
 from callauction.statuses import BAD_DAY, BAD_FILE, DONE, FAILED  # noqa: E402
 from callauction.tables import book_at, books_of, journal_of  # noqa: E402
 from callauction.verdict import command, shapes  # noqa: E402
@@ -136,7 +136,7 @@ def _add_own_options(made: dict[str, Parser]) -> None:
     for name in ("report", "plot", "convert"):
         made[name].add_argument("-o", "--output", required=True, help="the file to write")
     _add_pictures(made["plot"])
-    _add_day(made["report"], [name for name in OPTIONS if name not in CONVERTED])
+    _add_day(made["report"], [name for name in DAY_FIELDS if name not in CONVERTED])
     made["report"].add_argument(
         "--worth", help="of a day: a CSV file with the columns order and value, in ticks"
     )
@@ -201,7 +201,7 @@ _AFTER = "docs/FORMATS.md has order files, journals and statuses; docs/AUDIT.md 
 
 def _add_pictures(parser: argparse.ArgumentParser) -> None:
     """The options of a picture: of its day, and which one it is."""
-    _add_day(parser, OPTIONS)
+    _add_day(parser, DAY_FIELDS)
     parser.add_argument("--command", type=int, help="the uncross, by its number")
     pictures = parser.add_mutually_exclusive_group()
     pictures.add_argument("--course", action="store_true", help="draw the course of the day")
@@ -236,7 +236,7 @@ def _content(file: str) -> bytes:
 def _day(asked: argparse.Namespace, content: bytes) -> Day:
     """The day of a file and the options of a command. Raises ValueError."""
     options = vars(asked)
-    given = [(name, options[name]) for name in OPTIONS if options[name] is not None]
+    given = [(name, options[name]) for name in DAY_FIELDS if options[name] is not None]
     words = [(f"--{name}", str(int(value))) for name, value in given]
     return Day(content, tuple(word for pair in words for word in pair))
 

@@ -50,6 +50,8 @@ from callauction.tables import audit_of, book_at, books_of, journal_of, trades_o
 from callauction.verdict.columns import OTHER_NAMES, refuse_unknown
 from callauction.words import (
     AUCTIONS,
+    RESTRICTED,
+    RESTRICTION_WORDS,
     Change,
     Command,
     Delete,
@@ -71,7 +73,7 @@ EVENTS = ("new", "replace", "cancel", "uncross", "trade")
 SHARED = MOST_MEMBERS - 1
 """The numbers that members have; more members share them. Number 0 is the operator's."""
 FRAME_SIDES = {"bid": Side.BID, "buy": Side.BID, "ask": Side.ASK, "sell": Side.ASK}
-RESTRICTIONS = {"opening": Restriction.OPENING_ONLY, "closing": Restriction.CLOSING_ONLY}
+RESTRICTIONS = {word: RESTRICTION_WORDS[word] for word in RESTRICTED}
 RESULTS = (*AUCTIONS, "interrupted")
 COLUMNS = (
     "event",

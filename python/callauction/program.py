@@ -13,8 +13,8 @@ from callauction.statuses import BAD_DAY, BAD_FILE, DONE, FAILED, INCOMPLETE, UN
 
 FORMS = ("lines", "journal", "trades", "book")
 """The forms in which a day is printed (docs/FORMATS.md)."""
-OPTIONS = ("low", "high", "reference", "members", "open", "calls", "range")
-"""What an order file's day is opened with, in the order of a day record."""
+DAY_FIELDS = ("low", "high", "reference", "members", "open", "calls", "range")
+"""What a day is opened with, in the order of a day record: the options of an order file."""
 NO_JOURNAL = "record 1: not a day record"
 
 
@@ -64,12 +64,12 @@ def found_program() -> str:
 
 def words_of(options: dict[str, int | None]) -> tuple[str, ...]:
     """The words of these options; those of None are left out. Raises TypeError for another name
-    than those of OPTIONS, or a value that is no integer.
+    than those of DAY_FIELDS, or a value that is no integer.
     """
     words: list[str] = []
     for name, value in options.items():
-        if name not in OPTIONS:
-            raise TypeError(f"there is no option {name}; there are {', '.join(OPTIONS)}")
+        if name not in DAY_FIELDS:
+            raise TypeError(f"there is no option {name}; there are {', '.join(DAY_FIELDS)}")
         if value is not None:
             words += [f"--{name}", str(operator.index(value))]
     return tuple(words)
@@ -89,7 +89,7 @@ class Day:
 
     @classmethod
     def read(cls, path: str | os.PathLike[str], **options: int | None) -> Self:
-        """The day of a file; the options are those of OPTIONS. Raises OSError and TypeError."""
+        """The day of a file; the options are those of DAY_FIELDS. Raises OSError and TypeError."""
         return cls(pathlib.Path(path).read_bytes(), words_of(options))
 
     def printed(self, form: str = "lines") -> str:

@@ -27,10 +27,10 @@ from callauction.pages import (
     new_figure,
     shown_cell,
 )
-from callauction.program import Day
+from callauction.program import DAY_FIELDS, Day
 from callauction.progress import Progress
 from callauction.reasons import explain
-from callauction.tables import DAY, audit_of, book_at, books_of, journal_of, trades_of
+from callauction.tables import audit_of, book_at, books_of, journal_of, trades_of
 
 
 def html_of(
@@ -185,7 +185,7 @@ def _config(journal: pandas.DataFrame) -> Section:
         "calls": "commands that may come",
         "range": "ticks from the reference beyond which an uncross is interrupted",
     }
-    values = [journal.attrs[name] for name in DAY]
+    values = [journal.attrs[name] for name in DAY_FIELDS]
     frame = pandas.DataFrame(
         {"what": texts.values(), "value": [shown_cell(value, "none", True) for value in values]}
     )

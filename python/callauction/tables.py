@@ -13,8 +13,16 @@ import numpy
 import pandas
 
 from callauction.arrays import COMMAND, Structs
-from callauction.program import Day, ProgramError
-from callauction.words import RESTRICTION_WORDS, SIDE_WORDS, TAG_WORDS, Restriction, Side
+from callauction.program import DAY_FIELDS, Day, ProgramError
+from callauction.words import (
+    RESTRICTION_WORDS,
+    SIDE_WORDS,
+    SIDES,
+    TAG_WORDS,
+    WORD_OF_RESTRICTION,
+    Restriction,
+    Side,
+)
 
 TRADES = {
     "trade": "int64",
@@ -75,8 +83,6 @@ ORDERS = {
 """The columns of open orders: a row for each, in price-time priority, with its open, visible and
 executed shares; `only` is `opening`, `closing` or empty.
 """
-DAY = ("low", "high", "reference", "members", "open", "calls", "range")
-"""The numbers of a day record."""
 AUDIT = ("entry", "recorded", "lawful")
 """The columns of an audit: a row for each recorded reply that isn't the lawful one."""
 _FIELDS = {
@@ -93,7 +99,8 @@ _FINDING = re.compile(r'(\d+): recorded "(.*)", lawful "([^"]*)"')
 
 # ---- what an auction lists, as a frame
 
-_SIDES, _RESTRICTIONS = ("", "bid", "ask"), ("", "opening", "closing")
+_SIDES = ("", *SIDES)
+"""By its number, the word of a side."""
 
 
 def orders_frame(orders: Structs) -> pandas.DataFrame:
@@ -108,7 +115,7 @@ def orders_frame(orders: Structs) -> pandas.DataFrame:
         "quantity": orders["quantity"],
         "visible": orders["visible"],
         "filled": orders["filled"],
-        "only": [_RESTRICTIONS[it] for it in orders["restriction"]],
+        "only": [WORD_OF_RESTRICTION[Restriction(it)] for it in orders["restriction"]],
     }
     frame = pandas.DataFrame(columns, columns=list(ORDERS))
     return frame.astype({name: kind for name, kind in ORDERS.items() if kind == "int64"})
@@ -158,8 +165,8 @@ def book_at(books: pandas.DataFrame, command: int | None = None) -> pandas.DataF
 
 def journal_of(day: Day) -> pandas.DataFrame:
     """The commands of a day with their recorded and their lawful replies, with the columns of
-    JOURNAL, and the numbers of DAY in its `attrs`; of an order file no reply is recorded. Raises
-    ProgramError.
+    JOURNAL, and the numbers of DAY_FIELDS in its `attrs`; of an order file no reply is recorded.
+    Raises ProgramError.
     """
     head, *entries = csv.reader(io.StringIO(day.printed("journal"), newline=""))
     rows = [
@@ -172,7 +179,7 @@ def journal_of(day: Day) -> pandas.DataFrame:
     frame["reply"] = _recorded(day, len(rows))
     for name, kind in JOURNAL.items():
         frame[name] = _typed(frame[name], kind)
-    frame.attrs.update(zip(DAY, (int(number) if number else None for number in head[1:])))
+    frame.attrs.update(zip(DAY_FIELDS, (int(number) if number else None for number in head[1:])))
     return frame
 
 

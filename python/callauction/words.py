@@ -80,6 +80,9 @@ RESTRICTION_WORDS = {
 """The commands, sides and restrictions by their words in a file or a frame."""
 SIDES = tuple(SIDE_WORDS)
 """The words of the sides."""
+RESTRICTED = tuple(word for word in RESTRICTION_WORDS if word)
+"""The words of the restrictions but none, in their order."""
+WORD_OF_RESTRICTION = {value: word for word, value in RESTRICTION_WORDS.items()}
 
 
 class ReplyTag(enum.IntEnum):

@@ -7,13 +7,15 @@ import numpy
 
 from callauction import words
 from callauction.arrays import COMMAND
-from callauction.words import MARKET, Command, CommandTag, Reply, Restriction, Side
-
-_RESTRICTIONS = {
-    Restriction.NONE: "",
-    Restriction.OPENING_ONLY: "opening",
-    Restriction.CLOSING_ONLY: "closing",
-}
+from callauction.words import (
+    MARKET,
+    WORD_OF_RESTRICTION,
+    Command,
+    CommandTag,
+    Reply,
+    Restriction,
+    Side,
+)
 
 
 def _limit(limit: int | None) -> str:
@@ -30,7 +32,7 @@ def fields_of(command: Command) -> str:
             shown = "" if peak is None else f",{index(peak)}"
             if not restriction:
                 return fields + shown
-            return f"{fields}{shown or ','},{_RESTRICTIONS[restriction]}"
+            return f"{fields}{shown or ','},{WORD_OF_RESTRICTION[restriction]}"
         case words.Change(id, quantity, limit):
             return f"change,{index(id)},{index(quantity)},{_limit(limit)}"
         case words.Delete(id):

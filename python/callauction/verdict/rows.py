@@ -10,6 +10,7 @@ from typing import Any, Final
 import numpy
 from numpy.typing import NDArray
 
+from callauction import words
 from callauction.verdict import time_columns, times
 from callauction.verdict.cells import Array, Codes, Ints, Mask, Source
 from callauction.verdict.columns import EMPTY
@@ -17,14 +18,14 @@ from callauction.verdict.table import End
 from callauction.words import AUCTIONS
 
 Int8s = NDArray[numpy.int8]
-SIDES = ("none", "bid", "ask")
+SIDES = ("none", *words.SIDES)
 """What the column `side` says, by its number."""
 INTERRUPTED, CONTINUOUS = "interrupted", "continuous"
 SAID_AUCTIONS = ("", *AUCTIONS, INTERRUPTED)
 """What the column `auction` says of a result, by its number: 0 says nothing."""
 SAID = ("price", "quantity", "surplus", "side", "count")
 """What a result says beside its auction: names of the arrays of rows."""
-RESTRICTIONS = ("opening", "closing")
+RESTRICTIONS = words.RESTRICTED
 """What the column `restriction` says, by its number less 1."""
 
 
