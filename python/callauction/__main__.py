@@ -25,7 +25,7 @@ from callauction.overwriting import (  # noqa: E402
 )
 from callauction.program import DAY_FIELDS, Day, ProgramError  # noqa: E402
 from callauction.statuses import BAD_DAY, BAD_FILE, DONE, FAILED  # noqa: E402
-from callauction.tables import book_at, books_of, journal_of  # noqa: E402
+from callauction.tables import book_at, books_of  # noqa: E402
 from callauction.verdict import command, shapes  # noqa: E402
 from callauction.verdict.columns import ColumnError, ExtractError  # noqa: E402
 
@@ -292,7 +292,7 @@ def _plot(asked: argparse.Namespace) -> int:
     from matplotlib.figure import Figure
 
     from callauction import plot
-    from callauction.course import course_of, references_of
+    from callauction.course import course_of, reference_of
 
     day, size = _day(asked, _content(asked.file)), asked.tick_size
     figure = Figure(figsize=plot.SIZE, layout="constrained")
@@ -303,9 +303,7 @@ def _plot(asked: argparse.Namespace) -> int:
         plot.allocation(day, asked.command, tick_size=size, ax=axes)
     else:
         book = book_at(books_of(day), asked.command)
-        number = int(book["command"].iloc[0])
-        reference = references_of(journal_of(day), [number])[number]
-        plot.book(book, reference=reference, tick_size=size, ax=axes)
+        plot.book(book, reference=reference_of(day, book), tick_size=size, ax=axes)
     figure.savefig(asked.output)
     return DONE
 

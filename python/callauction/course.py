@@ -12,7 +12,7 @@ from callauction.arrays import COMMAND, REPLY, Structs
 from callauction.limits import MOST_CALLS
 from callauction.program import Day
 from callauction.progress import Progress
-from callauction.tables import commands_of, journal_of
+from callauction.tables import book_at, commands_of, journal_of
 from callauction.words import AuctionKind, CommandTag, NoPrice, Price, ReplyTag, Side
 
 if TYPE_CHECKING:
@@ -116,6 +116,15 @@ def opened(journal: pandas.DataFrame) -> "Auction":
 
 
 # ---- the reference
+
+
+def reference_of(day: Day, books: pandas.DataFrame, command: int | None = None) -> int | None:
+    """The reference price, in ticks, of the book before this command, or of the last one of these
+    books of the day; None where it can't be asked for, as references_of says. Raises ValueError
+    where the books have none, and ProgramError.
+    """
+    number = int(book_at(books, command)["command"].iloc[0])
+    return references_of(journal_of(day), [number])[number]
 
 
 def references_of(journal: pandas.DataFrame, numbers: Iterable[int]) -> dict[int, int | None]:

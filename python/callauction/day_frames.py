@@ -7,7 +7,7 @@ from collections.abc import Iterable
 import pandas
 
 from callauction.arguments import number
-from callauction.course import Course, course_of, references_of
+from callauction.course import Course, course_of, reference_of
 from callauction.limits import MOST_RANGE
 from callauction.outcomes import outcomes_of
 from callauction.program import Day
@@ -77,12 +77,13 @@ class DayTables(abc.ABC):
         course.references_of). Raises ValueError.
         """
         day = self.day()
-        number = int(book_at(books_of(day), command)["command"].iloc[0])
-        return references_of(journal_of(day), [number])[number]
+        return reference_of(day, books_of(day), command)
 
     def explain(self, command: int | None = None) -> Explanation:
         """Why this book has its price, or none, in sentences. Raises ValueError."""
-        return explain(self.books(), command, self.reference(command))
+        day = self.day()
+        books = books_of(day)
+        return explain(books, command, reference_of(day, books, command))
 
     def course(self) -> Course:
         """The indicative price over the calls of the day, and its uncrosses."""

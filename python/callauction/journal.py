@@ -31,7 +31,7 @@ from typing import Any
 import pandas
 
 from callauction.auction import Auction
-from callauction.course import references_of
+from callauction.course import reference_of
 from callauction.frame_cells import FrameError, cell_of
 from callauction.limits import MOST_CALLS, MOST_MEMBERS, MOST_OPEN, MOST_TICKS
 from callauction.prices import (
@@ -46,7 +46,7 @@ from callauction.prices import (
 from callauction.program import Day
 from callauction.progress import Progress
 from callauction.reasons import Explanation, explain
-from callauction.tables import audit_of, book_at, books_of, journal_of, trades_of
+from callauction.tables import audit_of, books_of, journal_of, trades_of
 from callauction.verdict.columns import OTHER_NAMES, refuse_unknown
 from callauction.words import (
     AUCTIONS,
@@ -233,10 +233,10 @@ class Journal:
         """Why the book before this entry has its price, in prices. Raises ProgramError, and
         ValueError where there is no such book.
         """
-        books = books_of(self.day())
-        entry = int(book_at(books, command)["command"].iloc[0])
-        reference = references_of(journal_of(self.day()), [entry])[entry]
-        return explain(books, entry, reference, lambda tick: str(self.grid.price(tick)))
+        day = self.day()
+        books = books_of(day)
+        reference = reference_of(day, books, command)
+        return explain(books, command, reference, lambda tick: str(self.grid.price(tick)))
 
     def audit(self) -> pandas.DataFrame:
         """The recorded results that aren't lawful: `entry`, its `row`, `time`, `event`, `order` and
