@@ -262,8 +262,8 @@ def _report_extract(content: bytes, title: str, asked: argparse.Namespace) -> No
 
     facts, path = command.facts_of([content], asked), pathlib.Path(asked.output)
     if asked.by is not None:
-        market = command.market(content, asked)
-        page.write_market(market, path, title, facts, _watch("instruments"))
+        instruments = command.instrument_table(content, asked)
+        page.write_instruments(instruments, path, title, facts, _watch("instruments"))
         return
     verdict = command.audited_extract(content, asked, _watch("auctions"))
     text = page.html_of(verdict, title, _watch("pages"), facts)

@@ -6,7 +6,7 @@ from typing import Any
 import pytest
 from callauction.verdict import Reading, Verdict, audit_events
 from callauction.verdict.extract import read_table
-from callauction.verdict.instruments import Audited, days_of, market_of
+from callauction.verdict.instruments import Audited, days_of, instrument_table_of
 from judging import frame_of
 from lines import timed_rows
 
@@ -116,8 +116,8 @@ def each_of(days: dict[str, Lines]) -> dict[str, Audited]:
     reading = Reading(ignore=("*",), unrestricted=True)
     terms: dict[str, Any] = dict(reference="10", tick_size="0.01", auctions=["opening"])
     table = read_table(frame_of(whole), reading, "ISIN")
-    market = market_of(table, reading, "ISIN", days_of(None, "ISIN"), terms)
-    return {it.name: it for it in market.part([*range(len(market.names))])}
+    instruments = instrument_table_of(table, reading, "ISIN", days_of(None, "ISIN"), terms)
+    return {it.name: it for it in instruments.part([*range(len(instruments.names))])}
 
 
 @pytest.mark.parametrize("names", ["XY", "YX"])

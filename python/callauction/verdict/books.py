@@ -16,7 +16,9 @@ from callauction.verdict.events import orders_in_time, rows_of, said_in
 from callauction.verdict.extract import read_table
 from callauction.verdict.extract_files import file_of
 from callauction.verdict.findings import Verdict
-from callauction.verdict.instruments import TERMS, Audited, Market, days_of, market_of, terms_of
+from callauction.verdict.instruments import (
+    TERMS, Audited, InstrumentTable, days_of, instrument_table_of, terms_of,
+)  # fmt: skip
 from callauction.verdict.reading import Reading
 from callauction.verdict.rows import Kind, Rows
 from callauction.verdict.rules import Rules, SaidTerms
@@ -34,13 +36,13 @@ def verdicts_on_books(
     if asked.by is None:
         codes = numpy.zeros(len(table.source), "i4")
         rules = SaidTerms(**terms_of(terms, reading)).rules()
-        market = Market(table, reading, "", codes, ("",), {"": rules})
+        instruments = InstrumentTable(table, reading, "", codes, ("",), {"": rules})
     else:
         days = days_of(asked.days, asked.by)
-        market = market_of(table, reading, asked.by, days, terms)
-    own = _rules(market, asked.auctions is not None)
-    market = dataclasses.replace(market, rules=own, is_explained=asked.explain)
-    return [*market.one_by_one(None, watch)]
+        instruments = instrument_table_of(table, reading, asked.by, days, terms)
+    own = _rules(instruments, asked.auctions is not None)
+    instruments = dataclasses.replace(instruments, rules=own, is_explained=asked.explain)
+    return [*instruments.one_by_one(None, watch)]
 
 
 def _table(files: Mapping[str, bytes], reading: Reading, by: str | None) -> Table:
@@ -90,18 +92,19 @@ def _with_events(frame: pandas.DataFrame, reading: Reading, event: str) -> panda
     return frame if column in frame else frame.assign(**{column: event})
 
 
-def _rules(market: Market, is_named: bool) -> dict[str, Rules | str]:
+def _rules(instruments: InstrumentTable, is_named: bool) -> dict[str, Rules | str]:
     """What each auction, which its result names or else is said, was opened with, or its fault."""
-    kinds, auctions, restrictions = said_in(market.table, market.reading)
+    kinds, auctions, restrictions = said_in(instruments.table, instruments.reading)
     found: dict[str, Rules | str] = {}
-    uncrosses = numpy.flatnonzero((kinds == Kind.UNCROSS) & (market.codes >= 0))
+    uncrosses = numpy.flatnonzero((kinds == Kind.UNCROSS) & (instruments.codes >= 0))
     named: dict[str, list[int]] = {}
     for place in uncrosses.tolist():
-        named.setdefault(market.names[market.codes[place]], []).append(int(auctions[place]))
-    owners = numpy.unique(market.codes[(restrictions > 0) & (market.codes >= 0)])
-    restricted = {market.names[code] for code in owners.tolist()}
-    for name, rules in market.rules.items():
-        if isinstance(rules, str) or name not in market.names:
+        name = instruments.names[instruments.codes[place]]
+        named.setdefault(name, []).append(int(auctions[place]))
+    owners = numpy.unique(instruments.codes[(restrictions > 0) & (instruments.codes >= 0)])
+    restricted = {instruments.names[code] for code in owners.tolist()}
+    for name, rules in instruments.rules.items():
+        if isinstance(rules, str) or name not in instruments.names:
             found[name] = rules
             continue
         those = named.get(name, [])

@@ -33,8 +33,8 @@ from callauction.verdict.extract import read_table
 from callauction.verdict.extract_files import GZIP
 from callauction.verdict.findings import STATUSES, Verdict, counts_of, lines_of
 from callauction.verdict.instruments import (
-    FAULT, RECORD, TERMS, Audited, Days, Market, audited, days_of, instruments_frame, market_of,
-    terms_of, worst_of,
+    FAULT, RECORD, TERMS, Audited, Days, InstrumentTable, audited, days_of, instrument_table_of,
+    instruments_frame, terms_of, worst_of,
 )  # fmt: skip
 from callauction.verdict.reading import Reading
 from callauction.verdict.table import Table
@@ -189,11 +189,11 @@ def plain_table(content: bytes, asked: argparse.Namespace) -> pandas.DataFrame:
     return plain_frame(table, reading)
 
 
-def market(content: bytes, asked: argparse.Namespace) -> Market:
+def instrument_table(content: bytes, asked: argparse.Namespace) -> InstrumentTable:
     """The instruments of an extract. Raises as read_table."""
     table, reading = table_asked(content, asked)
     terms = {name: vars(asked)[name] for name in TERMS}
-    found = market_of(table, reading, asked.by, _days_of(asked), terms)
+    found = instrument_table_of(table, reading, asked.by, _days_of(asked), terms)
     return dataclasses.replace(found, is_explained=vars(asked).get("explain", False))
 
 
@@ -218,7 +218,7 @@ def verdicts_on_extract(
     """The verdicts on an extract's instruments. Raises as audit."""
     if asked.by is None:
         return [audited("", audited_extract(content, asked, watch), asked.explain)]
-    those = market(content, asked)
+    those = instrument_table(content, asked)
     for line in those.remarks.items():
         remark("", "%s: %d" % line)
     return [*those.one_by_one(None, watch)]
@@ -315,9 +315,9 @@ def understood(table: Table, reading: Reading, asked: argparse.Namespace) -> Ite
     """How each column was understood, and how many rows of each event there are."""
     codes = None
     if asked.by:
-        market = market_of(table, reading, asked.by, Days((), {}), {})
-        known = numpy.flatnonzero(market.codes >= 0)
-        table, codes = table.take(known), market.codes[known]
+        instruments = instrument_table_of(table, reading, asked.by, Days((), {}), {})
+        known = numpy.flatnonzero(instruments.codes >= 0)
+        table, codes = table.take(known), instruments.codes[known]
     rows = rows_of(table, reading, (), codes)
     if asked.shape is not None:
         yield f"shape: {shapes.path_of(asked.shape)}"
@@ -325,8 +325,8 @@ def understood(table: Table, reading: Reading, asked: argparse.Namespace) -> Ite
         theirs = table.names.get(ours)
         yield f"{ours}: not in the table" if theirs is None else f"{ours}: {theirs} ({meaning})"
     if asked.by:
-        yield f"by: {asked.by}, {len(market.names)} instruments"
-        if lost := int((market.codes < 0).sum()):
+        yield f"by: {asked.by}, {len(instruments.names)} instruments"
+        if lost := int((instruments.codes < 0).sum()):
             yield f"rows without {asked.by} {lost}"
     for number, event in enumerate(EVENTS):
         yield f"rows {event} {int((rows.kind == number).sum())}"

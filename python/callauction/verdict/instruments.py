@@ -164,7 +164,7 @@ def _bare(value: str) -> str:
 
 
 @dataclasses.dataclass(frozen=True)
-class Market:
+class InstrumentTable:
     """The instruments of a table: the number of each row's instrument, below 0 where it has none,
     their names, and what the day of each was opened with (None where that isn't known, and why).
     """
@@ -240,7 +240,7 @@ class Market:
             return
         size = -(-len(order) // (PARTS_A_WORKER * count))
         parts = [order[begin : begin + size] for begin in range(0, len(order), size)]
-        _MARKETS.append(self)
+        _FORKED_TABLES.append(self)
         _ = self._shared_gaps, self._dropped, self._are_over  # once for all processes
         try:
             with multiprocessing.get_context("fork").Pool(count) as pool:
@@ -248,7 +248,7 @@ class Market:
                 for _ in watch(parts):
                     yield from next(found)
         finally:
-            _MARKETS.pop()
+            _FORKED_TABLES.pop()
 
     def part(self, numbers: list[int]) -> list[Audited]:
         """The verdicts on instruments, whose rows are read at once, or else each by itself."""
@@ -331,12 +331,12 @@ class Market:
         return found
 
 
-_MARKETS: list[Market] = []
+_FORKED_TABLES: list[InstrumentTable] = []
 """What the processes that are forked work on: its cells are in memory that all share."""
 
 
 def _part(numbers: list[int]) -> list[Audited]:
-    return _MARKETS[-1].part(numbers)
+    return _FORKED_TABLES[-1].part(numbers)
 
 
 def _named(source: Source, columns: Sequence[str]) -> tuple[Codes, list[Name]]:
@@ -354,9 +354,9 @@ def _named(source: Source, columns: Sequence[str]) -> tuple[Codes, list[Name]]:
     return codes, names
 
 
-def market_of(
+def instrument_table_of(
     table: Table, reading: Reading, by: str, days: Days, terms: Mapping[str, object]
-) -> Market:
+) -> InstrumentTable:
     """The instruments of a table; `terms` is what holds where their days say nothing else."""
     columns = columns_of(by, table.source.names)
     codes, names = _named(table.source, columns)
@@ -372,7 +372,7 @@ def market_of(
             rules[text] = SaidTerms(**of_day).rules(reading.quantity)
         except ValueError as fault:
             rules[text] = str(fault)
-    return Market(table, reading, by, codes, tuple(map(",".join, names)), rules)
+    return InstrumentTable(table, reading, by, codes, tuple(map(",".join, names)), rules)
 
 
 def days_of(source: pandas.DataFrame | str | os.PathLike[str] | None, by: str) -> Days:
@@ -449,8 +449,8 @@ def audit_instruments(
     if strange:
         raise TypeError(f"there is no argument {strange[0]}; there are {', '.join(TERMS)}")
     table = read_table(source, reading, by)
-    market = market_of(table, reading, by, days_of(days, by), terms)
-    return instruments_frame(each.row() for each in market.one_by_one(workers))
+    instruments = instrument_table_of(table, reading, by, days_of(days, by), terms)
+    return instruments_frame(each.row() for each in instruments.one_by_one(workers))
 
 
 def instruments_frame(rows: Iterable[dict[str, object]]) -> pandas.DataFrame:

@@ -22,7 +22,7 @@ from callauction.pages import (
 from callauction.progress import Progress
 from callauction.verdict.context import Context, price_text
 from callauction.verdict.findings import LAWFUL, MOST_BAD_ROWS, Finding, Verdict, findings_frame
-from callauction.verdict.instruments import FAULT, Audited, Market
+from callauction.verdict.instruments import FAULT, Audited, InstrumentTable
 from callauction.verdict.orders import members_of
 from callauction.verdict.paths import Judged
 from callauction.verdict.rows import INTERRUPTED
@@ -279,15 +279,16 @@ def _shortened(parts: list[Part]) -> list[Part]:
 # ---- many instruments
 
 
-def write_market(
-    market: Market, path: pathlib.Path, title: str, facts: Mapping[str, str], watch: Progress
-) -> None:
+def write_instruments(
+    instruments: InstrumentTable, path: pathlib.Path, title: str, facts: Mapping[str, str],
+    watch: Progress,
+) -> None:  # fmt: skip
     """Writes the page of a market, and beside it a folder of its name with those of instruments,
     which are linked. `watch` is given the instruments, then the pages. Raises ProgramError and
     OSError.
     """
-    dates = market.table.dates
-    found = sorted(market.one_by_one(None, watch),
+    dates = instruments.table.dates
+    found = sorted(instruments.one_by_one(None, watch),
                    key=lambda each: (ORDER.index(each.word), _in_time(each.name, dates)))
     folder, files = path.with_suffix(""), dict[str, str]()
     names = [each.name for each in found if each.word not in (LAWFUL, FAULT)]
@@ -298,7 +299,7 @@ def write_market(
         beside = {"before": names[place - 1 : place], "next": names[place + 1 : place + 2]}
         pages = {f"All of {title}": f"../{quote(path.name)}"}
         pages |= {f"{word}: {it}": files[it] for word, those in beside.items() for it in those}
-        text = html_of(market.verdict(name), f"{title}: {name}", iter, facts, pages)
+        text = html_of(instruments.verdict(name), f"{title}: {name}", iter, facts, pages)
         (folder / files[name]).write_text(text, encoding="utf-8")
     links = {name: f"{quote(folder.name)}/{file}" for name, file in files.items()}
     path.write_text(_market_html(found, title, facts, links, dates), encoding="utf-8")
