@@ -26,8 +26,9 @@ from callauction.overwriting import (  # noqa: E402
 from callauction.program import DAY_FIELDS, Day, ProgramError  # noqa: E402
 from callauction.statuses import BAD_DAY, BAD_FILE, DONE, FAILED  # noqa: E402
 from callauction.tables import book_at, books_of  # noqa: E402
-from callauction.verdict import command, shapes  # noqa: E402
+from callauction.verdict import command, shapes, verdict_output  # noqa: E402
 from callauction.verdict.columns import ColumnError, ExtractError  # noqa: E402
+from callauction.verdict.options import add_options, add_reading, reading_asked  # noqa: E402
 
 if TYPE_CHECKING:
     from callauction.journal import Journal
@@ -141,14 +142,14 @@ def _add_own_options(made: dict[str, Parser]) -> None:
         "--worth", help="of a day: a CSV file with the columns order and value, in ticks"
     )
     for name in ("audit", "audit-auction", "report"):
-        command.add_options(made[name])
+        add_options(made[name])
     for name in ("audit", "audit-auction"):
         _add_verdicts(made[name])
     made["audit"].add_argument("--check", action="store_true", help="say how a file is understood")
     made["audit-auction"].add_argument(
         "--published", help="the file of what was published, where the books' hasn't it"
     )
-    command.add_reading(made["convert"])
+    add_reading(made["convert"])
     _add_conversion(made["convert"])
     made["convert"].add_argument("--orders", help="also write a CSV file of our ids and theirs")
 
@@ -251,7 +252,7 @@ def _report(asked: argparse.Namespace) -> int:
         _report_extract(content, title, asked)
         return DONE
     values, size = _values(asked.worth), asked.tick_size
-    facts, day = command.facts_of([content], asked), _day(asked, content)
+    facts, day = verdict_output.facts_of([content], asked), _day(asked, content)
     text = report.html_of(day, title, watch, values, size, facts)
     pathlib.Path(asked.output).write_text(text, encoding="utf-8")
     return DONE
@@ -260,7 +261,7 @@ def _report(asked: argparse.Namespace) -> int:
 def _report_extract(content: bytes, title: str, asked: argparse.Namespace) -> None:
     from callauction.verdict import page
 
-    facts, path = command.facts_of([content], asked), pathlib.Path(asked.output)
+    facts, path = verdict_output.facts_of([content], asked), pathlib.Path(asked.output)
     if asked.by is not None:
         instruments = command.instrument_table(content, asked)
         page.write_instruments(instruments, path, title, facts, _watch("instruments"))
@@ -313,7 +314,7 @@ def _journal(asked: argparse.Namespace) -> "Journal":
     from callauction import journal
 
     frame = command.plain_table(_content(asked.file), asked)
-    said = command.reading_asked(asked).said
+    said = reading_asked(asked).said
     options: dict[str, Any] = {name: said(getattr(asked, name)) for name in CONVERTED}
     return journal.from_frame(frame, said(asked.tick_size), watch=_watch("rows"), **options)
 
