@@ -43,26 +43,43 @@ def show(found: list[Audited], asked: argparse.Namespace, contents: Sequence[byt
     where no instrument can be judged, and OSError.
     """
     facts = facts_of(contents, asked)
-    asked.status = STATUSES[worst_of(each.word for each in found)]
+    status = asked.status = STATUSES[worst_of(each.word for each in found)]
+    write_asked(found, asked, facts)
+    if asked.json:
+        print("\n".join(json.dumps({**each.plain(), **facts}) for each in found))
+    refuse_unjudged(found)
+    if not asked.json:
+        print_lines(found, asked)
+    return status
+
+
+def write_asked(
+    found: list[Audited], asked: argparse.Namespace, facts: Mapping[str, str]
+) -> None:
+    """Writes the files that are asked for. Raises OSError."""
     if asked.findings is not None:
         write_findings(found, asked.findings, facts)
     if asked.output is not None:
         write_rows(found, asked.output, facts)
-    if asked.json:
-        print("\n".join(json.dumps({**each.plain(), **facts}) for each in found))
+
+
+def refuse_unjudged(found: list[Audited]) -> None:
+    """Raises ExtractError or ValueError where no instrument can be judged, with the first fault."""
     if found and all(each.fault for each in found):
         line, more = _named(found[0].name, found[0].fault), len(found) - 1
         line += f" (and {more:,} more can't be judged)" * bool(more)
         raise ExtractError(line) if any(each.is_unread for each in found) else ValueError(line)
-    if asked.json:
-        return STATUSES[worst_of(each.word for each in found)]
+
+
+def print_lines(found: list[Audited], asked: argparse.Namespace) -> None:
+    """Prints verdicts as lines: what was met in reading, the findings, the counts, the verdict."""
     for each in found:
         for line in each.remarks or [each.fault] * bool(each.fault):
             remark(each.name, line)
         ranges = each.ranges if len(found) == 1 or asked.explain else ()
         for line in (*each.lines, *ranges):
             print(line if line.startswith(" ") else _named(each.name, line))
-    return _print_end(found)
+    _print_end(found)
 
 
 def remark(name: str, line: str) -> None:
@@ -74,17 +91,15 @@ def _named(name: str, line: str) -> str:
     return f"{name}, {line}" if name else line
 
 
-def _print_end(found: list[Audited]) -> int:
-    """The counts and the verdict on all instruments together: the status."""
+def _print_end(found: list[Audited]) -> None:
+    """Prints the counts and the verdict on all instruments together."""
     sums = (sum(getattr(it, name) for it in found) for name in ("bad_rows", "findings", "doubtful"))
     if open_ones := sum(it.name != "" and it.word == FAULT for it in found):
         print(f"not judged {open_ones:,} of {sum(it.name != '' for it in found):,}")
     print("\n".join(counts_of(*sums)))
     names = dict.fromkeys(name for each in found for name in each.coverage.counts)
     print("\n".join(Coverage({name: _sum(found, name) for name in names}).lines()))
-    worst = worst_of(each.word for each in found)
-    print(worst)
-    return STATUSES[worst]
+    print(worst_of(each.word for each in found))
 
 
 def _sum(found: list[Audited], name: str) -> tuple[int, int]:
