@@ -5,8 +5,10 @@ from typing import Any
 
 import pytest
 from callauction.verdict import Reading, Verdict, audit_events
+from callauction.verdict.audited import Audited
 from callauction.verdict.extract import read_table
-from callauction.verdict.instruments import Audited, days_of, instrument_table_of
+from callauction.verdict.instrument_terms import days_of
+from callauction.verdict.instruments import instrument_table_of
 from judging import frame_of
 from lines import timed_rows
 

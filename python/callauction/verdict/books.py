@@ -9,6 +9,7 @@ import pandas
 
 from callauction.prices import argument
 from callauction.progress import Progress
+from callauction.verdict.audited import Audited
 from callauction.verdict.audits import verdict_on_table
 from callauction.verdict.cells import Short
 from callauction.verdict.columns import EVENT_COLUMNS, ColumnError, ExtractError, refuse_unknown
@@ -16,9 +17,8 @@ from callauction.verdict.events import orders_in_time, rows_of, said_in
 from callauction.verdict.extract import read_table
 from callauction.verdict.extract_files import file_of
 from callauction.verdict.findings import Verdict
-from callauction.verdict.instruments import (
-    TERMS, Audited, InstrumentTable, days_of, instrument_table_of, terms_of,
-)  # fmt: skip
+from callauction.verdict.instrument_terms import TERMS, days_of, terms_of
+from callauction.verdict.instruments import InstrumentTable, instrument_table_of
 from callauction.verdict.reading import Reading
 from callauction.verdict.rows import Kind, Rows
 from callauction.verdict.rules import Rules, SaidTerms

@@ -11,15 +11,15 @@ from callauction.program import NO_JOURNAL, BadFileError, Day, found_program
 from callauction.progress import Progress
 from callauction.statuses import DONE
 from callauction.verdict import books
+from callauction.verdict.audited import Audited, audited
 from callauction.verdict.audits import audit_events, audit_journal
 from callauction.verdict.columns import ColumnError, ExtractError
 from callauction.verdict.events import plain_frame
 from callauction.verdict.extract import read_table
 from callauction.verdict.extract_files import GZIP
 from callauction.verdict.findings import Verdict
-from callauction.verdict.instruments import (
-    TERMS, Audited, Days, InstrumentTable, audited, days_of, instrument_table_of, terms_of,
-)  # fmt: skip
+from callauction.verdict.instrument_terms import TERMS, Days, days_of, terms_of
+from callauction.verdict.instruments import InstrumentTable, instrument_table_of
 from callauction.verdict.options import UsageError, reading_asked
 from callauction.verdict.reading import Reading
 from callauction.verdict.table import Table

@@ -3,164 +3,35 @@ import dataclasses
 import functools
 import multiprocessing
 import os
-import re
-from collections.abc import Iterable, Iterator, Mapping, Sequence
-from typing import Any, BinaryIO, NamedTuple
+from collections.abc import Iterator, Mapping, Sequence
+from typing import BinaryIO
 
 import numpy
 import pandas
 
-from callauction.prices import number_of
 from callauction.program import ProgramError
 from callauction.progress import Progress
 from callauction.verdict import time_columns
+from callauction.verdict.audited import FAULT, Audited, audited, instruments_frame
 from callauction.verdict.audits import before, short_rows, verdict_on_rows
 from callauction.verdict.cells import Codes, Ints, Mask, Source
 from callauction.verdict.column_words import Columns
-from callauction.verdict.columns import KINDS, ColumnError, ExtractError, hint_of, refuse_unknown
-from callauction.verdict.coverage import PLURALS, Coverage
+from callauction.verdict.columns import KINDS, ExtractError
 from callauction.verdict.events import dropped_numbers, gaps_in, rows_of
 from callauction.verdict.extract import columns_of, read_table
 from callauction.verdict.file_ends import are_over
-from callauction.verdict.findings import INCOMPLETE, STATUSES, Finding, Verdict
+from callauction.verdict.findings import Verdict
+from callauction.verdict.instrument_terms import TERMS, Days, Name, days_of, terms_of
 from callauction.verdict.reading import Reading
 from callauction.verdict.repeated_rows import Gap, find_holes, gaps_of, remark_of
 from callauction.verdict.rows import BadRow, Doubt, Kind, Rows
 from callauction.verdict.rules import Rules, SaidTerms
 from callauction.verdict.table import Table
-from callauction.words import AUCTIONS
 
-TERMS = (
-    "reference", "tick_size", "range", "low", "high", "auctions", "second_reference",
-    "second_range",
-)  # fmt: skip
-"""What a day is opened with: the columns of a table of days beside that of the instruments."""
-NO_TICK_SIZE = "none"
-"""The tick size of an instrument for which it depends on the price."""
-FAULT = "fault"
-"""The verdict of an instrument that can't be judged."""
-_COUNTS = (f"{name}{end}" for name in PLURALS.values() for end in ("", "_due"))
-INSTRUMENT_COLUMNS = (
-    "instrument", "verdict", "findings", *_COUNTS, "bad_rows", "first_finding", "fault", "doubtful",
-)  # fmt: skip
-"""The columns of the rows: of each item how many were compared and how many the rules give; the
-line of the first finding, in the extract's ids, times and prices; why an instrument can't be
-judged; and how many findings are doubtful.
-"""
-RECORD = (
-    "instrument", "kind", "rows", "time", "auction", "item", "recorded", "lawful", "why", "effect",
-    "moved", "verdict",
-)  # fmt: skip
-"""The columns of findings: `kind` is `certain` or `doubtful`, `rows` are parted by blanks, `why` is
-the rule, or why a finding is doubtful, `effect` and `moved` (parted by semicolons) are a Finding's,
-`verdict` is the instrument's. One without findings has a row of the kind `none`, with the fault as
-`why` where it can't be judged, or the first row that isn't read.
-"""
-NO_FINDING = "none"
 PARTS_A_WORKER = 4
 """How many parts of the instruments each worker is given, one after the other."""
 FEW = 20_000
 """Rows that aren't worth another process."""
-_THOUSANDS = re.compile(r"\d{1,3}(,\d{3})+")
-
-Name = tuple[str, ...]
-"""The texts of an instrument's columns."""
-Terms = dict[str, Any]
-"""What a day was opened with, as the arguments of audit_events."""
-
-
-class Days(NamedTuple):
-    """What the days of instruments were opened with, by the texts of these columns."""
-
-    columns: Name
-    terms: Mapping[Name, Mapping[str, object]]
-
-
-class TermsError(ValueError):
-    """What a day was opened with isn't known; one line that says what to do."""
-
-
-@dataclasses.dataclass(frozen=True)
-class Audited:
-    """The verdict on an instrument (its name is empty where the extract is of one): its word, how
-    many findings are certain and doubtful, the lines of all, the remarks, the coverage, and how
-    many rows are bad. `fault` is why there is no verdict, empty where there is one.
-    """
-
-    name: str
-    word: str
-    findings: int = 0
-    doubtful: int = 0
-    lines: tuple[str, ...] = ()
-    remarks: tuple[str, ...] = ()
-    coverage: Coverage = Coverage({})
-    bad_rows: int = 0
-    first: str | None = None
-    fault: str = ""
-    found: tuple[Mapping[str, object], ...] = ()
-    """The findings, without the verdict (RECORD)."""
-    ranges: tuple[str, ...] = ()
-    is_unread: bool = False
-    """Whether the fault is one of the file, and not of what the day was opened with."""
-    lacks_rows: bool = False
-    """Whether rows are missing in a sequence whose numbers else have no gap."""
-
-    def plain(self) -> dict[str, object]:
-        """What a machine reads of it."""
-        counts = {name: [*count] for name, count in self.coverage.counts.items()}
-        return {
-            "instrument": self.name, "verdict": self.word, "findings": self.findings,
-            "doubtful": self.doubtful, "coverage": counts, "bad_rows": self.bad_rows,
-            "remarks": [*self.remarks], "ranges": [*self.ranges], "fault": self.fault,
-        }  # fmt: skip
-
-    @property
-    def records(self) -> list[Mapping[str, object]]:
-        """The findings, or that there are none (RECORD)."""
-        none = dict.fromkeys(RECORD, "")
-        why = self.fault
-        if self.bad_rows or self.lacks_rows:
-            why = why or self.remarks[0]
-        none |= {"instrument": self.name, "kind": NO_FINDING, "why": why}
-        return [{**it, "verdict": self.word} for it in self.found or (none,)]
-
-    def row(self) -> dict[str, object]:
-        """Its row (INSTRUMENT_COLUMNS)."""
-        row: dict[str, object] = {"instrument": self.name, "verdict": self.word}
-        if self.fault:
-            return {**row, "fault": self.fault}
-        for item, (compared, due) in self.coverage.counts.items():
-            row[item], row[f"{item}_due"] = compared, due
-        counts = {"findings": self.findings, "doubtful": self.doubtful, "bad_rows": self.bad_rows}
-        return {**row, **counts, "first_finding": self.first}
-
-
-def audited(name: str, verdict: Verdict, is_explained: bool = False) -> Audited:
-    """The verdict on an instrument in lines. Raises ProgramError."""
-    found = (*verdict.findings, *verdict.doubtful)
-    first = str(verdict.findings[0]) if verdict.findings else None
-    return Audited(
-        name, verdict.word, len(verdict.findings), len(verdict.doubtful),
-        (*verdict.told(is_explained),), (*verdict.remarks(),), verdict.coverage,
-        len(verdict.bad_rows), first, found=tuple(_record(name, it) for it in found),
-        ranges=(*verdict.ranges(),), lacks_rows=verdict.rows.lacks_rows,
-    )  # fmt: skip
-
-
-def _record(name: str, finding: Finding) -> Mapping[str, object]:
-    """A finding as a row of a table (RECORD), without the verdict."""
-    rows = " ".join(map(str, finding.rows))
-    values = (
-        name, "doubtful" if finding.doubt else "certain", rows, finding.time, finding.auction,
-        finding.item, _bare(finding.recorded), _bare(finding.lawful), finding.rule, finding.effect,
-        "; ".join(finding.moved),
-    )  # fmt: skip
-    return dict(zip(RECORD, values))
-
-
-def _bare(value: str) -> str:
-    """A value as a machine reads it: of a number alone its digits."""
-    return value.replace(",", "") if _THOUSANDS.fullmatch(value) else value
 
 
 @dataclasses.dataclass(frozen=True)
@@ -375,60 +246,6 @@ def instrument_table_of(
     return InstrumentTable(table, reading, by, codes, tuple(map(",".join, names)), rules)
 
 
-def days_of(source: pandas.DataFrame | str | os.PathLike[str] | None, by: str) -> Days:
-    """What the day of each instrument was opened with, of a frame or a CSV file, which may have
-    some of several columns `by` alone. Raises ColumnError, OSError, and ExtractError for one that
-    is there twice with other terms.
-    """
-    if source is None:
-        return Days((), {})
-    is_frame = isinstance(source, pandas.DataFrame)
-    frame: pandas.DataFrame = source
-    if not is_frame:
-        with open(source, encoding="utf-8-sig", newline="") as file:
-            separator = max(",;\t", key=file.readline().count)
-        frame = pandas.read_csv(
-            source, sep=separator, dtype="str", keep_default_na=False, skip_blank_lines=False
-        ).fillna("")
-        frame = frame.set_axis(range(2, 2 + len(frame)))[frame.ne("").any(axis=1).to_numpy()]
-    columns = tuple(name for name in dict.fromkeys([by, *by.split(",")]) if name in frame)
-    if not columns:
-        raise ColumnError(f"the days have no column {by!r}{hint_of(by, frame)}")
-    refuse_unknown(frame.columns, (*columns, *TERMS))
-    terms, labels = dict[Name, Mapping[str, object]](), dict[Name, object]()
-    for label, row in zip(frame.index, frame.to_dict("records")):
-        key = tuple(str(row[name]) for name in columns)
-        own = {str(name): it for name, it in row.items() if name in TERMS and it != "" and it == it}
-        if _numbered(terms.setdefault(key, own)) != _numbered(own):
-            raise ExtractError(
-                f"the days have {','.join(key)} twice, in rows {labels[key]} and {label}, with "
-                "other terms: leave one out"
-            )
-        labels.setdefault(key, label)
-    return Days(columns, terms)
-
-
-def _numbered(terms: Mapping[str, object]) -> dict[str, object]:
-    """Terms with numbers as such, so that 20 is 20.00."""
-    return {name: number_of(it) if number_of(it) is not None else it for name, it in terms.items()}
-
-
-def terms_of(given: Mapping[str, object], reading: Reading) -> Terms:
-    """The arguments of an audit, which may have a file's signs. Raises TermsError for a lack."""
-    missing = [f"--{it.replace('_', '-')}" for it in TERMS[:2] if given.get(it) is None]
-    if missing:
-        raise TermsError(
-            f"there are order events: say {' and '.join(missing)} (the last price "
-            "before the day is the reference; the tick size is none where it depends on the price)"
-        )
-    auctions = given.get("auctions") or AUCTIONS
-    found: Terms = {name: reading.said(given.get(name)) for name in TERMS}
-    found["auctions"] = auctions.split(",") if isinstance(auctions, str) else auctions
-    if found["tick_size"] == NO_TICK_SIZE:
-        found["tick_size"] = None
-    return found
-
-
 def audit_instruments(
     source: pandas.DataFrame | str | os.PathLike[str] | BinaryIO,
     by: str,
@@ -451,20 +268,3 @@ def audit_instruments(
     table = read_table(source, reading, by)
     instruments = instrument_table_of(table, reading, by, days_of(days, by), terms)
     return instruments_frame(each.row() for each in instruments.one_by_one(workers))
-
-
-def instruments_frame(rows: Iterable[dict[str, object]]) -> pandas.DataFrame:
-    """Rows as a frame (INSTRUMENT_COLUMNS)."""
-    found = pandas.DataFrame([*rows], columns=[*INSTRUMENT_COLUMNS])
-    texts = ("instrument", "verdict", "first_finding", "fault")
-    kinds = {name: "object" if name in texts else "Int64" for name in INSTRUMENT_COLUMNS}
-    return found.astype(kinds)
-
-
-def worst_of(words: Iterable[str]) -> str:
-    """The worst of verdicts, of which a fault is incomplete. Raises ExtractError for none."""
-    found = {INCOMPLETE if word == FAULT else word for word in words}
-    for word in sorted(STATUSES, key=("unlawful", "incomplete", "lawful").index):
-        if word in found:
-            return word
-    raise ExtractError("the extract has no rows")

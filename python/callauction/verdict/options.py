@@ -6,7 +6,7 @@ from collections.abc import Sequence
 
 from callauction.verdict import shapes
 from callauction.verdict.columns import EVENT_COLUMNS, likely
-from callauction.verdict.instruments import TERMS
+from callauction.verdict.instrument_terms import TERMS
 from callauction.verdict.reading import Reading
 from callauction.verdict.times import STROKES
 from callauction.words import AUCTIONS

@@ -20,9 +20,10 @@ from callauction.pages import (
     new_figure,
 )  # fmt: skip
 from callauction.progress import Progress
+from callauction.verdict.audited import FAULT, Audited
 from callauction.verdict.context import Context, price_text
 from callauction.verdict.findings import LAWFUL, MOST_BAD_ROWS, Finding, Verdict, findings_frame
-from callauction.verdict.instruments import FAULT, Audited, InstrumentTable
+from callauction.verdict.instruments import InstrumentTable
 from callauction.verdict.orders import members_of
 from callauction.verdict.paths import Judged
 from callauction.verdict.rows import INTERRUPTED

@@ -19,14 +19,14 @@ from callauction.market.instrument_names import guarded
 from callauction.prices import number_of
 from callauction.program import found_program
 from callauction.verdict import shapes
+from callauction.verdict.audited import FAULT, RECORD, Audited, instruments_frame, worst_of
 from callauction.verdict.audits import short_rows
 from callauction.verdict.columns import EVENT_COLUMNS, EVENTS, ExtractError
 from callauction.verdict.coverage import Coverage
 from callauction.verdict.events import rows_of
 from callauction.verdict.findings import STATUSES, counts_of, lines_of
-from callauction.verdict.instruments import (
-    FAULT, RECORD, Audited, Days, instrument_table_of, instruments_frame, worst_of,
-)  # fmt: skip
+from callauction.verdict.instrument_terms import Days
+from callauction.verdict.instruments import instrument_table_of
 from callauction.verdict.reading import Reading
 from callauction.verdict.table import Table
 
