@@ -9,7 +9,8 @@ import numpy
 import pandas
 import pytest
 from callauction.frame_cells import FrameError
-from callauction.journal import EVENTS, Journal, from_frame
+from callauction.frame_rows import EVENTS
+from callauction.journal import Journal, from_frame
 from callauction.prices import BadCellError, decimal_of, grid_of, whole_of
 from callauction.program import Day
 from callauction.recording import RecordedAuction
