@@ -1,14 +1,11 @@
 """What the lessons of python/notebooks use: small books, exercises that look at what was to be
 kept, and a slider. All prices and trades are the proved library's and program's.
 """
-import base64
 import dataclasses
-import html
-import io
 import math
 import numbers
 from collections.abc import Callable, Mapping, Sequence
-from typing import TYPE_CHECKING, Any, cast
+from typing import Any, cast
 
 import pandas
 
@@ -16,21 +13,15 @@ from callauction import plot
 from callauction.library import ffi, lib
 from callauction.limits import MOST_QUANTITY
 from callauction.outcomes import queue_of
-from callauction.plot.style import thousands, whole_steps
+from callauction.pages import counted
 from callauction.reasons import Explanation
 from callauction.recording import RecordedAuction
-from callauction.words import NoPrice, Price, Refused, Reply, Side
+from callauction.words import Refused, Reply, Side
 from callauction.written import text_of
-
-if TYPE_CHECKING:
-    from matplotlib.axes import Axes
-    from matplotlib.figure import Figure
 
 BID, ASK = Side.BID, Side.ASK
 LessonOrder = tuple[Side, int, int | None]
 """An order of a lesson: its side, its shares, and its limit in ticks, None at market."""
-MOVED = ("limit", "price", "volume", "surplus")
-"""The columns of what an order's limit does."""
 LOW, HIGH = 1, 1000
 """The lowest and the highest tick of a lesson's auctions."""
 
@@ -133,8 +124,9 @@ class Exercise:
             if not self.more:
                 return self._form()
             were = "was" if len(added) <= 1 else "were"
-            kept = f"the {_counted(len(self.kept))} of the book"
-            return f"add {_counted(self.more)} to {kept}; {len(added) or 'none'} {were} added"
+            kept = f"the {counted(len(self.kept), 'order')} of the book"
+            more = counted(self.more, "order")
+            return f"add {more} to {kept}; {len(added) or 'none'} {were} added"
         if reference is not None and self.more:
             return f"keep the reference, {self.reference}"
         if reference is not None and not _is_tick(reference):
@@ -192,11 +184,6 @@ class Exercise:
             with_whom = ", ".join(f"{bid} with {ask}" for bid, ask in pairs) or "none"
             faults.append(f"the trades, bid with ask: {with_whom}")
         return faults
-
-
-def _counted(orders: int) -> str:
-    """A number of orders."""
-    return "1 order" if orders == 1 else f"{orders} orders"
 
 
 def _order_fault(order: Sequence[object]) -> str:
@@ -272,71 +259,6 @@ class Experiment:
 # ---- a slider
 
 
-def moved(orders: Sequence[LessonOrder], place: int, limits: Sequence[int]) -> pandas.DataFrame:
-    """What the limit of the order at this place, from 0 on, does to the price, the
-    volume and the surplus (MOVED); `<NA>` where there is no price.
-    """
-    rows = []
-    for limit in limits:
-        with auction_of(*_with(orders, place, limit)) as auction:
-            rows.append((limit, *_numbers(auction.display())))
-    return pandas.DataFrame(rows, columns=list(MOVED)).astype("Int64")
-
-
-def _with(orders: Sequence[LessonOrder], place: int, limit: int) -> list[LessonOrder]:
-    """The orders, that at this place with another limit."""
-    side, quantity, _ = orders[place]
-    return [*orders[:place], (side, quantity, limit), *orders[place + 1 :]]
-
-
-def _numbers(shown: Price | NoPrice) -> tuple[int | None, ...]:
-    if isinstance(shown, NoPrice):
-        return None, None, None
-    return shown.tick, shown.volume, shown.surplus
-
-
-def draw_moved(
-    orders: Sequence[LessonOrder], place: int, limit: int, found: pandas.DataFrame
-) -> "Figure":
-    """Draws the book with this limit of an order; beside it what each limit does (`moved`): volume
-    and surplus, the limit upright as in the book, and the price. Answers the figure.
-    """
-    import matplotlib.pyplot as pyplot
-
-    figure, (book, shares, price) = pyplot.subplots(
-        1, 3, figsize=(11, 4.2), layout="constrained", gridspec_kw={"width_ratios": (5, 3, 3)}
-    )
-    with auction_of(*_with(orders, place, limit)) as auction:
-        plot.book(auction, ax=book)
-    whose = f"limit of order {place + 1} (ticks)"
-    limits = found["limit"].astype("float64")
-    for name, mark in (("volume", "o"), ("surplus", "s")):
-        shares.plot(found[name].astype("float64"), limits, marker=mark, label=name)
-    shares.axhline(limit, color="black", linestyle=":")
-    _label(shares, "shares", whose)
-    price.plot(limits, found["price"].astype("float64"), marker="o", label="price")
-    price.axvline(limit, color="black", linestyle=":")
-    _label(price, whose, "price (ticks)")
-    return figure
-
-
-def _label(axes: "Axes", across: str, upright: str) -> None:
-    """What the axes of a panel are, in whole numbers, and its legend above it."""
-    whole_steps(axes.xaxis, thousands, 4)
-    whole_steps(axes.yaxis, str)
-    axes.set_xlabel(across)
-    axes.set_ylabel(upright)
-    axes.legend(fontsize="small", loc="lower left", bbox_to_anchor=(0, 1), ncols=2, frameon=False)
-
-
-_MOVE = (
-    "this.parentNode.parentNode.querySelectorAll('img').forEach((it, place) => "
-    "it.style.display = place == this.value ? '' : 'none');"
-    "this.nextElementSibling.textContent = this.dataset.limits.split(' ')[this.value]"
-)
-"""What a move of the slider does in the browser."""
-
-
 def slide(orders: Sequence[LessonOrder], place: int, limits: Sequence[int]) -> None:
     """A slider that moves the limit of the order at this place, from 0 on, through `limits`: the
     book, and price, volume and surplus against the limit. All pictures are in the cell, so that it
@@ -344,6 +266,8 @@ def slide(orders: Sequence[LessonOrder], place: int, limits: Sequence[int]) -> N
     of the order's own limit is shown.
     """
     import matplotlib.pyplot as pyplot
+
+    from callauction.lesson_slider import draw_moved, moved, slider_of  # which needs this module
 
     found = moved(orders, place, limits)
     own = orders[place][2]
@@ -364,36 +288,3 @@ def _is_in_notebook() -> bool:
     except ImportError:
         return False
     return hasattr(get_ipython(), "kernel")
-
-
-def slider_of(
-    orders: Sequence[LessonOrder],
-    place: int,
-    limits: Sequence[int],
-    start: int,
-    found: pandas.DataFrame,
-) -> str:
-    """The slider as HTML: a picture for each limit, of which one is seen."""
-    pictures = []
-    for limit, (_, row) in zip(limits, found.iterrows()):
-        words = html.escape(f"limit {limit}: " + ", ".join(f"{k} {row[k]}" for k in MOVED[1:]))
-        style = "" if limit == start else ' style="display:none"'
-        data = _png(draw_moved(orders, place, limit, found))
-        pictures.append(f'<img alt="{words}"{style} src="data:image/png;base64,{data}">')
-    listed = " ".join(map(str, limits))
-    slider = (
-        f'<label>limit of order {place + 1}: <input type="range" min="0" max="{len(limits) - 1}" '
-        f'value="{[*limits].index(start)}" data-limits="{listed}" oninput="{_MOVE}"> '
-        f"<output>{start}</output></label>"
-    )
-    return f"<div>{slider}<div>{''.join(pictures)}</div></div>"
-
-
-def _png(figure: "Figure") -> str:
-    """A figure as a PNG in base64; it is closed."""
-    import matplotlib.pyplot as pyplot
-
-    kept = io.BytesIO()
-    figure.savefig(kept, format="png", dpi=80)
-    pyplot.close(figure)
-    return base64.b64encode(kept.getvalue()).decode("ascii")

@@ -16,14 +16,12 @@ from callauction.lesson import (
     Exercise,
     Experiment,
     auction_of,
-    draw_moved,
     executed,
-    moved,
     said,
     show,
     slide,
-    slider_of,
 )
+from callauction.lesson_slider import draw_moved, moved, slider_of
 from hypothesis import strategies
 
 BOOK = [(BID, 200, 202), (BID, 100, 201), (ASK, 150, 199)]
