@@ -231,6 +231,7 @@ def _add_conversion(parser: argparse.ArgumentParser) -> None:
 
 
 def _content(file: str) -> bytes:
+    """The bytes of a file, or those of standard input for `-`. Raises OSError."""
     return sys.stdin.buffer.read() if file == "-" else pathlib.Path(file).read_bytes()
 
 
@@ -243,6 +244,9 @@ def _day(asked: argparse.Namespace, content: bytes) -> Day:
 
 
 def _report(asked: argparse.Namespace) -> int:
+    """Writes the page of a day, or of an extract, which a file is that is no journal and no order
+    file: the status.
+    """
     from callauction import report
 
     title = "A day of call auctions" if asked.file == "-" else pathlib.Path(asked.file).name
@@ -259,6 +263,9 @@ def _report(asked: argparse.Namespace) -> int:
 
 
 def _report_extract(content: bytes, title: str, asked: argparse.Namespace) -> None:
+    """Writes the page of an extract, with `--by` one of all its instruments, and one of each that
+    isn't lawful.
+    """
     from callauction.verdict import page
 
     facts, path = verdict_output.facts_of([content], asked), pathlib.Path(asked.output)
@@ -284,12 +291,14 @@ def _values(file: str | None) -> dict[int, float] | None:
 
 
 def _watch(unit: str) -> "Progress":
+    """What shows how far a command is, in these units."""
     bar: Any = functools.partial(watched, unit=f" {unit}")  # mypy: a partial isn't generic
     found: Progress = bar
     return found
 
 
 def _plot(asked: argparse.Namespace) -> int:
+    """Writes the picture that is asked for: of the day's course, of an allocation, or of a book."""
     from matplotlib.figure import Figure
 
     from callauction import plot
@@ -320,6 +329,7 @@ def _journal(asked: argparse.Namespace) -> "Journal":
 
 
 def _convert(asked: argparse.Namespace) -> int:
+    """Writes the journal of order events, and with `--orders` their ids: the status."""
     made = _journal(asked)
     made.save(asked.output)
     if asked.orders:
@@ -328,6 +338,7 @@ def _convert(asked: argparse.Namespace) -> int:
 
 
 def _audit_auction(asked: argparse.Namespace) -> int:
+    """Prints the verdict on auctions, of their books and of what was published: the status."""
     files = [asked.file] + [asked.published] * (asked.published is not None)
     contents = {pathlib.Path(file).name: _content(file) for file in files}
     if len(contents) < len(files):
@@ -336,6 +347,7 @@ def _audit_auction(asked: argparse.Namespace) -> int:
 
 
 def _audit(asked: argparse.Namespace) -> int:
+    """Prints the verdict on a journal or an extract: the status."""
     return command.audit(_content(asked.file), asked, _watch("parts"))
 
 

@@ -106,7 +106,9 @@ def _money(name: str, value: object) -> Decimal:
 
 
 def _of_grid(name: str, value: object) -> Decimal:
-    """The same. Raises ValueError where it has more than nine decimals, too."""
+    """A tick size or a base: a decimal below 1,000,000,000 with at most nine decimals. Raises
+    ValueError where it is none.
+    """
     found = _money(name, value)
     if found % _LEAST:
         raise ValueError(f"{name} {value} has more than nine decimals")
