@@ -168,7 +168,7 @@ def main() -> None:
     begun = asked.folder.with_name(f"{asked.folder.name}.new")
     shutil.rmtree(begun, ignore_errors=True)
     begun.mkdir(parents=True)
-    write_market(begun, asked, asked.program or finder.program())
+    write_market(begun, asked, asked.program or finder.program_path())
     shutil.rmtree(asked.folder, ignore_errors=True)
     os.replace(begun, asked.folder)
 

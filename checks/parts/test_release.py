@@ -637,7 +637,8 @@ def test_the_wheel_is_whole_and_passes_the_packages_tests(
     assert lines
     printed = done(python, "-c", textwrap.dedent(lines[1]), cwd=tmp_path)
     assert printed.startswith("Price(tick=200, volume=300, ")
-    found = done(python, "-c", "import callauction.finder as it; print(it.program())", cwd=tmp_path)
+    path = "import callauction.finder as it; print(it.program_path())"
+    found = done(python, "-c", path, cwd=tmp_path)
     assert str(venv) in found and done(found.strip(), input=ORDERS) == ANSWERS
     words = [python, "-P", "-m", "pytest", "-q", "-x", "-c", TOP / "python/pyproject.toml"]
     words += [TOP / "python/tests", "-k", "not notebook and not lesson"]

@@ -11,7 +11,7 @@ BUILT = pathlib.Path(__file__).resolve().parents[2] / "crates/callboard/out/call
 """Where it is built, in the repository that has this package's sources."""
 
 
-def program() -> str:
+def program_path() -> str:
     """The path of the program: what the variable CALLBOARD names, or else the one that came with
     this package in a wheel, or `callboard` on the path, or the one that was built in the repository
     that has this package.
@@ -32,8 +32,9 @@ def program() -> str:
     return os.path.abspath(found)
 
 
-def digest(path: str | None = None) -> str:
+def program_digest(path: str | None = None) -> str:
     """The SHA-256 of the program with this path, or of the one that is found here, in hexadecimal
     digits. Raises OSError.
     """
-    return hashlib.sha256(pathlib.Path(path or program()).read_bytes()).hexdigest()
+    with open(path or program_path(), "rb") as file:
+        return hashlib.file_digest(file, "sha256").hexdigest()

@@ -57,7 +57,7 @@ class FailedError(ProgramError):
 def found_program() -> str:
     """The path of the program (callauction.finder). Raises FailedError where there is none."""
     try:
-        return finder.program()
+        return finder.program_path()
     except FileNotFoundError as fault:
         raise FailedError(str(fault)) from None
 

@@ -97,7 +97,7 @@ def test_without_a_library_a_command_line_says_what_to_run_in_one_line(tmp_path:
     folder = Path(__file__).resolve().parents[1]
     orders = folder.parent / "examples/opening.csv"
     words = [sys.executable, "-P", "-m", "callauction", "plot", str(orders), "--course", "-o"]
-    environment = {"PYTHONPATH": str(folder), "CALLBOARD": str(finder.program())}
+    environment = {"PYTHONPATH": str(folder), "CALLBOARD": str(finder.program_path())}
     ran = subprocess.run(
         [*words, str(tmp_path / "course.svg")], capture_output=True, text=True, env=environment
     )

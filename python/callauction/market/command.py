@@ -139,7 +139,7 @@ def request_of(asked: argparse.Namespace) -> Request:
         forms, into = tuple(dict.fromkeys(asked.forms)), asked.into and os.path.abspath(asked.into)
     if into:
         os.makedirs(into, exist_ok=True)
-    path = None if asked.scheduler else finder.program()
+    path = None if asked.scheduler else finder.program_path()
     memory = asked.memory and asked.memory * MIB
     return Request(forms, path, memory, asked.seconds, into, bool(asked.output))
 

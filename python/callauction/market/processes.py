@@ -170,7 +170,7 @@ class Processes:
     def digest(self, path: str | None) -> str:
         """The digest of the program. Raises MarketError where there is none."""
         try:
-            return finder.digest(path)
+            return finder.program_digest(path)
         except FileNotFoundError as fault:
             raise MarketError(f"there is no program: {fault}") from fault
 

@@ -87,7 +87,7 @@ def run(
     keep, path = (None if name is None else os.path.abspath(name) for name in (into, program))
     crew = _crew_of(client, workers)
     if client is None:
-        path = path or finder.program()
+        path = path or finder.program_path()
     crew.digest(path)
     request = Request(forms, path, memory, seconds, keep)
     for some in crew.results(list(files.values()), request):

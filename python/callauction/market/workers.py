@@ -84,7 +84,7 @@ def examine(paths: list[str], request: Request) -> list[Found]:
     """What the program says of these files, in their order. Raises FileNotFoundError where this
     machine has none.
     """
-    request = request._replace(program=request.program or finder.program())
+    request = request._replace(program=request.program or finder.program_path())
     worker = name_of_worker()
     found = {each[0]: found_of(each, worker) for each in examine_each(paths, request)}
     return [found[path] for path in paths]
@@ -98,7 +98,7 @@ class Cluster:
 
     def digest(self, path: str | None) -> str:
         """The digest of the program, which all workers have. Raises MarketError."""
-        digests = self.client.run(finder.digest, path, on_error="return")
+        digests = self.client.run(finder.program_digest, path, on_error="return")
         for worker, answer in sorted(digests.items()):
             if isinstance(answer, Exception):
                 raise MarketError(f"the worker {worker} has no program: {answer}")

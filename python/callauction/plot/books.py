@@ -74,9 +74,7 @@ def book(
     found = book_at(table, command)
     axes = ax if ax is not None else new_axes()
     levels = found[found["limit"].notna()][::-1]
-    far = _far(levels, reference)
-    ends = _ends(levels, None if far else reference)
-    axes.set_ylim(*ends)
+    far, ends = _set_ends(axes, levels, reference)
     _draw_curves(axes, found[found["limit"].isna()].iloc[0], levels, ends)
     _draw_volume(axes, levels)
     _draw_best(axes, levels, name)
@@ -101,6 +99,16 @@ def _books_of(
         return auction, reference
     books = auction.books()
     return books, auction.reference(command) if reference is None else reference
+
+
+def _set_ends(
+    axes: Axes, levels: pandas.DataFrame, reference: int | None
+) -> tuple[str, tuple[float, float]]:
+    """Sets the ends of the picture; where the reference is beyond them (_far), and these ends."""
+    far = _far(levels, reference)
+    ends = _ends(levels, None if far else reference)
+    axes.set_ylim(*ends)
+    return far, ends
 
 
 def _far(levels: pandas.DataFrame, reference: int | None) -> str:

@@ -186,7 +186,7 @@ def main() -> int:
     )
     try:
         address.check()
-        program = finder.program()
+        program = finder.program_path()
         run_asked(asked, address, program)
         return DONE
     except remedies.START_FAULTS as fault:

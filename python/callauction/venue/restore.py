@@ -23,7 +23,7 @@ def main() -> int:
     parser.add_argument("folder", type=pathlib.Path, metavar="FOLDER", help="a new folder")
     asked = parser.parse_args()
     try:
-        print(copies.summary(copies.restore(asked.copy, asked.folder, finder.program())))
+        print(copies.summary(copies.restore(asked.copy, asked.folder, finder.program_path())))
         return DONE
     except copies.COPY_FAULTS as fault:
         return copies.say_copy_fault("restore", fault)

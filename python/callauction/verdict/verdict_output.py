@@ -138,7 +138,7 @@ def facts_of(contents: Iterable[bytes], asked: argparse.Namespace) -> dict[str, 
     """What a verdict on files is of and by (FACTS). Raises ShapeError, OSError, and ProgramError
     where there is no program.
     """
-    digest = finder.digest(found_program())
+    digest = finder.program_digest(found_program())
     now = datetime.datetime.now(datetime.UTC).isoformat(timespec="seconds")
     every = [*contents, *(path.read_bytes() for path in _files_of(vars(asked)))]
     files = " ".join(hashlib.sha256(content).hexdigest() for content in every)
