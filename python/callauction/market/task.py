@@ -224,10 +224,8 @@ def stamp(file: IO[bytes]) -> tuple[int, int, int]:
 def digest_of(file: IO[bytes]) -> str:
     """The SHA-256 of an open file, from its beginning on, in hexadecimal digits. Raises OSError."""
     file.seek(0)
-    found = hashlib.sha256()
-    while block := file.read(MIB):
-        found.update(block)
-    return found.hexdigest()
+    with open(file.fileno(), "rb", closefd=False) as reader:
+        return hashlib.file_digest(reader, "sha256").hexdigest()
 
 
 FileResult = tuple[str, RowColumns, int | None, str]
