@@ -9,7 +9,7 @@ import time
 from collections.abc import Iterator
 
 import pytest
-from callauction.market.child import Child, StillRuns
+from callauction.market.child import Child, StillRunsError
 
 MIB = 1 << 20
 LIMITS = """
@@ -82,7 +82,7 @@ def test_a_signal_ends_it(number: signal.Signals, tmp_path: pathlib.Path) -> Non
 def test_one_that_only_ends_its_output_is_not_waited_for(tmp_path: pathlib.Path) -> None:
     with shell("exec >&-; sleep 60", tmp_path / "errors") as child:
         assert printed(child) == b""
-        with pytest.raises(StillRuns):
+        with pytest.raises(StillRunsError):
             child.wait(time.monotonic() + 0.1)
         process = child.process
     with pytest.raises(ProcessLookupError):
@@ -97,7 +97,7 @@ def test_its_end_is_found_where_the_kernel_does_not_tell(
 
     monkeypatch.setattr(os, "pidfd_open", refused)
     with shell("sleep 0.2; exit 3", tmp_path / "errors") as child:
-        with pytest.raises(StillRuns):
+        with pytest.raises(StillRunsError):
             child.wait(time.monotonic() + 0.01)
         assert child.wait(soon()) == 3
 

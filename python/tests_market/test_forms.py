@@ -109,7 +109,7 @@ def test_results_are_read_whatever_comes_together(size: int) -> None:
     ],
 )
 def test_results_of_another_form_are_refused(text: bytes) -> None:
-    with pytest.raises(forms.OutputFault):
+    with pytest.raises(forms.OutputError):
         forms.read_results(blocks(text, 64))
 
 
@@ -126,13 +126,13 @@ def test_a_day_without_entries_is_read() -> None:
 
 @pytest.mark.parametrize("cut", [0, 10, len(AUDIT) - 30, len(AUDIT) - 1])
 def test_a_cut_audit_is_refused(cut: int) -> None:
-    with pytest.raises(forms.OutputFault):
+    with pytest.raises(forms.OutputError):
         forms.read_audit(blocks(AUDIT[:cut], 64))
 
 
 @pytest.mark.parametrize("text", [b"1: opening price 5\n", b"hello\n", b"1: entered 1\n2"])
 def test_lines_of_another_form_are_refused(text: bytes) -> None:
-    with pytest.raises(forms.OutputFault):
+    with pytest.raises(forms.OutputError):
         forms.read_lines(blocks(text, 64))
-    with pytest.raises(forms.OutputFault):
+    with pytest.raises(forms.OutputError):
         forms.read_trades(blocks(b"", 64))

@@ -20,7 +20,7 @@ def environment() -> dict[bytes, bytes]:
     return dict(os.environb)
 
 
-class StillRuns(Exception):
+class StillRunsError(Exception):
     """The time is over, and the child hasn't ended."""
 
 
@@ -55,15 +55,15 @@ class Child:
             resource.prlimit(self.process, what, (most, most))
 
     def wait(self, deadline: float) -> int:
-        """The status with which it ends, below 0 for a signal. Raises StillRuns where it hasn't
-        ended at this moment of time.monotonic.
+        """The status with which it ends, below 0 for a signal. Raises StillRunsError where it
+        hasn't ended at this moment of time.monotonic.
         """
         while self.status is None:
             ended, status = os.waitpid(self.process, os.WNOHANG)
             if ended:
                 self.status = os.waitstatus_to_exitcode(status)
             elif time.monotonic() >= deadline:
-                raise StillRuns
+                raise StillRunsError
             else:
                 self.watch(deadline)
         return self.status

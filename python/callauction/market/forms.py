@@ -51,7 +51,7 @@ class Readable(Protocol):
         """At most `size` bytes, none at the end."""
 
 
-class OutputFault(Exception):
+class OutputError(Exception):
     """What was printed isn't of the form that was asked for."""
 
 
@@ -85,7 +85,7 @@ def line_at(block: bytes, place: int) -> bytes:
 
 
 def read_audit(blocks: Blocks) -> RowColumns:
-    """The counts, and the number of the first entry that differs. Raises OutputFault."""
+    """The counts, and the number of the first entry that differs. Raises OutputError."""
     first, last = ends_of(blocks, AUDIT_END)
     found = AUDIT_TEXT.search(last)
     return read_counts(found[1] if found else b"") | read_first(first)
@@ -101,10 +101,10 @@ def ends_of(blocks: Blocks, count: int) -> tuple[bytes, bytes]:
 
 
 def read_counts(text: bytes) -> RowColumns:
-    """The counts of an audit. Raises OutputFault."""
+    """The counts of an audit. Raises OutputError."""
     counts = COUNTS.fullmatch(text)
     if not counts:
-        raise OutputFault("the program printed no audit")
+        raise OutputError("the program printed no audit")
     return dict(zip(("entries", "compared", "unlawful"), map(int, counts.groups())))
 
 
@@ -116,12 +116,12 @@ def read_first(block: bytes) -> RowColumns:
 
 def read_results(blocks: Blocks) -> RowColumns:
     """What an audit says, what the auctions that ended gave, and which auction the day is in, if
-    the journal isn't a broken copy. Raises OutputFault.
+    the journal isn't a broken copy. Raises OutputError.
     """
     first, last = ends_of(blocks, RESULTS_END)
     found = RESULTS_TEXT.search(last)
     if not found:
-        raise OutputFault("the program printed no audit with results")
+        raise OutputError("the program printed no audit with results")
     columns = read_counts(found[1]) | read_first(first) | {"auctions": 0, "trades": 0}
     for line in found[2].splitlines(keepends=True):
         if not INTERRUPTED.match(line):
@@ -131,13 +131,13 @@ def read_results(blocks: Blocks) -> RowColumns:
             columns |= uncross
     day = (found[3] or found[4]).decode()
     if day != (*AUCTIONS, OVER)[columns["auctions"]]:
-        raise OutputFault("the program printed another day than its results")
+        raise OutputError("the program printed another day than its results")
     return columns | {"day": None if found[5] else day}
 
 
 def read_lines(blocks: Blocks) -> RowColumns:
     """How many entries there are, what the auctions that ended gave, and which auction the day is
-    in. Raises OutputFault.
+    in. Raises OutputError.
     """
     columns: RowColumns = {"auctions": 0, "trades": 0}
     last = b""
@@ -155,10 +155,10 @@ def read_lines(blocks: Blocks) -> RowColumns:
 
 
 def read_uncross(line: bytes) -> RowColumns:
-    """What the line of an uncross that ended an auction says. Raises OutputFault."""
+    """What the line of an uncross that ended an auction says. Raises OutputError."""
     found = UNCROSS.fullmatch(line)
     if not found:
-        raise OutputFault("the program printed no line of an uncross")
+        raise OutputError("the program printed no line of an uncross")
     if not found["price"]:
         return {"trades": 0}
     auction = found["auction"].decode()
@@ -168,18 +168,18 @@ def read_uncross(line: bytes) -> RowColumns:
 
 
 def read_number(block: bytes) -> int:
-    """The number that the last line of a block begins with. Raises OutputFault."""
+    """The number that the last line of a block begins with. Raises OutputError."""
     found = NUMBERED.match(line_at(block, len(block) - 1))
     if not found:
-        raise OutputFault("the program printed no numbered lines")
+        raise OutputError("the program printed no numbered lines")
     return int(found[1])
 
 
 def read_trades(blocks: Blocks) -> RowColumns:
-    """How many trades there are: the records after the header. Raises OutputFault."""
+    """How many trades there are: the records after the header. Raises OutputError."""
     records = sum(block.count(b"\n") for block in blocks)
     if records == 0:
-        raise OutputFault("the program printed no table")
+        raise OutputError("the program printed no table")
     return {"trades": records - 1}
 
 

@@ -8,7 +8,7 @@ from collections.abc import Iterable, Iterator, Sequence
 
 from callauction.market.files import OWN, created, is_own
 from callauction.market.rows import COLUMNS, Found, Row, cells, read_cell, record_of
-from callauction.market.task import ProgramFault, Request, digest_of, opened
+from callauction.market.task import ProgramFaultError, Request, digest_of, opened
 
 VERSION = "2"
 """Of the log's form."""
@@ -134,5 +134,5 @@ def is_current(path: str, found: Found) -> bool:
     try:
         with opened(path) as file:
             return os.fstat(file.fileno()).st_size == found.size and digest_of(file) == found.digest
-    except (OSError, ProgramFault):
+    except (OSError, ProgramFaultError):
         return False

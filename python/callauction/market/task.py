@@ -13,13 +13,13 @@ import time
 from collections.abc import Generator, Iterable, Iterator
 from typing import IO, NamedTuple
 
-from callauction.market.child import Child, StillRuns
+from callauction.market.child import Child, StillRunsError
 from callauction.market.forms import (
     FORMS,
     OUTPUT_BLOCK,
     Blocks,
     Form,
-    OutputFault,
+    OutputError,
     RowColumns,
     blocks_of,
     read_nothing,
@@ -77,7 +77,7 @@ class Step(enum.Enum):
     """It says what it found, or gets ready to start the program again."""
 
 
-class ProgramFault(Exception):
+class ProgramFaultError(Exception):
     """The program refused a file, or couldn't be run to its end: the text of a row's fault."""
 
 
@@ -86,13 +86,13 @@ def started(
     form: Form, request: Request, file: IO[bytes], errors: IO[bytes]
 ) -> Iterator[Child]:
     """The program in this form on an open file, within the request's memory. It is killed where the
-    block is left before it ends. Raises ProgramFault where it can't be started.
+    block is left before it ends. Raises ProgramFaultError where it can't be started.
     """
     assert request.program is not None
     try:
         child = Child([request.program, *form.words], file, errors)
     except OSError as fault:
-        raise ProgramFault(f"the program can't be started: {fault.strerror}") from fault
+        raise ProgramFaultError(f"the program can't be started: {fault.strerror}") from fault
     with contextlib.closing(child):
         if request.memory is not None:
             child.limit(request.memory)
@@ -108,22 +108,22 @@ class Output:
         self.poll = select.poll()
         self.poll.register(child.out, select.POLLIN)
 
-    def fault(self) -> ProgramFault:
+    def fault(self) -> ProgramFaultError:
         """That the time is over."""
-        return ProgramFault(f"not done in {self.seconds} seconds")
+        return ProgramFaultError(f"not done in {self.seconds} seconds")
 
     def read(self, size: int, /) -> bytes:
-        """Some bytes of what is printed, none at its end. Raises ProgramFault."""
+        """Some bytes of what is printed, none at its end. Raises ProgramFaultError."""
         left = self.deadline - time.monotonic()
         if left <= 0 or not self.poll.poll(1_000 * left):
             raise self.fault()
         return os.read(self.child.out, size)
 
     def wait(self) -> int:
-        """The status with which the program ends. Raises ProgramFault."""
+        """The status with which the program ends. Raises ProgramFaultError."""
         try:
             return self.child.wait(self.deadline)
-        except StillRuns:
+        except StillRunsError:
             raise self.fault() from None
 
 
@@ -141,14 +141,14 @@ def fault_of(status: int, errors: bytes, request: Request) -> str:
 
 def read_run(
     output: Output, form: Form, keep: IO[bytes] | None
-) -> tuple[RowColumns | OutputFault, int]:
+) -> tuple[RowColumns | OutputError, int]:
     """What a run's output says, or how it is wrong, and the run's status. Raises OSError where it
-    can't be kept, ProgramFault where it takes too long.
+    can't be kept, ProgramFaultError where it takes too long.
     """
     blocks = blocks_of(output)
     try:
-        found: RowColumns | OutputFault = form.read(written(blocks, keep) if keep else blocks)
-    except OutputFault as fault:
+        found: RowColumns | OutputError = form.read(written(blocks, keep) if keep else blocks)
+    except OutputError as fault:
         found = fault
         read_nothing(blocks)  # so that it ends with its own status
     return found, output.wait()
@@ -165,7 +165,7 @@ def run_form(
     form: Form, file: IO[bytes], keep: IO[bytes] | None, request: Request
 ) -> Generator[Step, None, tuple[RowColumns, float]]:
     """Runs the program on an open file, step by step: what its output says, and the seconds that it
-    ran. Raises ProgramFault, OutputFault, and OSError where its output can't be kept.
+    ran. Raises ProgramFaultError, OutputError, and OSError where its output can't be kept.
     """
     file.seek(0)
     with open(os.memfd_create("errors"), "w+b", 0) as errors:
@@ -179,8 +179,8 @@ def run_form(
         yield Step.FINISH
         if status not in GOOD:
             errors.seek(0)
-            raise ProgramFault(fault_of(status, errors.read(OUTPUT_BLOCK), request))
-    if isinstance(found, OutputFault):
+            raise ProgramFaultError(fault_of(status, errors.read(OUTPUT_BLOCK), request))
+    if isinstance(found, OutputError):
         raise found
     return found, seconds
 
@@ -204,13 +204,13 @@ def keeper(path: str, form: Form, request: Request) -> Iterator[IO[bytes] | None
 
 def opened(path: str) -> IO[bytes]:
     """A regular file for reading; a pipe or a device isn't waited for. Raises OSError, and
-    ProgramFault for what is no regular file.
+    ProgramFaultError for what is no regular file.
     """
     file = os.fdopen(os.open(path, os.O_RDONLY | os.O_NONBLOCK | os.O_CLOEXEC), "rb", 0)
     if stat.S_ISREG(os.fstat(file.fileno()).st_mode):
         return file
     file.close()
-    raise ProgramFault("not a regular file")
+    raise ProgramFaultError("not a regular file")
 
 
 def stamp(file: IO[bytes]) -> tuple[int, int, int]:
@@ -237,7 +237,7 @@ Examination = Generator[Step, None, FileResult]
 
 
 def examine_file(path: str, request: Request) -> Examination:
-    """What the program says of a file. Raises OSError, OutputFault, ProgramFault."""
+    """What the program says of a file. Raises OSError, OutputError, ProgramFaultError."""
     with opened(path) as file:
         before = stamp(file)
         size = before[0]
@@ -250,11 +250,11 @@ def examine_file(path: str, request: Request) -> Examination:
             with keeper(path, form, request) as keep:
                 found, ran = yield from run_form(form, file, keep, limited)
             if any(columns.get(column, value) != value for column, value in found.items()):
-                raise OutputFault("the program's forms don't agree")
+                raise OutputError("the program's forms don't agree")
             columns |= found
             seconds += ran
         if stamp(file) != before:
-            raise ProgramFault("the file was changed meanwhile")
+            raise ProgramFaultError("the file was changed meanwhile")
     return path, columns | {"seconds": seconds}, size, digest
 
 
@@ -262,7 +262,7 @@ def examined(path: str, request: Request) -> Examination:
     """What the program says of a file; of a bad one its fault."""
     try:
         return (yield from examine_file(path, request))
-    except (ProgramFault, OutputFault) as fault:
+    except (ProgramFaultError, OutputError) as fault:
         text = str(fault)
     except OSError as fault:
         text = fault.strerror or str(fault)
