@@ -35,7 +35,7 @@ sys.exit(sys.version_info < {VERSION})
 """Prints which of the modules and headers named a Python lacks."""
 
 
-class Missing(Exception):
+class MissingModulesError(Exception):
     """What is lacking, and which package of Debian has it."""
 
 
@@ -73,13 +73,13 @@ def missing(names: tuple[str, ...]) -> list[str]:
 
 
 def python_with(names: tuple[str, ...]) -> str:
-    """The path of a Python with these modules and headers. Raises Missing, which names the first
-    that is lacking.
+    """The path of a Python with these modules and headers. Raises MissingModulesError, which
+    names the first that is lacking.
     """
     for python in pythons():
         if lacking(python, names) == []:
             return python
-    raise Missing(missing(names)[0])
+    raise MissingModulesError(missing(names)[0])
 
 
 def run_with(script: str, *names: str) -> None:
@@ -90,7 +90,7 @@ def run_with(script: str, *names: str) -> None:
         return
     try:
         python = python_with(names)
-    except Missing as fault:
+    except MissingModulesError as fault:
         raise SystemExit(f"{script}: {fault}") from None
     os.execv(python, [python, *sys.argv])
 
@@ -98,5 +98,5 @@ def run_with(script: str, *names: str) -> None:
 if __name__ == "__main__":
     try:
         print(python_with(tuple(sys.argv[2:])))
-    except Missing as gap:
+    except MissingModulesError as gap:
         sys.exit(f"{sys.argv[1]}: {gap}")

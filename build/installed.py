@@ -12,7 +12,7 @@ LIST = "share/callauction/installed"
 FOLDER = "folder"
 
 
-class Refused(Exception):
+class PrefixError(Exception):
     """What is in the way of installing or removing, a line each."""
 
 
@@ -32,18 +32,18 @@ class Installed:
     """What is installed below a prefix: the mark of each place, and the folders that were made."""
 
     def __init__(self, prefix: pathlib.Path) -> None:
-        """Reads the list, if there is one. Raises OSError, Refused."""
+        """Reads the list, if there is one. Raises OSError, PrefixError."""
         self.prefix = prefix
         self.marks: dict[str, str] = {}
         self.folders: list[str] = []
         path = prefix / LIST
         if os.path.lexists(path) and (path.is_symlink() or not path.is_file()):
-            raise Refused(f"{path} is no list of ./install")
+            raise PrefixError(f"{path} is no list of ./install")
         lines = path.read_text(encoding="utf-8").splitlines() if path.exists() else []
         for line in lines:
             mark, _, place = line.partition("\t")
             if not place or place.startswith("/") or ".." in place.split("/"):
-                raise Refused(f"{path} is no list of ./install")
+                raise PrefixError(f"{path} is no list of ./install")
             if mark == FOLDER:
                 self.folders.append(place)
             else:
@@ -108,12 +108,12 @@ class Installed:
     def install(self, items: list[Item]) -> list[str]:
         """Installs items in place of what was installed before: the places of that which are no
         item's, and were taken away. Nothing is written where something is in the way. Raises
-        Refused, OSError.
+        PrefixError, OSError.
         """
         places = [item.place for item in items]
         old = [place for place in self.marks if place not in places]
         if found := self.hindrances([*places, *old]):
-            raise Refused("\n".join(found))
+            raise PrefixError("\n".join(found))
         for place in (LIST, *places):
             self.make_folders(place)
         for item in items:
@@ -137,10 +137,10 @@ class Installed:
 
     def remove(self) -> list[str]:
         """Takes away what was installed, and the folders that were made for it and have nothing
-        else in them: what stays, as it was changed since, a line each. Raises Refused, OSError.
+        else in them: what stays, as it was changed since, a line each. Raises PrefixError, OSError.
         """
         if not self.marks:
-            raise Refused(f"{self.prefix} has nothing from ./install")
+            raise PrefixError(f"{self.prefix} has nothing from ./install")
         kept = []
         for place in [*self.marks]:
             found = self.hindrances([place])

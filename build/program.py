@@ -46,11 +46,11 @@ TURN = 0.2  # seconds between two looks at what runs
 SECONDS_BETWEEN_LOOKS = 5.0  # at a folder that is in use
 
 
-class CannotBuild(Exception):
+class CannotBuildError(Exception):
     """Why a build can't begin."""
 
 
-class CrateFailed(Exception):
+class CrateFailedError(Exception):
     """Which crate failed, and where its log is."""
 
 
@@ -84,11 +84,11 @@ def write_seconds(file: pathlib.Path, of: dict[str, Took], head: str = "") -> No
 
 
 def keep_seconds() -> None:
-    """Makes the list for new clones, of what is known here. Raises OSError, CannotBuild."""
+    """Makes the list for new clones, of what is known here. Raises OSError, CannotBuildError."""
     here = seconds_in(SECONDS)
     known = {name: here[name] for name in crate_lines(TOP) if name in here}
     if not known:
-        raise CannotBuild(f"no run has written {SECONDS} yet")
+        raise CannotBuildError(f"no run has written {SECONDS} yet")
     head = f"# By build/program.py --keep-seconds, of a run on {plural(cores(), 'core')}:\n"
     head += "# each crate, its seconds beside others, and the processor's.\n"
     write_seconds(KEPT_SECONDS, known, head)
@@ -307,7 +307,7 @@ class Build:
                 time.sleep(SECONDS_BETWEEN_LOOKS)
 
     def take_in(self) -> None:
-        """Takes in the crates that have ended. Raises CrateFailed and OSError."""
+        """Takes in the crates that have ended. Raises CrateFailedError and OSError."""
         for name, it in [*self.running.items()]:
             ended = it.ended()
             if ended is None:
@@ -315,7 +315,7 @@ class Build:
             del self.running[name]
             it.end()
             if ended[0] != 0:
-                raise CrateFailed(f"{name} isn't proved: see {LOGS / name}.log")
+                raise CrateFailedError(f"{name} isn't proved: see {LOGS / name}.log")
             self.done.add(name)
             self.learn(name, Took(time.monotonic() - it.begin, ended[1]))
             self.progress.crate_done(name, len(self.done), time.monotonic() - it.begin)
@@ -338,7 +338,7 @@ class Build:
 
     def run(self) -> None:
         """Proves and builds all. A program then counts as made when the build began, also where
-        nothing of it had changed. Raises CrateFailed, OSError.
+        nothing of it had changed. Raises CrateFailedError, OSError.
         """
         begin = time.time()
         try:
@@ -363,15 +363,15 @@ def interrupt(number: int, frame: object) -> None:
 
 
 def build(names: list[str]) -> None:
-    """Proves and builds these crates, and whatever is below. Raises CannotBuild, CrateFailed,
-    OSError, KeyboardInterrupt.
+    """Proves and builds these crates, and whatever is below. Raises CannotBuildError,
+    CrateFailedError, OSError, KeyboardInterrupt.
     """
     if shutil.which("rt") is None:
-        raise CannotBuild("there is no rt: put the toolchain on the path")
+        raise CannotBuildError("there is no rt: put the toolchain on the path")
     lines = crate_lines(TOP)
     for name in names:
         if name not in lines:
-            raise CannotBuild(f"crates.txt has no crate {name}")
+            raise CannotBuildError(f"crates.txt has no crate {name}")
     ROOMS.mkdir(parents=True, exist_ok=True)
     NO_CRATES_HERE.touch()
     try:
@@ -400,10 +400,10 @@ def main() -> int:
             signal.signal(it, interrupt)
     try:
         keep_seconds() if asked.keep_seconds else build(asked.crates or [PROGRAM])
-    except CrateFailed as fault:
+    except CrateFailedError as fault:
         print(f"callboard: {fault}", file=sys.stderr)
         return 1
-    except CannotBuild as fault:
+    except CannotBuildError as fault:
         print(f"callboard: {fault}", file=sys.stderr)
         return 2
     except OSError as fault:

@@ -34,7 +34,7 @@ of what the run itself is a part of.
 """
 
 
-class Fault(Exception):
+class TaskError(Exception):
     """Why a task can't run, or a product isn't there."""
 
 
@@ -45,7 +45,7 @@ KEPT = re.compile(r"^(rt: \S+) is kept: .*$")
 @dataclasses.dataclass(frozen=True)
 class Product:
     """What a task makes: its name, the lines that the task prints before it is there (where there
-    is none, it is there once the task has ended well), and what takes it, which raises Fault.
+    is none, it is there once the task has ended well), and what takes it, which raises TaskError.
     """
 
     name: str
@@ -57,9 +57,9 @@ class Product:
 
 @dataclasses.dataclass(frozen=True)
 class Task:
-    """A command, asked for when it is begun (raises Fault, OSError), the products that it needs and
-    those that it gives, whether it runs alone, whether it proves, and for how many seconds it may
-    run: then it is ended.
+    """A command, asked for when it is begun (raises TaskError, OSError), the products that it needs
+    and those that it gives, whether it runs alone, whether it proves, and for how many seconds it
+    may run: then it is ended.
     """
 
     name: str
@@ -111,7 +111,7 @@ def marked(mark: str) -> Iterator[int]:
 
 
 class Running:
-    """A task that runs. Raises OSError, Fault where it can't be begun."""
+    """A task that runs. Raises OSError, TaskError where it can't be begun."""
 
     def __init__(
         self, task: Task, log: pathlib.Path, top: pathlib.Path, room: pathlib.Path
@@ -264,7 +264,7 @@ class Schedule:
         try:
             product.take()
             self.there.add(product.name)
-        except (Fault, OSError) as fault:
+        except (TaskError, OSError) as fault:
             self.lacking[product.name] = str(fault)
 
     def fill(self, top: pathlib.Path, logs: pathlib.Path, rooms: pathlib.Path) -> None:
@@ -281,7 +281,7 @@ class Schedule:
             try:
                 self.running.append(Running(task, log, top, rooms / task.name))
                 self.viewer.begun(task)
-            except (Fault, OSError) as fault:
+            except (TaskError, OSError) as fault:
                 self.end(Ended(task, None, str(fault), 0.0, log))
 
     def has_room(self, task: Task) -> bool:

@@ -14,7 +14,7 @@ from collections.abc import Iterator
 
 import built
 import gate
-from beside import Fault, Product, Task
+from beside import Product, Task, TaskError
 
 sys.path.insert(0, str(built.TOP / "build"))
 
@@ -131,11 +131,11 @@ class Builds:
                 before = frozenset({name})
 
     def made(self, name: str) -> None:
-        """Takes what was built. Raises Fault where it isn't there, OSError."""
+        """Takes what was built. Raises TaskError where it isn't there, OSError."""
         try:
             built.made(self.files[name], self.begin)
-        except built.NotBuilt as fault:
-            raise Fault(str(fault)) from None
+        except built.NotBuiltError as fault:
+            raise TaskError(str(fault)) from None
 
     def task(self, name: str, words: list[str], needs: frozenset[str]) -> Task:
         """The task that builds this so."""

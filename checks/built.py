@@ -14,7 +14,7 @@ LIBRARY = TOP / "out/library"
 ARCHIVE = LIBRARY / "libcallauction.a"
 
 
-class NotBuilt(Exception):
+class NotBuiltError(Exception):
     """There is no built program, or no built tests or library, for the reason in its text."""
 
 
@@ -46,16 +46,16 @@ def words_of(file: pathlib.Path) -> list[str]:
 
 def made(file: pathlib.Path, begin: float) -> None:
     """What was built since this time, of the sources as they were then: one that was changed
-    meanwhile is newer. Raises NotBuilt where the file isn't there.
+    meanwhile is newer. Raises NotBuiltError where the file isn't there.
     """
     if not file.is_file():
-        raise NotBuilt(f"{file.name} was not built")
+        raise NotBuiltError(f"{file.name} was not built")
     os.utime(file, (begin, begin))
 
 
 def ensure(file: pathlib.Path) -> str:
     """The path of PROGRAM, TESTS, CLOCK or ARCHIVE, which is proved and built here unless a build
-    newer than all sources is there. Raises NotBuilt where that fails.
+    newer than all sources is there. Raises NotBuiltError where that fails.
     """
     if not is_current(file):
         begin = time.time()
@@ -63,12 +63,12 @@ def ensure(file: pathlib.Path) -> str:
         ran = subprocess.run(words, stdin=subprocess.DEVNULL, capture_output=True, text=True)
         if ran.returncode != 0:
             last = " / ".join((ran.stdout + ran.stderr).strip().splitlines()[-3:])
-            raise NotBuilt(f"{words[-1]} built no {file.name}: {last}")
+            raise NotBuiltError(f"{words[-1]} built no {file.name}: {last}")
         made(file, begin)
     return str(file)
 
 
 def ensure_library() -> str:
-    """The folder of the built library, as ensure() has its archive. Raises NotBuilt."""
+    """The folder of the built library, as ensure() has its archive. Raises NotBuiltError."""
     ensure(ARCHIVE)
     return str(LIBRARY)

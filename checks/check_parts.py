@@ -266,22 +266,22 @@ def installed(parts: list[Part], package: Package, are_named: bool) -> Iterator[
 
 def chosen(names: list[str], is_installed: bool = False) -> list[Part]:
     """The parts with these names, all where there is none, in the order of the table; whether of
-    those on an installed package. Raises beside.Fault for another name.
+    those on an installed package. Raises beside.TaskError for another name.
     """
     on_package = [FILES, *(it for it in PARTS if it.name not in NOT_INSTALLED)]
     parts = on_package if is_installed else PARTS
     for name in names:
         if name not in [part.name for part in parts]:
             where = " on an installed package" if is_installed else ""
-            raise beside.Fault(f"there is no part {name!r}{where}; ./check --list has them")
+            raise beside.TaskError(f"there is no part {name!r}{where}; ./check --list has them")
     return [part for part in parts if not names or part.name in names]
 
 
-class Missing(Exception):
+class MissingToolsError(Exception):
     """The tools and the modules of Python that parts need and that aren't there, a line each."""
 
 
 def look_for_tools(parts: list[Part]) -> None:
-    """Raises Missing where a part needs what isn't there."""
+    """Raises MissingToolsError where a part needs what isn't there."""
     if lacking := missing_tools(parts) + missing_modules(parts):
-        raise Missing("\n".join(lacking))
+        raise MissingToolsError("\n".join(lacking))

@@ -8,7 +8,7 @@ from collections.abc import Iterator
 TOP = pathlib.Path(__file__).resolve().parent.parent
 
 
-class BadEdit(Exception):
+class BadEditError(Exception):
     """An edit can't be made, for the reason in its text."""
 
 
@@ -26,8 +26,8 @@ class Edit:
         return f"{self.crate}/{self.file.stem}"
 
     def pairs(self) -> Iterator[tuple[str, str, str]]:
-        """The path, the old and the new text of each pair. Raises BadEdit where a line isn't one
-        of an edit.
+        """The path, the old and the new text of each pair. Raises BadEditError where a line isn't
+        one of an edit.
         """
         path = old = ""
         for line in self.file.read_text(encoding="utf-8").splitlines():
@@ -41,24 +41,24 @@ class Edit:
                 yield path, old, text
                 old = ""
             elif line.strip():
-                raise BadEdit(f"the line '{line}' has no place in an edit")
+                raise BadEditError(f"the line '{line}' has no place in an edit")
         if old:
-            raise BadEdit("an old text without a new one")
+            raise BadEditError("an old text without a new one")
 
     def check_fit(self, top: pathlib.Path) -> None:
-        """Raises BadEdit unless there are pairs, and each old text is exactly once in its file."""
+        """Raises BadEditError unless there are pairs, and each old text is once in its file."""
         texts: dict[str, str] = {}
         for path, old, new in self.pairs():
             if path not in texts:
                 file = top / "crates" / self.crate / path
                 if not path.startswith(("src/", "specs/", "proofs/")) or not file.is_file():
-                    raise BadEdit(f"there is no file {path}")
+                    raise BadEditError(f"there is no file {path}")
                 texts[path] = file.read_text(encoding="utf-8")
             if texts[path].count(old) != 1:
-                raise BadEdit(f"{texts[path].count(old)} times and not once in {path}: {old}")
+                raise BadEditError(f"{texts[path].count(old)} times and not once in {path}: {old}")
             texts[path] = texts[path].replace(old, new)
         if not texts:
-            raise BadEdit("it has no pair of an old and a new text")
+            raise BadEditError("it has no pair of an old and a new text")
 
 
 def all_edits(top: pathlib.Path = TOP) -> list[Edit]:
@@ -106,7 +106,8 @@ def crates(top: pathlib.Path) -> list[str]:
 
 
 def rows(top: pathlib.Path = TOP) -> list[Row]:
-    """The lines of all files of meanings, crate by crate. Raises BadEdit where one is no row."""
+    """The lines of all files of meanings, crate by crate. Raises BadEditError where one is no row.
+    """
     found = []
     for crate in crates(top):
         file = top / "checks/wrong_bodies" / crate / "meanings.txt"
@@ -115,14 +116,14 @@ def rows(top: pathlib.Path = TOP) -> list[Row]:
             place = f"{file.relative_to(top)}:{number}"
             cells = line.split(" | ")
             if len(cells) != 3 or not all(cell.strip() for cell in cells):
-                raise BadEdit(f"{place}: this is no `EDIT, .. | MEANING | REFUSED BY`: {line}")
+                raise BadEditError(f"{place}: this is no `EDIT, .. | MEANING | REFUSED BY`: {line}")
             found.append(Row(crate, place, *cells))
     return found
 
 
 def listing(names: list[str], top: pathlib.Path = TOP) -> str:
     """What each body of these names means and what refuses it, crate by crate; all where no name
-    is given. Raises BadEdit.
+    is given. Raises BadEditError.
     """
     text = crate = ""
     for row in rows(top):
@@ -141,14 +142,14 @@ def misfits(top: pathlib.Path = TOP) -> Iterator[str]:
     for edit in edits:
         try:
             edit.check_fit(top)
-        except (BadEdit, OSError, UnicodeDecodeError) as fault:
+        except (BadEditError, OSError, UnicodeDecodeError) as fault:
             yield f"{edit.file.relative_to(top)}: {fault}"
         if names.count(edit.name) > 1:
             yield f"{edit.file.relative_to(top)}: another edit is named {edit.name} too"
     try:
         yield from wrong_rows(names, rows(top))
         yield from unknown_clauses(rows(top), top)
-    except (BadEdit, OSError) as fault:
+    except (BadEditError, OSError) as fault:
         yield str(fault)
 
 

@@ -22,7 +22,7 @@ import installed  # noqa: E402
 import installed_files  # noqa: E402
 import passes  # noqa: E402
 import version  # noqa: E402
-from beside import Fault, Task  # noqa: E402
+from beside import Task, TaskError  # noqa: E402
 from build_tasks import LIBRARY, PROGRAM  # noqa: E402
 
 PACKAGE = "PACKAGE"
@@ -62,16 +62,17 @@ class Package:
     """What is installed below a prefix."""
 
     def __init__(self, prefix: pathlib.Path, rooms: pathlib.Path) -> None:
-        """Looks at a prefix. Raises Fault where it has no program of this version."""
+        """Looks at a prefix. Raises TaskError where it has no program of this version."""
         self.prefix, self.rooms = prefix.resolve(), rooms
         found = {name: self.find(places) for name, places in PLACES.items()}
         self.files = {name: file for name, file in found.items() if file} | {PREFIX: self.prefix}
         if PROGRAM not in self.files:
-            raise Fault(f"{prefix} has no program {' or '.join(PLACES[PROGRAM][:2])}")
+            raise TaskError(f"{prefix} has no program {' or '.join(PLACES[PROGRAM][:2])}")
         words = [str(self.files[PROGRAM]), "--version"]
         said = subprocess.run(words, capture_output=True, text=True).stdout.strip()
         if said != f"callboard {version.version()}":
-            raise Fault(f"{prefix} has '{said}', and these are the tests of {version.version()}")
+            tested = version.version()
+            raise TaskError(f"{prefix} has '{said}', and these are the tests of {tested}")
 
     def find(self, places: list[str]) -> pathlib.Path | None:
         """The first of these places that is there."""
@@ -136,9 +137,9 @@ class Package:
         return f"{self.prefix / found[0]} is another one" if is_other else ""
 
     def path(self, name: str) -> str:
-        """The path that a command has for this. Raises Fault where it isn't there, OSError."""
+        """The path that a command has for this. Raises TaskError where it isn't there, OSError."""
         if name not in self.files:
-            raise Fault(f"{self.prefix} has no {NAMES[name]}")
+            raise TaskError(f"{self.prefix} has no {NAMES[name]}")
         if name == PACKAGE:
             return str(self.files[PACKAGE].parent)
         return str(self.library() if name == LIBRARY else self.files[name])
@@ -171,7 +172,7 @@ def main() -> int:
     try:
         package = Package(prefix, rooms=prefix)  # where nothing is made
         found = [package.fault_at(place, text) for place, text in package.wanted()]
-    except (Fault, OSError) as fault:
+    except (TaskError, OSError) as fault:
         print(f"{fault}\n0 passed, 1 failed")
         return 1
     faults = [fault for fault in found if fault]

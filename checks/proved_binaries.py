@@ -19,7 +19,7 @@ GATE = "ci"
 SONAME, ARCHIVE = "libcallauction.so.1", "libcallauction.a"
 
 
-class BadGate(Exception):
+class BadGateError(Exception):
     """There is no gate that holds of these binaries; the text says why."""
 
 
@@ -38,30 +38,30 @@ class Gate:
 
     @classmethod
     def read(cls, path: pathlib.Path) -> "Gate":
-        """What a run wrote. Raises BadGate where there is none."""
+        """What a run wrote. Raises BadGateError where there is none."""
         try:
             found = json.loads(path.read_text(encoding="utf-8"))
             texts = {name: str(found[name]) for name in ("commit", "tree", "result", "kit")}
             files = {str(name): str(it) for name, it in dict(found["files"]).items()}
             return cls(**texts, files=files, parts=tuple(found["parts"]))
         except FileNotFoundError:
-            raise BadGate("the gate was not run on this tree: ./check") from None
+            raise BadGateError("the gate was not run on this tree: ./check") from None
         except (OSError, ValueError, KeyError, TypeError):
-            raise BadGate(f"{path} isn't what ./check writes") from None
+            raise BadGateError(f"{path} isn't what ./check writes") from None
 
     def check(self, tree: str, files: Mapping[str, pathlib.Path], parts: Sequence[str]) -> None:
-        """Raises BadGate where it doesn't hold of this tree and these files, or not all parts ran,
-        or one failed; and OSError.
+        """Raises BadGateError where it doesn't hold of this tree and these files, or not all parts
+        ran, or one failed; and OSError.
         """
         if not self.result.endswith(" passed, 0 failed"):
-            raise BadGate(f"the gate failed: {self.result}")
+            raise BadGateError(f"the gate failed: {self.result}")
         if lacking := [name for name in parts if name not in self.parts]:
-            raise BadGate(f"the gate didn't run {', '.join(lacking)}: ./check")
+            raise BadGateError(f"the gate didn't run {', '.join(lacking)}: ./check")
         if self.tree != tree:
-            raise BadGate(f"the gate was run on another tree, of {self.commit}: ./check")
+            raise BadGateError(f"the gate was run on another tree, of {self.commit}: ./check")
         for name, path in files.items():
             if self.files.get(name) != sha256(path):
-                raise BadGate(f"{path} is not the {name} over which the gate was run")
+                raise BadGateError(f"{path} is not the {name} over which the gate was run")
 
 
 def sha256(path: pathlib.Path) -> str:

@@ -16,7 +16,7 @@ MOST_SECONDS = 5400.0
 
 
 def words_of(command: str, builds: Builds | Package) -> list[str]:
-    """The words of a part's command, with the paths of what is built. Raises beside.Fault where
+    """The words of a part's command, with the paths of what is built. Raises beside.TaskError where
     there is no pytest, or a package lacks a part.
     """
     found = []
@@ -24,8 +24,8 @@ def words_of(command: str, builds: Builds | Package) -> list[str]:
         if word == PYTEST:
             try:
                 found += [debian.python_with(("pytest",)), "-B", "-m", "pytest"]
-            except debian.Missing as lack:
-                raise beside.Fault(str(lack)) from None
+            except debian.MissingModulesError as lack:
+                raise beside.TaskError(str(lack)) from None
         else:
             head, equals, name = word.rpartition("=")
             found.append(head + equals + builds.path(name) if name in PRODUCTS else word)

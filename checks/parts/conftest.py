@@ -44,7 +44,7 @@ def pytest_terminal_summary(terminalreporter: TerminalReporter, config: pytest.C
 
 @pytest.fixture(scope="session")
 def program(pytestconfig: pytest.Config) -> str:
-    """The path of the built program. Raises built.NotBuilt."""
+    """The path of the built program. Raises built.NotBuiltError."""
     found = pytestconfig.option.program or built.ensure(built.PROGRAM)
     return str(pathlib.Path(found).resolve())
 

@@ -48,7 +48,7 @@ def tables_in(text: str) -> Tables:
 
 @pytest.fixture(scope="session", name="given")
 def words_of_what_is_built(pytestconfig: pytest.Config, program: str) -> list[str]:
-    """The words that name what is measured. Raises built.NotBuilt."""
+    """The words that name what is measured. Raises built.NotBuiltError."""
     option = pytestconfig.option
     clock = option.clock or built.ensure(built.CLOCK)
     library = option.library or built.ensure_library()

@@ -488,7 +488,7 @@ def test_who_needs_a_product_of_a_task_that_fails_does_not_begin(scheduled: Sche
 
 def test_who_needs_a_product_that_cannot_be_taken_does_not_begin(scheduled: Scheduled) -> None:
     def refuse() -> None:
-        raise beside.Fault("it is broken")
+        raise beside.TaskError("it is broken")
 
     product = Product("it", take=refuse)
     rows = scheduled(shell("maker", "true", gives=[product]), shell("user", "true", "it"))
@@ -632,7 +632,7 @@ def test_in_the_gate_all_comes_of_what_it_proves(
     for folder in ("usual", "kept"):
         assert (three / folder / "PROGRAM").read_text() == "proved from nothing"
     (three / "usual/ARCHIVE").unlink()
-    with pytest.raises(beside.Fault, match="ARCHIVE was not built"):
+    with pytest.raises(beside.TaskError, match="ARCHIVE was not built"):
         task.gives[0].take()
 
 
@@ -792,7 +792,7 @@ def test_seconds_of_crates_are_kept_as_they_are_proved(
     monkeypatch.setattr(building, "KEPT_SECONDS", kept)
     lines = {"low": "low:\n", "high": "high: low\n"}
     monkeypatch.setattr(building, "crate_lines", lambda top: lines)
-    with pytest.raises(building.CannotBuild):
+    with pytest.raises(building.CannotBuildError):
         building.keep_seconds()
     here.write_text("gone 5.0 6.0\nhigh 7.0 9.5\nlow 1.0 2.0\n")
     building.keep_seconds()
@@ -938,13 +938,13 @@ def test_what_a_package_has_is_found(
 
 
 def test_a_package_that_is_none_is_refused(tmp_path: pathlib.Path) -> None:
-    with pytest.raises(beside.Fault, match="has no program bin/callboard or callboard"):
+    with pytest.raises(beside.TaskError, match="has no program bin/callboard or callboard"):
         package.Package(tmp_path, tmp_path)
     old = package_in(tmp_path, "callboard", version_of="1.2.3")
-    with pytest.raises(beside.Fault, match="'callboard 1.2.3', and these are the tests of"):
+    with pytest.raises(beside.TaskError, match="'callboard 1.2.3', and these are the tests of"):
         package.Package(old, tmp_path)
     for name in ("layout", "ci", "release", "none"):
-        with pytest.raises(beside.Fault, match=f"no part '{name}' on an installed package"):
+        with pytest.raises(beside.TaskError, match=f"no part '{name}' on an installed package"):
             runner.chosen([name], True)
 
 
