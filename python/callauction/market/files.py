@@ -35,7 +35,7 @@ def created(folder: pathlib.Path, mode: int) -> tuple[pathlib.Path, IO[bytes]]:
 
 
 @contextlib.contextmanager
-def whole(path: pathlib.Path) -> Iterator[IO[bytes]]:
+def replacing(path: pathlib.Path) -> Iterator[IO[bytes]]:
     """A file that takes this path's place when it is written. Until then it has a fresh name, and
     after an error nothing of it is left. A link at the path is replaced, not followed. Raises
     OSError.

@@ -8,7 +8,7 @@ import typing
 from collections.abc import Iterable
 from typing import TYPE_CHECKING, Any
 
-from callauction.market.files import whole
+from callauction.market.files import replacing
 from callauction.market.forms import OVER
 from callauction.market.instrument_names import guarded, instrument_of, line_of, unguarded
 
@@ -118,7 +118,7 @@ def write_rows(rows: Iterable[Row], path: pathlib.Path) -> None:
     """Writes rows to a CSV file, in the order of their instruments; it takes the path's place when
     it is whole. Raises OSError.
     """
-    with whole(path) as out:
+    with replacing(path) as out:
         out.write(record_of(WRITTEN).encode())
         for row in sorted(rows, key=lambda row: row.instrument):
             out.write(record_of(cells(row, WRITTEN)).encode())

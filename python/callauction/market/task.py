@@ -195,10 +195,10 @@ def keeper(path: str, form: Form, request: Request) -> Iterator[IO[bytes] | None
         return
     import pathlib
 
-    from callauction.market.files import whole
+    from callauction.market.files import replacing
 
     name = f"{pathlib.PurePath(path).stem}.{form.suffix}"
-    with whole(pathlib.Path(request.into, name)) as out:
+    with replacing(pathlib.Path(request.into, name)) as out:
         yield out
 
 
