@@ -165,6 +165,21 @@ def log_path(output: pathlib.Path) -> pathlib.Path:
     return with_end(output, ".log")
 
 
+@contextlib.contextmanager
+def log_of(
+    asked: argparse.Namespace, files: dict[str, str], request: Request, digest: str
+) -> Iterator[tuple[RunLog, list[Found]]]:
+    """The open log of a run by the program with this digest, and what it goes on with of an earlier
+    run, whose faults are shown. Raises OSError.
+    """
+    log = RunLog(log_path(asked.output), request, digest)
+    taken = log.taken(files) if asked.resume else []
+    with log.begun(taken):
+        for fault in log.faults:
+            warn(f"{log.path}: {fault}")
+        yield log, taken
+
+
 def run_market(asked: argparse.Namespace, files: dict[str, str], rows: list[Row]) -> Summary:
     """Runs the program on all files, or on those that an earlier run left, and writes the result:
     what is said of these rows and theirs. Raises MarketError and ResultInUseError, and OSError
@@ -178,13 +193,11 @@ def run_market(asked: argparse.Namespace, files: dict[str, str], rows: list[Row]
         crew = stack.enter_context(workers_of(asked))
         begin = time.perf_counter()
         digest = crew.digest(request.program)
-        log = RunLog(log_path(asked.output), request, digest) if asked.output else None
-        taken = log.taken(files) if log and asked.resume else []
+        log: RunLog | None = None
+        taken: list[Found] = []
+        if asked.output:
+            log, taken = stack.enter_context(log_of(asked, files, request, digest))
         summary.take_over(each.row for each in taken)
-        if log:
-            stack.enter_context(log.begun(taken))
-            for fault in log.faults:
-                warn(f"{log.path}: {fault}")
         done = {each.row.instrument for each in taken}
         left = [path for instrument, path in files.items() if instrument not in done]
         for found in shown(crew.results(left, request), len(files), len(taken)):
@@ -197,23 +210,32 @@ def run_market(asked: argparse.Namespace, files: dict[str, str], rows: list[Row]
     return summary
 
 
+def checked_files(asked: argparse.Namespace) -> tuple[dict[str, str], list[Row]]:
+    """The files by their instruments, and rows for what the list of --expect has otherwise. Raises
+    MarketError where what is asked for doesn't go together, OverwriteError, and OSError where a
+    list or a key can't be read.
+    """
+    files = journals(asked.paths)
+    if asked.resume and not asked.output:
+        raise MarketError("--resume goes on with a result: -o FILE")
+    if asked.output:
+        checked_output(asked.output, asked, files.values())
+    if asked.verb == "run" and asked.into:
+        checked_folder(asked.into, files.values())
+    expected = read_list(asked.expect) if asked.expect else None
+    security_of(asked)
+    return compared_with(files, expected)
+
+
 def examine_files(asked: argparse.Namespace) -> int:
     """Runs the program on files, writes the result, and prints what was found: the status."""
     try:
-        files = journals(asked.paths)
-        if asked.resume and not asked.output:
-            raise MarketError("--resume goes on with a result: -o FILE")
-        if asked.output:
-            checked_output(asked.output, asked, files.values())
-        if asked.verb == "run" and asked.into:
-            checked_folder(asked.into, files.values())
-        expected = read_list(asked.expect) if asked.expect else None
-        security_of(asked)
+        files, rows = checked_files(asked)
     except (MarketError, OverwriteError, OSError) as fault:
         warn(fault)
         return BAD_DAY
     try:
-        summary = run_market(asked, *compared_with(files, expected))
+        summary = run_market(asked, files, rows)
     except ResultInUseError as fault:
         warn(fault)
         return BAD_DAY
