@@ -1,4 +1,4 @@
-"""What the measures share: the files, what a command takes, tables."""
+"""What the measures share: the files, and what a command takes."""
 import argparse
 import dataclasses
 import os
@@ -6,7 +6,6 @@ import pathlib
 import re
 import shlex
 import shutil
-import statistics
 import subprocess
 import sys
 import tempfile
@@ -192,7 +191,7 @@ Figures = dict[str, list[float]]
 """What was printed in all runs, by its name."""
 
 
-def printed(
+def collect_figures(
     command: list[str], found: Figures, environment: dict[str, str] | None = None, units: int = 0
 ) -> None:
     """Runs a command that prints lines `NAME.. NUMBER`, with `units` words after the number, and
@@ -205,11 +204,6 @@ def printed(
         words = line.split()
         *name, number = words[: len(words) - units]
         found.setdefault(" ".join(name), []).append(float(number))
-
-
-def middle(numbers: list[float]) -> float:
-    """The middle one, the lower of two."""
-    return statistics.median_low(numbers)
 
 
 def model_of_processor() -> str:
@@ -234,44 +228,3 @@ def state_of_machine() -> str:
     load, _, _ = os.getloadavg()
     model = model_of_processor() or "a processor without a name"
     return f"{cores} cores, load {load:.1f}, governor {governor()}, {model}"
-
-
-NUMBER = re.compile(r"\d[\d,]*(?:\.\d+)?")
-"""A number in a cell of a table."""
-MOST_APART = 0.05
-"""How far the numbers of two runs may be from each other, as a part of the greater one."""
-
-
-def numbers_in(text: str) -> list[tuple[str, str]]:
-    """The numbers in the tables of a text, each with the row that it stands in."""
-    rows = [line for line in text.splitlines() if line.startswith("| ")]
-    return [(it, found) for it in rows for found in NUMBER.findall(it)]
-
-
-def is_near(first: str, second: str) -> bool:
-    """Whether two printed numbers are the same within MOST_APART, or by one of their last digit."""
-    places = max(len(it.partition(".")[2]) for it in (first, second))
-    one, other = (float(it.replace(",", "")) for it in (first, second))
-    return abs(one - other) <= max(MOST_APART * max(one, other), 1.01 * 10**-places)
-
-
-def apart(first: str, second: str) -> list[str]:
-    """The rows of the second text's tables with a number that is far from the first's; all where
-    the tables aren't of one form.
-    """
-    one, other = numbers_in(first), numbers_in(second)
-    if len(one) != len(other):
-        return [*dict.fromkeys(row for row, _ in other)]
-    pairs = zip(one, other)
-    return [*dict.fromkeys(row for (_, a), (row, b) in pairs if not is_near(a, b))]
-
-
-def row(*cells: str) -> None:
-    """Prints a row of a table."""
-    print("| " + " | ".join(cells) + " |", flush=True)
-
-
-def head(*cells: str) -> None:
-    """Prints the first two rows of a table."""
-    row(*cells)
-    row(*["---"] * len(cells))

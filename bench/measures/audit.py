@@ -16,7 +16,7 @@ import sys
 import tempfile
 
 import measuring
-from measuring import head, row
+from tables import head, row
 
 sys.path.insert(0, str(measuring.TOP / "build"))
 sys.path.insert(0, str(measuring.TOP / "bench"))

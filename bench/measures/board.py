@@ -5,9 +5,11 @@ middle one, as a thread that found no core makes no calls), and calls or looks a
 members together. Its members enter, change and delete orders and ask, on a book of 1,000 orders.
 """
 import argparse
+import statistics
 
 import measuring
-from measuring import Figures, head, row
+from measuring import Figures
+from tables import head, row
 
 ORDER = [
     "apply-alone",
@@ -36,9 +38,9 @@ def measure(asked: argparse.Namespace) -> bool:
     clock = measuring.our_clock(asked.clock)
     found: Figures = {}
     for _ in range(asked.runs):
-        measuring.printed([clock, "board"], found, units=1)
+        measuring.collect_figures([clock, "board"], found, units=1)
     taken = {
-        name: measuring.middle(numbers) if "beside" in name else min(numbers)
+        name: statistics.median_low(numbers) if "beside" in name else min(numbers)
         for name, numbers in found.items()
     }
     head("what", "ns", "a second")

@@ -8,7 +8,8 @@ import argparse
 import tempfile
 
 import measuring
-from measuring import Figures, head, row
+from measuring import Figures
+from tables import head, row
 
 LIMITS = {"waiting": 1.0, "trying": 1.1}
 """The most that a call may take, in times of one on the board written by hand."""
@@ -21,7 +22,7 @@ def measure(asked: argparse.Namespace) -> bool:
     with tempfile.TemporaryDirectory() as folder:
         program = measuring.compiled("board_by_hand.cpp", library, folder)
         for _ in range(asked.runs):
-            measuring.printed([program], found)
+            measuring.collect_figures([program], found)
     is_right = True
     head("calls, threads", "ns", "by hand, ns", "ours : by hand", "limit")
     for way, limit in LIMITS.items():

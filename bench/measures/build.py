@@ -23,6 +23,7 @@ import tempfile
 import time
 
 import measuring
+import tables
 
 PLAIN = ["rt", "run"]
 WAYS = ("progress", "plain")
@@ -102,7 +103,7 @@ def measured(way: str, room: pathlib.Path) -> Built:
     it = build(way, room / way)
     times = [f"{seconds:.0f}" for seconds in (it.seconds, it.processor, it.stolen)]
     cores = str(len(os.sched_getaffinity(0)))
-    measuring.row(way, cores, *times, f"{load:.1f}", f"{os.getloadavg()[0]:.1f}")
+    tables.row(way, cores, *times, f"{load:.1f}", f"{os.getloadavg()[0]:.1f}")
     return it
 
 
@@ -114,7 +115,7 @@ def measure(asked: argparse.Namespace) -> bool:
         os.sched_setaffinity(0, cores[: asked.cores])
     room = pathlib.Path(tempfile.mkdtemp(prefix="callboard-build-"))
     columns = ["s", "processor, s", "the host took, s", "load before", "load after"]
-    measuring.head("build", "cores", *columns)
+    tables.head("build", "cores", *columns)
     found: dict[str, Built] = {}
     try:
         for way in [asked.way] if asked.way else WAYS:

@@ -25,7 +25,7 @@ from collections.abc import Iterator
 
 import measuring
 from measures import venue
-from measuring import head, row
+from tables import head, row
 
 sys.path.insert(0, str(measuring.TOP / "build"))
 

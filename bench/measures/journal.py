@@ -18,7 +18,8 @@ import time
 
 import measuring
 from measures import live, run
-from measuring import Measured, Program, head, row
+from measuring import Measured, Program
+from tables import head, row
 
 KIND = "mixed-1000"
 MOST_TIMES_UNSYNCED = 1.3

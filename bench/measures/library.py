@@ -7,10 +7,12 @@ looked, `board-call-watched` one where somebody has; `board-call-of-4` has four 
 threads of their own, a call on the wall. Needs cc.
 """
 import argparse
+import statistics
 import tempfile
 
 import measuring
-from measuring import Figures, head, row
+from measuring import Figures
+from tables import head, row
 
 INSIDE = "apply-alone"
 ORDER = [INSIDE, "apply", "apply-many", "clone", "clone-over", "close", "reset"]
@@ -25,12 +27,12 @@ def measure(asked: argparse.Namespace) -> bool:
     with tempfile.TemporaryDirectory() as folder:
         program = measuring.compiled("library.c", library, folder)
         for _ in range(asked.runs):
-            measuring.printed([program], found)
-            measuring.printed([clock, "board"], found, units=1)
+            measuring.collect_figures([program], found)
+            measuring.collect_figures([clock, "board"], found, units=1)
     head("call", "best, ns", "middle, ns", "best : inside", "middle : inside")
-    inside = min(found[INSIDE]), measuring.middle(found[INSIDE])
+    inside = min(found[INSIDE]), statistics.median_low(found[INSIDE])
     for name in ORDER:
-        taken = min(found[name]), measuring.middle(found[name])
+        taken = min(found[name]), statistics.median_low(found[name])
         ratios = [f"{it / of:.2f}" if name in CALLS else "" for it, of in zip(taken, inside)]
         row(name, *[f"{it:,.1f}" for it in taken], *ratios)
     return True

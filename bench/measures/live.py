@@ -15,7 +15,8 @@ import tempfile
 import time
 
 import measuring
-from measuring import File, Program, head, row
+from measuring import File, Program
+from tables import head, row
 
 MOST_TIMES = 1.5
 RECORD = b"1,ask\n"

@@ -25,6 +25,7 @@ import tempfile
 import time
 
 import measuring
+import tables
 
 sys.path.insert(0, str(measuring.TOP / "build"))
 
@@ -155,11 +156,11 @@ def seconds_of_shells(best: Best, workers: int) -> float:
 def print_times(best: Best, entries: int) -> None:
     """Prints the table of what was measured."""
     columns = ["seconds", "processor, s", "entries a second", "times the shells'"]
-    measuring.head("workers", "what", *columns)
+    tables.head("workers", "what", *columns)
     for (kind, workers), (seconds, processor) in sorted(best.items(), key=lambda it: it[0][1]):
         cells = [f"{seconds:.2f}", f"{processor:.2f}", f"{entries / seconds:,.0f}"]
         times = f"{seconds / seconds_of_shells(best, workers):.2f}"
-        measuring.row(str(workers), kind, *cells, times)
+        tables.row(str(workers), kind, *cells, times)
 
 
 def is_fast_enough(best: Best, counts: list[int]) -> bool:
@@ -212,11 +213,11 @@ def split_table(rows: int, task: Task) -> tuple[float, float]:
 
 def print_splits(rows: int, task: Task) -> bool:
     """Prints what splitting takes: whether the memory stays."""
-    measuring.head("rows", "seconds", "rows a second", "MiB")
+    tables.head("rows", "seconds", "rows a second", "MiB")
     peaks = []
     for count in (rows // 4, rows // 2, rows):
         seconds, peak = split_table(count, task)
-        measuring.row(f"{count:,}", f"{seconds:.1f}", f"{count / seconds:,.0f}", f"{peak:.0f}")
+        tables.row(f"{count:,}", f"{seconds:.1f}", f"{count / seconds:,.0f}", f"{peak:.0f}")
         peaks.append(peak)
     times = peaks[-1] / peaks[0]
     print(f"{times:.2f} times the memory for four times the rows, {MOST_MEMORY} wanted")

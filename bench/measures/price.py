@@ -7,7 +7,8 @@ Runs `clock price` of crates/clock. At 65,536 ticks it may take three times as l
 import argparse
 
 import measuring
-from measuring import Figures, head, row
+from measuring import Figures
+from tables import head, row
 
 MOST_TIMES = 3.0
 MOST_NANOSECONDS = 2_000
@@ -23,7 +24,7 @@ def measure(asked: argparse.Namespace) -> bool:
     clock = measuring.our_clock(asked.clock)
     found: Figures = {}
     for _ in range(asked.runs):
-        measuring.printed([clock, "price"], found, units=1)
+        measuring.collect_figures([clock, "price"], found, units=1)
     best = {name: min(numbers) for name, numbers in found.items()}
     head("ticks", "limits", "ns an order and price")
     for name, nanoseconds in best.items():

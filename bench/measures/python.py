@@ -5,12 +5,14 @@ all means of a thousand calls. Needs what python/build needs.
 """
 import argparse
 import os
+import statistics
 import subprocess
 import sys
 import tempfile
 
 import measuring
-from measuring import Figures, head, row
+from measuring import Figures
+from tables import head, row
 
 sys.path.insert(0, str(measuring.TOP / "build"))
 
@@ -30,12 +32,12 @@ def measure(asked: argparse.Namespace) -> bool:
         calls = [interpreter, str(measuring.TOP / "bench/python_calls.py")]
         environment = os.environ | {"PYTHONPATH": package}
         for _ in range(asked.runs):
-            measuring.printed([program], from_c)
-            measuring.printed(calls, from_python, environment)
+            measuring.collect_figures([program], from_c)
+            measuring.collect_figures(calls, from_python, environment)
     head("call", "C, best, ns", "C, middle", "Python, best", "Python, middle", "more, ns", "times")
     for name, numbers in from_c.items():
-        ours = min(from_python[name]), measuring.middle(from_python[name])
-        theirs = min(numbers), measuring.middle(numbers)
+        ours = min(from_python[name]), statistics.median_low(from_python[name])
+        theirs = min(numbers), statistics.median_low(numbers)
         more, times = ours[0] - theirs[0], ours[0] / theirs[0]
         row(name, *[f"{it:.1f}" for it in [*theirs, *ours]], f"{more:.0f}", f"{times:.2f}")
     return True

@@ -16,6 +16,7 @@ import sys
 import tempfile
 
 import measuring
+import tables
 from measuring import Program
 
 REGISTRY = pathlib.Path("/usr/share/cargo/registry")
@@ -61,7 +62,7 @@ def measure(asked: argparse.Namespace) -> bool:
         readers = [measuring.our_program(asked.program), *asked.peer]
         names = [program.name for program in [*loops, *readers]]
         columns = [f"{name}, ms" for name in names]
-        measuring.head("file", *columns, *[f"{name}, processor" for name in names], "ours : csv")
+        tables.head("file", *columns, *[f"{name}, processor" for name in names], "ours : csv")
         for file in measuring.written(asked.count, asked.only, folder):
             one, other = [found_by(loop, file.path) for loop in loops]
             if one != other:
@@ -73,5 +74,5 @@ def measure(asked: argparse.Namespace) -> bool:
             cells = [it.milliseconds for it in found]
             cells += [it.processor_milliseconds for it in found]
             ratio = found[2].processor / found[0].processor
-            measuring.row(file.kind, *cells, f"{ratio:.2f}")
+            tables.row(file.kind, *cells, f"{ratio:.2f}")
     return is_right

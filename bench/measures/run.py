@@ -24,7 +24,8 @@ import sys
 import tempfile
 
 import measuring
-from measuring import File, Measured, Program, head, row
+from measuring import File, Measured, Program
+from tables import head, row
 
 COMMANDS_OF_INSTRUCTIONS = 20_000
 FORMS = [("mixed-1000", "journal", 1.4), ("mixed-1000", "audit", 1.6), ("ladder", "book", 1.5)]

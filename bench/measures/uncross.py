@@ -9,7 +9,8 @@ ticks. A peer (`--peer-clock NAME=PATH`) is another build of that program.
 import argparse
 
 import measuring
-from measuring import Figures, head, row
+from measuring import Figures
+from tables import head, row
 
 
 def measure(asked: argparse.Namespace) -> bool:
@@ -17,7 +18,7 @@ def measure(asked: argparse.Namespace) -> bool:
     found: list[Figures] = [{} for _ in programs]
     for _ in range(asked.runs):
         for program, figures in zip(programs, found):
-            measuring.printed([*program, "uncross"], figures)
+            measuring.collect_figures([*program, "uncross"], figures)
     names = [peer.name for peer in asked.peer_clock]
     columns = [f"{name}, ns an order" for name in ["ours", *names]]
     head("book", *columns, *[f"ours : {name}" for name in names])

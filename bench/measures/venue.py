@@ -25,7 +25,7 @@ from collections.abc import Iterator
 from typing import Any
 
 import measuring
-from measuring import head, row
+from tables import head, row
 
 sys.path.insert(0, str(measuring.TOP / "build"))
 

@@ -14,7 +14,7 @@ from checks import built
 
 sys.path.insert(0, str(built.TOP / "bench"))
 
-import measuring  # noqa: E402
+from tables import apart  # noqa: E402
 
 BENCH = built.TOP / "bench/bench"
 LEFT_OUT = {"build", "records"}
@@ -95,4 +95,4 @@ TABLE = """| what | ms | times |
     ],
 )
 def test_runs_agree_where_each_number_is_near(old: str, new: str, rows: list[str]) -> None:
-    assert measuring.apart(TABLE, TABLE.replace(old, new)) == rows
+    assert apart(TABLE, TABLE.replace(old, new)) == rows
