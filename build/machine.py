@@ -1,4 +1,4 @@
-"""What a machine has free for checks of proofs, and how times are written."""
+"""What a machine has free for checks of proofs."""
 import os
 import pathlib
 import re
@@ -21,13 +21,3 @@ def free_gib() -> float:
         return float("inf")
     found = re.search(r"MemAvailable:\s+(\d+) kB", text)
     return int(found[1]) * 1024 / GIB if found else float("inf")
-
-
-def clock_text(seconds: float) -> str:
-    """A time as minutes and seconds."""
-    return f"{int(seconds) // 60}:{int(seconds) % 60:02}"
-
-
-def plural(count: int, word: str) -> str:
-    """A count of things with their word."""
-    return f"{count} {word}" + ("" if count == 1 else "s")

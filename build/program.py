@@ -28,8 +28,9 @@ import sys
 import time
 from collections.abc import Iterator
 
-from machine import GIB_OF_A_CHECK, clock_text, cores, free_gib, plural
+from machine import GIB_OF_A_CHECK, cores, free_gib
 from toolchain import crate_lines, crates_below, is_program
+from wording import clock_text, plural
 
 TOP = pathlib.Path(__file__).resolve().parent.parent
 PROGRAM = "callboard"

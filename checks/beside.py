@@ -19,6 +19,7 @@ import time
 from collections.abc import Callable, Iterator
 
 import machine
+import wording
 
 TURN = 0.05  # seconds between two looks at what runs
 GIB_OF_A_TASK = 1  # that have to be free where a task begins that proves nothing
@@ -303,7 +304,7 @@ class Schedule:
             why = ""
             if it.is_overdue():
                 ask_to_end([it])
-                why = f"ended after {machine.clock_text(it.task.most_seconds)}, its longest time"
+                why = f"ended after {wording.clock_text(it.task.most_seconds)}, its longest time"
             status = it.child.poll()
             for line in it.new_lines(is_last=status is not None):
                 self.viewer.printed(it.task, line)

@@ -12,6 +12,7 @@ import machine
 from beside import Ended, Schedule, Task, Viewer
 from check_parts import Part
 from passes import Passes, Seconds, sum_of
+from wording import clock_text, plural
 
 COUNTS = re.compile(r"(\d+) passed, (\d+) failed")
 MOST_NAMED = 3  # of the parts that took longest
@@ -80,7 +81,7 @@ class Results(Viewer):
 
     def turn(self, running: list[str]) -> None:
         if self.is_terminal and not self.shows:
-            since = machine.clock_text(time.monotonic() - self.begin)
+            since = clock_text(time.monotonic() - self.begin)
             failed = f", {self.failed} failed" if self.failed else ""
             done = f"{len(self.took)} of {len(self.parts)} parts done{failed}"
             line = f"check: {', '.join(running)} ({done}), {since}"
@@ -143,8 +144,8 @@ class Results(Viewer):
         """Prints how long all took, the parts that took longest, and the counts."""
         seconds = time.monotonic() - self.begin
         longest = sorted(self.took, key=lambda name: -self.took[name])[:MOST_NAMED]
-        named = ", ".join(f"{name} {machine.clock_text(self.took[name])}" for name in longest)
-        of = f"{machine.plural(machine.cores(), 'core')}, {jobs} at once"
+        named = ", ".join(f"{name} {clock_text(self.took[name])}" for name in longest)
+        of = f"{plural(machine.cores(), 'core')}, {jobs} at once"
         those = f"; the longest: {named}" if named else ""
-        self.say(f"check: {machine.clock_text(seconds)} on {of}{those}")
+        self.say(f"check: {clock_text(seconds)} on {of}{those}")
         self.say(f"{self.passed} passed, {self.failed} failed")
