@@ -13,8 +13,8 @@ import time
 from collections.abc import Iterator
 
 import built
-import gate
-from beside import Product, Task, TaskError
+import library_over_gate
+from schedule import Product, Task, TaskError
 
 sys.path.insert(0, str(built.TOP / "build"))
 
@@ -81,7 +81,7 @@ class Builds:
 
     def of_gate(self) -> tuple[Product, ...]:
         """What the gate makes."""
-        below = frozenset(f"rt: {name} proved" for name in gate.crates_of_library())
+        below = frozenset(f"rt: {name} proved" for name in library_over_gate.crates_below())
         found = [
             Product(
                 name, frozenset({line}), is_at_end=True, take=functools.partial(self.keep, name)
@@ -121,7 +121,7 @@ class Builds:
         """What builds what isn't there, each after the one before it."""
         if self.has_gate:
             if LIBRARY in self.needed:
-                words = gate.library_words(self.gate)
+                words = library_over_gate.words(self.gate)
                 yield self.task(LIBRARY, words, frozenset({PROVED}))
             return
         before: frozenset[str] = frozenset()

@@ -8,11 +8,11 @@ import built
 
 sys.path.insert(0, str(built.TOP / "build"))
 
-import beside  # noqa: E402
 import debian  # noqa: E402
 import needs  # noqa: E402
 from build_tasks import CLOCK, LIBRARIES, LIBRARY, PROGRAM, TESTS  # noqa: E402
 from package import PACKAGE, PREFIX, Package  # noqa: E402
+from schedule import TaskError  # noqa: E402
 
 PYTEST = "PYTEST"
 """The word of a command that means pytest under a Python that has it."""
@@ -206,7 +206,7 @@ PARTS = [
 CRATES = Part(
     "crates",
     "the crates that changed, with those above",
-    "checks/changed.py",
+    "checks/changed_crates.py",
     "git rt",
     is_proof=True,
 )
@@ -266,14 +266,14 @@ def installed(parts: list[Part], package: Package, are_named: bool) -> Iterator[
 
 def chosen(names: list[str], is_installed: bool = False) -> list[Part]:
     """The parts with these names, all where there is none, in the order of the table; whether of
-    those on an installed package. Raises beside.TaskError for another name.
+    those on an installed package. Raises TaskError for another name.
     """
     on_package = [FILES, *(it for it in PARTS if it.name not in NOT_INSTALLED)]
     parts = on_package if is_installed else PARTS
     for name in names:
         if name not in [part.name for part in parts]:
             where = " on an installed package" if is_installed else ""
-            raise beside.TaskError(f"there is no part {name!r}{where}; ./check --list has them")
+            raise TaskError(f"there is no part {name!r}{where}; ./check --list has them")
     return [part for part in parts if not names or part.name in names]
 
 

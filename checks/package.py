@@ -22,8 +22,8 @@ import installed  # noqa: E402
 import installed_files  # noqa: E402
 import passes  # noqa: E402
 import version  # noqa: E402
-from beside import Task, TaskError  # noqa: E402
 from build_tasks import LIBRARY, PROGRAM  # noqa: E402
+from schedule import Task, TaskError  # noqa: E402
 
 PACKAGE = "PACKAGE"
 """A word of a command that means the folder of the package for Python."""

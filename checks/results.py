@@ -9,9 +9,9 @@ import time
 
 import built
 import machine
-from beside import Ended, Schedule, Task, Viewer
 from check_parts import Part
 from passes import Passes, Seconds, sum_of
+from schedule import Ended, Schedule, Task, Viewer
 from wording import clock_text, plural
 
 COUNTS = re.compile(r"(\d+) passed, (\d+) failed")

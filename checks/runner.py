@@ -27,11 +27,9 @@ import built
 
 sys.path.insert(0, str(built.TOP / "build"))
 
-import beside  # noqa: E402
-import changed  # noqa: E402
+import changed_crates  # noqa: E402
 import machine  # noqa: E402
 import proved_binaries  # noqa: E402
-from beside import Schedule, Task  # noqa: E402
 from build_tasks import LIBRARIES, PROGRAM, Builds  # noqa: E402
 from check_parts import (  # noqa: E402
     BODIES, GATE, PARTS, MissingToolsError, Part, chosen, installed, look_for_tools, short,
@@ -39,6 +37,7 @@ from check_parts import (  # noqa: E402
 from package import Package  # noqa: E402
 from passes import Passes, Seconds  # noqa: E402
 from results import Results, sources  # noqa: E402
+from schedule import Schedule, Task, TaskError  # noqa: E402
 from tasks import tasks_of  # noqa: E402
 
 LOGS = built.TOP / "out/check"
@@ -48,7 +47,7 @@ BROKEN_OFF = 130
 @contextlib.contextmanager
 def held() -> Iterator[pathlib.Path]:
     """Keeps another test command out of this repository, and makes a folder for temporary files.
-    Raises beside.TaskError where one runs.
+    Raises TaskError where one runs.
     """
     LOGS.mkdir(parents=True, exist_ok=True)
     with open(LOGS / "lock", "w", encoding="ascii") as lock, tempfile.TemporaryDirectory(
@@ -57,18 +56,18 @@ def held() -> Iterator[pathlib.Path]:
         try:
             fcntl.flock(lock, fcntl.LOCK_EX | fcntl.LOCK_NB)
         except BlockingIOError:
-            raise beside.TaskError("another ./check runs in this repository") from None
+            raise TaskError("another ./check runs in this repository") from None
         os.chmod(folder, 0o755)  # as some tests run as nobody
         yield pathlib.Path(folder)
 
 
 def run(parts: list[Part], asked: argparse.Namespace, rooms: pathlib.Path) -> int:
-    """Runs parts of this repository; answers the status. Raises beside.TaskError,
-    MissingToolsError, OSError, CalledProcessError.
+    """Runs parts of this repository; answers the status. Raises TaskError, MissingToolsError,
+    OSError, CalledProcessError.
     """
     logs = LOGS
     if asked.short:
-        since = asked.since or changed.usual_commit()
+        since = asked.since or changed_crates.usual_commit()
         parts, logs = short(parts, since), LOGS / "short"
         print(f"check: a short run; crates that changed since {since}", flush=True)
     look_for_tools(parts)
@@ -85,7 +84,7 @@ def run(parts: list[Part], asked: argparse.Namespace, rooms: pathlib.Path) -> in
     needed = {it for part in left for it in part.needs()}
     builds = Builds(needed, GATE in [it.name for it in left], GATE in passes.of, rooms)
     if LIBRARIES in needed - builds.there and not builds.has_gate:
-        raise beside.TaskError(f"{BODIES} takes what {GATE} proves: name {GATE} too")
+        raise TaskError(f"{BODIES} takes what {GATE} proves: name {GATE} too")
     status = run_tasks(tasks_of(left, builds), builds.there, results, logs, rooms, asked.jobs)
     if BODIES in passes.of:
         builds.drop_libraries()
@@ -210,7 +209,7 @@ def main() -> int:
         fault = "broken off"
     except subprocess.CalledProcessError as ended:
         fault = f"{ended}: {ended.stderr or ''}".strip()
-    except (beside.TaskError, MissingToolsError, OSError) as found:
+    except (TaskError, MissingToolsError, OSError) as found:
         fault = str(found)
     print("".join(f"check: {line}\n" for line in fault.splitlines()), end="", file=sys.stderr)
     print("0 passed, 1 failed")

@@ -2,21 +2,20 @@
 import functools
 import math
 
-import beside
 import debian
 import edits
 import gate
-from beside import Product, Task
 from build_tasks import Builds
 from check_parts import BODIES, CRATES, GATE, PRODUCTS, PYTEST, Part
 from package import Package
+from schedule import Product, Task, TaskError
 
 MOST_SECONDS = 5400.0
 """For how long a part runs that proves nothing; the longest takes half an hour on two cores."""
 
 
 def words_of(command: str, builds: Builds | Package) -> list[str]:
-    """The words of a part's command, with the paths of what is built. Raises beside.TaskError where
+    """The words of a part's command, with the paths of what is built. Raises TaskError where
     there is no pytest, or a package lacks a part.
     """
     found = []
@@ -25,7 +24,7 @@ def words_of(command: str, builds: Builds | Package) -> list[str]:
             try:
                 found += [debian.python_with(("pytest",)), "-B", "-m", "pytest"]
             except debian.MissingModulesError as lack:
-                raise beside.TaskError(str(lack)) from None
+                raise TaskError(str(lack)) from None
         else:
             head, equals, name = word.rpartition("=")
             found.append(head + equals + builds.path(name) if name in PRODUCTS else word)

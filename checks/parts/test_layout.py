@@ -16,8 +16,8 @@ from checks.texts.tree import Tree
 
 sys.path[:0] = [str(built.TOP / "checks"), str(built.TOP / "build")]
 
+import body_groups  # noqa: E402
 import edits  # noqa: E402
-import together  # noqa: E402
 import toolchain  # noqa: E402
 
 Rule = Callable[[Tree], Iterator[str]]
@@ -435,8 +435,8 @@ def test_the_function_that_an_edit_changes_is_known(
 ) -> None:
     text = f"file: src/deep/sum.rt\nold: {old}\nnew: {old}0\n"
     tree = planted(tmp_path, **{"crates/terms/src/deep/sum.rt": BODIES, "x.edit": text})
-    edit = together.Edit("terms", tree.top / "x.edit", False)
-    places = together.places_of(edit, tree.top / "crates/terms")
+    edit = body_groups.Edit("terms", tree.top / "x.edit", False)
+    places = body_groups.places_of(edit, tree.top / "crates/terms")
     assert (places and {place.name for place in places}) == names
 
 
@@ -460,8 +460,8 @@ def test_a_body_among_others_is_refused_by_what_is_said_of_its_function(
     printed = [f"fn {symbol}: {status}"]
     printed += ["fn terms::deep::sum::Sum::one: proved"] if "other" in symbol else []
     printed += [f"./proofs/deep/sum/{folder}/Answers.antt:7:2: error: {text}"] if error else []
-    place = together.Place("src/deep/sum.rt", "one")
-    assert together.is_refused(place, range(4, 10), "terms", printed) == refused
+    place = body_groups.Place("src/deep/sum.rt", "one")
+    assert body_groups.is_refused(place, range(4, 10), "terms", printed) == refused
 
 
 @pytest.mark.parametrize("others, refused", [([], True), (["terms::third::one"], False)])
@@ -470,8 +470,8 @@ def test_a_method_of_another_files_type_is_refused_where_no_other_is(
 ) -> None:
     symbols = ["terms::other::Sum::one", *others, "terms::other::Sum::two"]
     printed = [f"fn {it}: no proof: `search` did not prove `returns`" for it in symbols]
-    place = together.Place("src/deep/sum.rt", "one")
-    assert together.is_refused(place, range(4, 10), "terms", printed) == refused
+    place = body_groups.Place("src/deep/sum.rt", "one")
+    assert body_groups.is_refused(place, range(4, 10), "terms", printed) == refused
 
 
 @pytest.mark.parametrize(
@@ -489,7 +489,7 @@ def test_a_body_is_refused_by_a_note_at_its_own_lines(
 ) -> None:
     said = f"note: src/{file}.rt:{line}:5: it is not proved that what the function ensures holds"
     printed = [said, f"fn terms::deep::sum::Sum::one: {status}"]
-    place = together.Place("src/deep/sum.rt", "one")
-    lines = together.lines_of(place, BODIES)
+    place = body_groups.Place("src/deep/sum.rt", "one")
+    lines = body_groups.lines_of(place, BODIES)
     assert lines == range(4, 10)
-    assert together.is_refused(place, lines, "terms", printed) == refused
+    assert body_groups.is_refused(place, lines, "terms", printed) == refused

@@ -18,10 +18,10 @@ import pytest
 TOP = pathlib.Path(__file__).resolve().parent.parent.parent
 sys.path[:0] = [str(TOP / "checks"), str(TOP / "build")]
 
-import beside  # noqa: E402
+import body_groups  # noqa: E402
 import build_tasks  # noqa: E402
 import built  # noqa: E402
-import changed  # noqa: E402
+import changed_crates  # noqa: E402
 import edits  # noqa: E402
 import gate  # noqa: E402
 import installed_files  # noqa: E402
@@ -31,11 +31,11 @@ import passes  # noqa: E402
 import program as building  # noqa: E402
 import proved_binaries  # noqa: E402
 import runner  # noqa: E402
+import schedule  # noqa: E402
 import tasks  # noqa: E402
-import together  # noqa: E402
 import toolchain  # noqa: E402
 import version  # noqa: E402
-from beside import Product, Schedule, Task  # noqa: E402
+from schedule import Product, Schedule, Task  # noqa: E402
 
 SECONDS = 60.0  # until what has to come is there
 PLANTED = """
@@ -43,8 +43,8 @@ import pathlib, sys
 sys.path[:0] = [{checks!r}, {build!r}]
 import built
 built.TOP = pathlib.Path({top!r})
-import beside, runner
-beside.PATIENCE = 1.0
+import runner, schedule
+schedule.PATIENCE = 1.0
 runner.PARTS[:] = [runner.Part(*row) for row in {rows!r}]
 sys.exit(runner.main())
 """
@@ -422,7 +422,7 @@ def test_a_run_that_was_broken_off_goes_on(plant: Plant) -> None:
 
 # ---- what is built
 
-class Heard(beside.Viewer):
+class Heard(schedule.Viewer):
     """Keeps what is heard of tasks: the names as they begin and end, and why one wasn't begun."""
 
     def __init__(self) -> None:
@@ -431,11 +431,11 @@ class Heard(beside.Viewer):
     def begun(self, task: Task) -> None:
         self.rows.append(f"begin {task.name}")
 
-    def ended(self, how: beside.Ended) -> None:
+    def ended(self, how: schedule.Ended) -> None:
         self.rows.append(f"end {task_end(how)}")
 
 
-def task_end(how: beside.Ended) -> str:
+def task_end(how: schedule.Ended) -> str:
     """How a task ended, in words."""
     return f"{how.task.name} {how.why or how.status}"
 
@@ -488,7 +488,7 @@ def test_who_needs_a_product_of_a_task_that_fails_does_not_begin(scheduled: Sche
 
 def test_who_needs_a_product_that_cannot_be_taken_does_not_begin(scheduled: Scheduled) -> None:
     def refuse() -> None:
-        raise beside.TaskError("it is broken")
+        raise schedule.TaskError("it is broken")
 
     product = Product("it", take=refuse)
     rows = scheduled(shell("maker", "true", gives=[product]), shell("user", "true", "it"))
@@ -632,7 +632,7 @@ def test_in_the_gate_all_comes_of_what_it_proves(
     for folder in ("usual", "kept"):
         assert (three / folder / "PROGRAM").read_text() == "proved from nothing"
     (three / "usual/ARCHIVE").unlink()
-    with pytest.raises(beside.TaskError, match="ARCHIVE was not built"):
+    with pytest.raises(schedule.TaskError, match="ARCHIVE was not built"):
         task.gives[0].take()
 
 
@@ -762,7 +762,7 @@ def test_wrong_bodies_function_by_function(
         file = tmp_path / f"{place}.edit"
         file.write_text(f"file: src/sums.rt\nold: {old}\nnew: {new}\n")
         tried.append(edits.Edit("low", file, True))
-    found = {it.file.stem for it in together.refused_over(tried, crate, [str(tool)])}
+    found = {it.file.stem for it in body_groups.refused_over(tried, crate, [str(tool)])}
     log = crate / "asked.txt"
     assert found == refused and (crate / "src/sums.rt").read_text() == SUMS
     assert (log.read_text().splitlines() if log.exists() else []) == asked
@@ -830,7 +830,7 @@ def repository_of_crates(tmp_path: pathlib.Path, monkeypatch: pytest.MonkeyPatch
     git = ["git", "-c", "user.name=x", "-c", "user.email=x@x"]
     for words in (["init", "-q"], ["add", "."], ["commit", "-q", "-m", "first"]):
         subprocess.run([*git, *words], cwd=tmp_path, check=True)
-    monkeypatch.setattr(changed, "TOP", tmp_path)
+    monkeypatch.setattr(changed_crates, "TOP", tmp_path)
     return tmp_path
 
 
@@ -848,30 +848,30 @@ def repository_of_crates(tmp_path: pathlib.Path, monkeypatch: pytest.MonkeyPatch
 def test_what_changed_names_the_crates_that_stand_on_it(
     repository: pathlib.Path, file: str, text: str, names: list[str]
 ) -> None:
-    commit = changed.usual_commit()
-    assert changed.changed(commit) == []
+    commit = changed_crates.usual_commit()
+    assert changed_crates.changed(commit) == []
     (repository / file).parent.mkdir(exist_ok=True)
     (repository / file).write_text(text)
-    assert sorted(changed.changed(commit)) == sorted(names)
-    assert names == [] or changed.changed("HEAD")[0] == names[0]
+    assert sorted(changed_crates.changed(commit)) == sorted(names)
+    assert names == [] or changed_crates.changed("HEAD")[0] == names[0]
 
 
 def test_what_changed_is_since_origins_main(repository: pathlib.Path) -> None:
-    first = changed.usual_commit()
+    first = changed_crates.usual_commit()
     git = ["git", "-c", "user.name=x", "-c", "user.email=x@x"]
     subprocess.run([*git, "update-ref", "refs/remotes/origin/main", "HEAD"], cwd=repository)
     (repository / "crates/other/src/a file").write_text("2\n")
     subprocess.run([*git, "commit", "-q", "-a", "-m", "second"], cwd=repository, check=True)
-    assert changed.usual_commit() == first
-    assert changed.changed(first) == ["other"]
-    assert changed.changed("HEAD") == []
+    assert changed_crates.usual_commit() == first
+    assert changed_crates.changed(first) == ["other"]
+    assert changed_crates.changed("HEAD") == []
 
 
 def test_each_part_has_a_short_command_or_none() -> None:
     found = {part.name: part.command for part in runner.short(runner.PARTS, "COMMIT")}
     names = {part.name for part in runner.PARTS} - {runner.GATE, runner.BODIES, "runner"}
     assert set(found) == names | {"crates"}
-    assert found["crates"] == "checks/changed.py COMMIT"
+    assert found["crates"] == "checks/changed_crates.py COMMIT"
     for part in runner.PARTS:
         if part.name in names - {"layout", "edits", "header", "promises"}:
             assert found[part.name] not in ("", part.command)
@@ -938,13 +938,13 @@ def test_what_a_package_has_is_found(
 
 
 def test_a_package_that_is_none_is_refused(tmp_path: pathlib.Path) -> None:
-    with pytest.raises(beside.TaskError, match="has no program bin/callboard or callboard"):
+    with pytest.raises(schedule.TaskError, match="has no program bin/callboard or callboard"):
         package.Package(tmp_path, tmp_path)
     old = package_in(tmp_path, "callboard", version_of="1.2.3")
-    with pytest.raises(beside.TaskError, match="'callboard 1.2.3', and these are the tests of"):
+    with pytest.raises(schedule.TaskError, match="'callboard 1.2.3', and these are the tests of"):
         package.Package(old, tmp_path)
     for name in ("layout", "ci", "release", "none"):
-        with pytest.raises(beside.TaskError, match=f"no part '{name}' on an installed package"):
+        with pytest.raises(schedule.TaskError, match=f"no part '{name}' on an installed package"):
             runner.chosen([name], True)
 
 

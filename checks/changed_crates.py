@@ -1,5 +1,5 @@
 #!/usr/bin/env python3
-"""Proves the crates that changed since a commit, with those above: `checks/changed.py COMMIT`.
+"""Proves the crates changed since a commit, with those above: `checks/changed_crates.py COMMIT`.
 
 What earlier builds have proved is taken as it is, as build/program.py does. Tests and wrong bodies
 are left to the gate. Prints the crates, what build/program.py prints, and `N passed, N failed`,
@@ -58,7 +58,7 @@ def changed(commit: str) -> list[str]:
 def main() -> int:
     """Proves what changed; answers the status."""
     if len(sys.argv) != 2:
-        print("usage: checks/changed.py COMMIT", file=sys.stderr)
+        print("usage: checks/changed_crates.py COMMIT", file=sys.stderr)
         return 2
     names = changed(sys.argv[1])
     print(f"changed since {sys.argv[1]}, with those above: {' '.join(names) or 'no crate'}")
