@@ -232,8 +232,8 @@ template <typename T, typename Exception> [[noreturn]] T fail(const Exception &e
 #endif
 }
 
-// What is there of a result; where nothing is, it ends the program.
-template <typename T> T &there(T *found, const Error *error) noexcept {
+// What a result has, where it has that; where it hasn't, it ends the program.
+template <typename T> T &value_or_end(T *found, const Error *error) noexcept {
     if (!found) end(error ? text(*error) : "the result has a value, and no error");
     return *found;
 }
@@ -250,8 +250,10 @@ public:
     explicit operator bool() const noexcept { return has_value(); }
 
     // The value. Where there is none these end the program, by std::abort, and the error's text is on standard error.
-    T &operator*() & noexcept { return detail::there(std::get_if<0>(&answer_), std::get_if<1>(&answer_)); }
-    const T &operator*() const & noexcept { return detail::there(std::get_if<0>(&answer_), std::get_if<1>(&answer_)); }
+    T &operator*() & noexcept { return detail::value_or_end(std::get_if<0>(&answer_), std::get_if<1>(&answer_)); }
+    const T &operator*() const & noexcept {
+        return detail::value_or_end(std::get_if<0>(&answer_), std::get_if<1>(&answer_));
+    }
     T &&operator*() && noexcept { return std::move(**this); }
     T *operator->() noexcept { return &**this; }
     const T *operator->() const noexcept { return &**this; }
@@ -262,7 +264,7 @@ public:
     T value() && { return has_value() ? *std::move(*this) : detail::fail<T>(BadResult(error())); }
 
     // The error. Where there is a value it ends the program.
-    Error error() const noexcept { return detail::there(std::get_if<1>(&answer_), std::get_if<1>(&answer_)); }
+    Error error() const noexcept { return detail::value_or_end(std::get_if<1>(&answer_), std::get_if<1>(&answer_)); }
 
 private:
     std::variant<T, Error> answer_;
@@ -495,41 +497,41 @@ struct Filling {
         return from.client.fits() ? std::nullopt : std::optional<Error>(Error::bad_client);
     }
     std::optional<Error> operator()(const Change &from) const {
-        const auto error = named(CALLAUCTION_COMMAND_CHANGE, from.id, Error::bad_id);
+        const auto error = tag_with_id(CALLAUCTION_COMMAND_CHANGE, from.id, Error::bad_id);
         return error ? error : terms(from.quantity, from.limit);
     }
     std::optional<Error> operator()(const Delete &from) const {
-        return named(CALLAUCTION_COMMAND_DELETE, from.id, Error::bad_id);
+        return tag_with_id(CALLAUCTION_COMMAND_DELETE, from.id, Error::bad_id);
     }
     std::optional<Error> operator()(const OrderStatus &from) const {
-        return named(CALLAUCTION_COMMAND_ORDER_STATUS, from.id, Error::bad_id);
+        return tag_with_id(CALLAUCTION_COMMAND_ORDER_STATUS, from.id, Error::bad_id);
     }
     std::optional<Error> operator()(const Indicate &) const {
-        return named(CALLAUCTION_COMMAND_INDICATE, 0, Error::bad_id);
+        return tag_with_id(CALLAUCTION_COMMAND_INDICATE, 0, Error::bad_id);
     }
     std::optional<Error> operator()(const ReadTrade &from) const {
-        return named(CALLAUCTION_COMMAND_READ_TRADE, from.number, Error::bad_number);
+        return tag_with_id(CALLAUCTION_COMMAND_READ_TRADE, from.number, Error::bad_number);
     }
     std::optional<Error> operator()(const Uncross &) const {
-        return named(CALLAUCTION_COMMAND_UNCROSS, 0, Error::bad_id);
+        return tag_with_id(CALLAUCTION_COMMAND_UNCROSS, 0, Error::bad_id);
     }
 
     std::optional<Error> terms(Whole quantity, const std::optional<Whole> &limit) const {
         if (!fits(quantity, to.quantity)) return Error::bad_quantity;
         return fits(limit, to.has_limit, to.limit) ? std::nullopt : std::optional<Error>(Error::bad_limit);
     }
-    std::optional<Error> named(std::uint8_t tag, Whole id, Error error) const {
+    std::optional<Error> tag_with_id(std::uint8_t tag, Whole id, Error error) const {
         to.tag = tag;
         return fits(id, to.id) ? std::nullopt : std::optional<Error>(error);
     }
 };
 
-inline std::optional<std::uint32_t> given(std::uint8_t flag, std::uint32_t tick) {
+inline std::optional<std::uint32_t> tick_if(std::uint8_t flag, std::uint32_t tick) {
     return flag ? std::optional<std::uint32_t>(tick) : std::nullopt;
 }
 
 inline NoPrice no_price_of(const callauction_reply &from) {
-    return NoPrice{given(from.has_best_bid, from.best_bid), given(from.has_best_ask, from.best_ask)};
+    return NoPrice{tick_if(from.has_best_bid, from.best_bid), tick_if(from.has_best_ask, from.best_ask)};
 }
 
 inline Price price_of(const callauction_reply &from) {
@@ -577,7 +579,7 @@ inline Reply reply_of(const callauction_reply &from) {
     case CALLAUCTION_REPLY_CHANGED: return Changed{from.kept != 0};
     case CALLAUCTION_REPLY_DELETED: return Deleted{};
     case CALLAUCTION_REPLY_OPEN_ORDER: {
-        const auto limit = detail::given(from.has_tick, from.tick);
+        const auto limit = detail::tick_if(from.has_tick, from.tick);
         return OpenOrder{static_cast<Side>(from.side), from.quantity, from.visible, limit};
     }
     case CALLAUCTION_REPLY_PRICED: return detail::price_of(from);
@@ -646,7 +648,7 @@ struct Ladder {
 namespace detail {
 
 // Whose orders: the number of a member, or of all; none where it is no member's.
-inline std::optional<std::uint32_t> whose(const std::optional<Whole> &member) {
+inline std::optional<std::uint32_t> member_number(const std::optional<Whole> &member) {
     std::uint8_t one = 0;
     if (member && !fits(*member, one)) return std::nullopt;
     return member ? std::uint32_t{one} : std::uint32_t{CALLAUCTION_ALL_MEMBERS};
@@ -838,7 +840,7 @@ public:
 
     // The open orders in priority, of a member or of all.
     Result<std::vector<callauction_order>> orders(std::optional<Whole> member = {}) const {
-        const auto of = detail::whose(member);
+        const auto of = detail::member_number(member);
         if (!of) return Error::bad_member;
         return listed([&](callauction_order *to, std::size_t room, std::size_t *copied) {
             return callauction_orders(&handle_, *of, to, room, copied);
@@ -964,7 +966,8 @@ struct BadEntry {
 
 namespace detail {
 
-constexpr std::size_t piece = 65536; // bytes, for many whole lines
+constexpr int max_members = 64; // of a board and of a journal
+constexpr std::size_t bytes_at_once = 65536; // for many whole lines
 
 // Why a journal of a day for so many members can't hold an entry; empty where it can.
 inline std::string_view why_no_entry(const callauction_entry &entry, std::uint32_t members) {
@@ -983,9 +986,9 @@ inline std::optional<Error> add_lines(
     BadEntry found{fit, fit == calls ? "the day has no more calls" : std::string_view{}};
     for (std::size_t done = 0, copied = 0, written = 0; done < fit; done += copied) {
         const std::size_t had = text.size();
-        text.resize(had + piece);
+        text.resize(had + bytes_at_once);
         const auto answer = callauction_journal_entries(
-            entries.data() + done, fit - done, text.data() + had, piece, &copied, &written);
+            entries.data() + done, fit - done, text.data() + had, bytes_at_once, &copied, &written);
         const auto error = error_of(answer);
         if (error == Error::no_entry && fault)
             *fault = {done + copied, "the struct is no command, or has a reply that none gives"};
@@ -1004,8 +1007,8 @@ inline std::optional<Error> add_lines(
 // their order. Error::no_entry where one can't be held, and which in `fault`, if that is given; Error::bad_members
 // where they aren't 1 to 64.
 inline Result<std::string> journal_lines(
-    Span<const callauction_entry> entries, Whole members = 64, BadEntry *fault = nullptr) {
-    if (members < 1 || members > 64) return Error::bad_members;
+    Span<const callauction_entry> entries, Whole members = detail::max_members, BadEntry *fault = nullptr) {
+    if (members < 1 || members > detail::max_members) return Error::bad_members;
     std::string text;
     const auto count = static_cast<std::uint32_t>(std::int64_t{members});
     if (const auto error = detail::add_lines(text, entries, count, SIZE_MAX, fault)) return *error;
@@ -1023,7 +1026,7 @@ inline Result<std::string> journal(
     std::uint32_t count = 0;
     if (const auto unfit = detail::filled(config, given)) return *unfit;
     if (!detail::fits(members, count)) return Error::bad_members;
-    std::string text(detail::piece, '\0');
+    std::string text(detail::bytes_at_once, '\0');
     std::size_t written = 0;
     const auto answer = callauction_journal_day(&given, count, text.data(), text.size(), &written);
     const auto error = detail::error_of(answer);
@@ -1121,7 +1124,7 @@ public:
         return call(*given);
     }
 
-    // The same, but waits while another call has the board: its thread sleeps at a mutex of the board. This waiting
+    // As call, but it waits while another call has the board: its thread sleeps at a mutex of the board. This waiting
     // isn't proved.
     Result<Receipt> call_waiting(const Command &command) {
         const auto given = struct_of(0, command);
@@ -1133,14 +1136,7 @@ public:
     // too.
     template <typename Call> auto waiting(Call call) -> decltype(call()) {
         if (!handle_) return Error::no_member;
-        for (;;) {
-            {
-                const std::lock_guard<std::recursive_mutex> waits(*mutex_);
-                auto found = call();
-                if (found || found.error() != Error::busy) return found;
-            }
-            std::this_thread::yield();
-        }
+        return until_free(std::move(call), [](const auto &found) { return !found && found.error() == Error::busy; });
     }
 
     // Records structs one after another, with no other call between them, and writes their receipts, as many of each:
@@ -1159,18 +1155,13 @@ public:
         return {applied, count < commands.size() ? detail::unrecordable(commands[count]) : std::nullopt};
     }
 
-    // The same, but waits as call_waiting does.
+    // As apply_many, but it waits as call_waiting does.
     [[nodiscard]] std::pair<std::size_t, std::optional<Error>> apply_many_waiting(
         Span<const callauction_command> commands, Span<callauction_receipt> receipts) {
         if (!handle_) return {0, Error::no_member};
-        for (;;) {
-            {
-                const std::lock_guard<std::recursive_mutex> waits(*mutex_);
-                const auto found = apply_many(commands, receipts);
-                if (found.second != Error::busy) return found;
-            }
-            std::this_thread::yield();
-        }
+        return until_free(
+            [&] { return apply_many(commands, receipts); },
+            [](const auto &found) { return found.second == Error::busy; });
     }
 
     // What is shown. It takes no lock, waits for nobody, and never goes back.
@@ -1212,7 +1203,7 @@ public:
     Result<std::vector<callauction_order>> orders(
         std::optional<Whole> member = {}, std::uint32_t *calls = nullptr) {
         if (!handle_) return Error::no_member;
-        const auto of = detail::whose(member);
+        const auto of = detail::member_number(member);
         if (!of) return Error::bad_member;
         return listed(calls, [&](callauction_order *to, std::size_t room, std::size_t *copied, std::uint32_t *counted) {
             return callauction_board_orders(handle_, *of, to, room, copied, counted);
@@ -1287,6 +1278,18 @@ private:
 
     Member(callauction_member *handle, std::recursive_mutex *mutex) : handle_(handle), mutex_(mutex) {}
 
+    // What a call answers that isn't busy. Until then it is made again, each time with the mutex of the board.
+    template <typename Call, typename IsBusy> auto until_free(Call call, IsBusy is_busy) -> decltype(call()) {
+        for (;;) {
+            {
+                const std::lock_guard<std::recursive_mutex> waits(*mutex_);
+                auto found = call();
+                if (!is_busy(found)) return found;
+            }
+            std::this_thread::yield();
+        }
+    }
+
     Result<Receipt> call(const callauction_command &command) {
         if (!handle_) return Error::no_member;
         if (const auto error = detail::unrecordable(command)) return *error;
@@ -1315,7 +1318,7 @@ private:
 
 class Board {
 public:
-    static constexpr std::size_t max_members = 64;
+    static constexpr std::size_t max_members = detail::max_members;
     static constexpr std::uint32_t usual_reserve = 16; // calls, where the config has none
     static constexpr std::uint32_t most_range = 1'000'000; // ticks, in a journal
 
