@@ -179,21 +179,31 @@ class Running:
         shutil.rmtree(self.room, ignore_errors=True)
 
 
+def send_all(tasks: list[Running], how: signal.Signals) -> None:
+    """Sends a signal to the groups of those that still run."""
+    for it in tasks:
+        if it.child.poll() is None:
+            it.send(how)
+
+
+def wait_all(tasks: list[Running], most: float) -> None:
+    """Waits until all have ended, for at most so many seconds."""
+    last = time.monotonic() + most
+    for it in tasks:
+        with contextlib.suppress(subprocess.TimeoutExpired):
+            it.child.wait(max(0.0, last - time.monotonic()))
+
+
 def ask_to_end(tasks: list[Running]) -> None:
     """Ends tasks: one that proves by SIGTERM, another as by Ctrl-C, so that tests say where they
     were and take away what they made; what doesn't end is killed.
     """
     for it in tasks:
         it.send(signal.SIGTERM if it.task.is_proof else signal.SIGINT)
-    last = time.monotonic() + PATIENCE
-    for how in (signal.SIGTERM, signal.SIGKILL):
-        for it in tasks:
-            with contextlib.suppress(subprocess.TimeoutExpired):
-                it.child.wait(max(0.0, last - time.monotonic()))
-        last = time.monotonic() + PATIENCE
-        for it in tasks:
-            if it.child.poll() is None:
-                it.send(how)
+    wait_all(tasks, PATIENCE)
+    send_all(tasks, signal.SIGTERM)
+    wait_all(tasks, PATIENCE)
+    send_all(tasks, signal.SIGKILL)
     for it in tasks:
         it.child.wait()
 
