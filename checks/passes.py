@@ -9,7 +9,7 @@ from collections.abc import Iterable
 LISTED = ["git", "ls-files", "-z", "--cached", "--others", "--exclude-standard"]
 LEFT_OUT = {"out", "__pycache__", ".git", ".hypothesis", ".mypy_cache"}
 """Folders of what is made, where git doesn't say which."""
-SHOWN = 16  # digits of a sum that are written
+SHOWN = 16  # digits of a digest that are written
 
 
 def files_of(top: pathlib.Path) -> list[str]:
@@ -37,7 +37,7 @@ def mark_of(file: pathlib.Path) -> str:
     return f"{is_run} {hashlib.sha256(file.read_bytes()).hexdigest()}"
 
 
-def sum_of(top: pathlib.Path, more: str = "") -> str:
+def digest_of(top: pathlib.Path, more: str = "") -> str:
     """A SHA-256 over the names and the marks of all files of a repository, and over a text. Raises
     OSError, and CalledProcessError where git fails.
     """
@@ -50,7 +50,7 @@ def sum_of(top: pathlib.Path, more: str = "") -> str:
 class Passes:
     """The parts that passed on the same sources: each with how many of its tests, and its seconds.
 
-    A line has a part's name, a count and seconds; the first line has the sum of the sources.
+    A line has a part's name, a count and seconds; the first line has the digest of the sources.
     """
 
     def __init__(self, file: pathlib.Path, sources: str) -> None:

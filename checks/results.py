@@ -10,7 +10,7 @@ import time
 import built
 import machine
 from check_parts import Part
-from passes import Passes, Seconds, sum_of
+from passes import Passes, Seconds, digest_of
 from schedule import Ended, Schedule, Task, Viewer
 from wording import clock_text, plural
 
@@ -39,8 +39,8 @@ def kit() -> str:
 
 
 def sources() -> str:
-    """A sum over the sources and the toolchain. Raises OSError, CalledProcessError."""
-    return sum_of(built.TOP, kit())
+    """A digest of the sources and the toolchain. Raises OSError, CalledProcessError."""
+    return digest_of(built.TOP, kit())
 
 
 class Results(Viewer):
