@@ -9,7 +9,6 @@ from collections.abc import Iterable
 LISTED = ["git", "ls-files", "-z", "--cached", "--others", "--exclude-standard"]
 LEFT_OUT = {"out", "__pycache__", ".git", ".hypothesis", ".mypy_cache"}
 """Folders of what is made, where git doesn't say which."""
-SHOWN = 16  # digits of a digest that are written
 
 
 def files_of(top: pathlib.Path) -> list[str]:
