@@ -8,7 +8,7 @@ import contextlib
 import functools
 import pathlib
 import tempfile
-from collections.abc import Callable, Coroutine
+from collections.abc import Callable, Collection, Coroutine
 from typing import Any
 
 from callauction.fix._quickfix import Engine
@@ -144,24 +144,39 @@ class FixFront:
         before it on its board, else after all of them.
         """
         session, engine = seat.session, self._outbound.engine
-        for text in self._sent.former.pop(session, []):
+        await self._learn_former(seat)
+        sent = await self._restore_sent(seat)
+        passed = await self._pass_over(seat)
+        seat.epoch.owe([sent, *passed])
+        last = max([engine.next(session) - 1, *seat.epoch.owed.values()])
+        engine.set_next(session, last + 1)
+        self._sent.reach(session, last)
+
+    async def _learn_former(self, seat: Seat) -> None:
+        """Learns of what a session was sent before its last reset."""
+        for text in self._sent.former.pop(seat.session, []):
             seat.clients.learn(pairs_of(text), seat.epoch)
             await self._give_way()
-        sent = self._sent.earlier(session)
+
+    async def _restore_sent(self, seat: Seat) -> Collection[int]:
+        """Stores again what was written that a session was sent: under which numbers."""
+        sent = self._sent.earlier(seat.session)
         for number, (text, since) in sent.items():
-            engine.restore(session, number, text)
+            self._outbound.engine.restore(seat.session, number, text)
             seat.recall(pairs_of(text), since)
             await self._give_way()
+        return sent
+
+    async def _pass_over(self, seat: Seat) -> list[range]:
+        """Passes over what a session was sent and isn't sent again: its numbers."""
+        session, engine = seat.session, self._outbound.engine
         passed = self._sent.passed(session)
         for it in passed:
             engine.set_next(session, max(engine.next(session) - 1, it.last) + 1)
             for event in it.events:
                 seat.epoch.recall(event, it.last, it.since)
             await self._give_way()
-        seat.epoch.owe([sent, *(range(it.first, it.last + 1) for it in passed)])
-        last = max([engine.next(session) - 1, *seat.epoch.owed.values()])
-        engine.set_next(session, last + 1)
-        self._sent.reach(session, last)
+        return [range(it.first, it.last + 1) for it in passed]
 
     async def _give_way(self) -> None:
         """Lets others have their turn after a few of many steps: a program that has answered is
