@@ -10,7 +10,7 @@ import served
 from callauction.venue import Client, auctions, clock
 from callauction.venue.config import DayTerms, Plan
 from callauction.venue.instrument_board import InstrumentBoard
-from callauction.venue.log import SlowWrite
+from callauction.venue.log import SlowLogError
 from callauction.venue.messages import OrderMessage
 from callauction.venue.phases import Phase
 from callauction.venue.venue import Venue
@@ -43,7 +43,7 @@ def phase_of(board: InstrumentBoard) -> Phase:
 async def halt(venue: Venue, board: InstrumentBoard, whose: str, seconds: float) -> None:
     """Halts the venue or its only instrument for as many seconds."""
     if whose == "venue":
-        venue.halts.log_failed(SlowWrite())
+        venue.halts.log_failed(SlowLogError())
     else:
         board.engine._give_up("journal failed")
     await asyncio.sleep(seconds)

@@ -23,7 +23,7 @@ from callauction.venue.audience import MOST_OF_MEMBER
 from callauction.venue.config import DayTerms, InstrumentTerms
 from callauction.venue.gates import Gates
 from callauction.venue.http import Site
-from callauction.venue.log import ChangedByOthers, Log, SlowWrite
+from callauction.venue.log import ChangedLogError, Log, SlowLogError
 from callauction.venue.members import NameTakenError, VenueMember
 from callauction.venue.messages import MessageError, OrderMessage
 from callauction.venue.metrics import Measures
@@ -76,7 +76,7 @@ async def test_what_to_do_about_a_log_that_others_changed(
 ) -> None:
     """A log that waits for its disk needs no file."""
     full = OSError(errno.ENOSPC, "No space left on device")
-    for fault in (ChangedByOthers(), SlowWrite(), full):
+    for fault in (ChangedLogError(), SlowLogError(), full):
         inside.halts.log_failed(fault)
         assert halted_of(inside) == {(): 1.0, ("XYZ",): 1.0}
         inside.halts.log_goes_on()

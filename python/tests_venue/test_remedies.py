@@ -8,14 +8,15 @@ import subprocess
 import pytest
 import served
 from callauction.venue import owned, remedies
-from callauction.venue.log import LogError, LogInUse, OtherVersion
+from callauction.venue.log import LogError, LogInUseError, LogVersionError
 from callauction.venue.process import ProcessError
 from callauction.venue.recovery import RecoveryError
 from served import ended
 
 SAID = [
-    (LogInUse("L is in use by another venue"), "end that one, or --folder NEW begins anew", 2),
-    (OtherVersion("L is the log of another version"), "go on by that, or --folder NEW begins", 1),
+    (LogInUseError("L is in use by another venue"), "end that one, or --folder NEW begins anew", 2),
+    (LogVersionError("L is the log of another version"),
+     "go on by that, or --folder NEW begins", 1),
     (LogError("L: line 2 is no line of a log"), "put the right file, or the last copy, back", 1),
     (RecoveryError("entry 2 of the journal"), "put the right file, or the last copy, back", 1),
     (ProcessError("journal in use", 2), "end the program that has it, or --folder NEW", 2),

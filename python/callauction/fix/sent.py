@@ -64,7 +64,7 @@ class SentMessages:
     """The messages that sessions were sent since they were last reset, and in `former` those from
     before; by CompID, in whichever version of FIX, the epoch that its last reset began, and the
     mark of the last restore before that, if any. `on_fault` of the log is called where it can't be
-    written. Raises LogError, LogInUse, OwnerError and OSError.
+    written. Raises LogError, LogInUseError, OwnerError and OSError.
     """
 
     def __init__(self, folder: pathlib.Path, is_synced: bool) -> None:

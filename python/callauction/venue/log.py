@@ -56,11 +56,11 @@ class LogError(Exception):
     """The log can't be used: a line of it is no line, or it is of another version."""
 
 
-class LogInUse(LogError):
+class LogInUseError(LogError):
     """Another venue has the log."""
 
 
-class OtherVersion(LogError):
+class LogVersionError(LogError):
     """The log is of another version."""
 
 
@@ -105,9 +105,9 @@ def line_fields(line: Line) -> list[tuple[str, type]]:
 
 
 def check_version(lines: list[Line], path: pathlib.Path) -> None:
-    """Raises OtherVersion where the lines of a log are another version's."""
+    """Raises LogVersionError where the lines of a log are another version's."""
     if lines and lines[0].get("version") != VERSION:
-        raise OtherVersion(f"{path} is the log of another version")
+        raise LogVersionError(f"{path} is the log of another version")
 
 
 @contextlib.contextmanager
@@ -120,14 +120,14 @@ def taking(line: Line) -> Iterator[None]:
         raise LogError(f"this line of the log can't be: {text}") from None
 
 
-class SlowWrite(OSError):
+class SlowLogError(OSError):
     """A write of the log doesn't end; what waits for it goes on once it does."""
 
     def __init__(self) -> None:
         super().__init__(0, f"it waits for the disk for more than {WRITE_SECONDS:g} s")
 
 
-class ChangedByOthers(OSError):
+class ChangedLogError(OSError):
     """The log isn't as it was left: it was moved, cut, or written to by somebody else."""
 
     def __init__(self) -> None:
@@ -139,7 +139,8 @@ class Log:
     written, and `on_written` where a write ends that was said to be slow. Nothing is written while
     it isn't as it was left: what follows from it would be lost.
 
-    Raises LogInUse where another has it, OwnerError where others may read or write it, and OSError.
+    Raises LogInUseError where another has it, OwnerError where others may read or write it, and
+    OSError.
     """
 
     def __init__(self, path: pathlib.Path, is_synced: bool = True) -> None:
@@ -150,7 +151,7 @@ class Log:
         except BlockingIOError:
             os.close(self._file)
             who = "".join(f", process {it}" for it in leftovers.holders_of(path))
-            raise LogInUse(f"{path} is in use by another venue{who}") from None
+            raise LogInUseError(f"{path} is in use by another venue{who}") from None
         if is_synced:
             owned.sync_folder(path.parent)
         self._length = 0
@@ -284,7 +285,7 @@ class Log:
     def _slow(self) -> None:
         """A write takes long."""
         self._is_slow = True
-        self.on_fault(SlowWrite())
+        self.on_fault(SlowLogError())
 
     async def look(self) -> None:
         """Takes it for failed where others have changed it, as at the next write."""
@@ -301,14 +302,14 @@ class Log:
         self._retries.set()
 
     def _check(self) -> None:
-        """Raises ChangedByOthers where others have changed it."""
+        """Raises ChangedLogError where others have changed it."""
         own = os.fstat(self._file)
         try:
             found = os.lstat(self.path)
         except FileNotFoundError:
-            raise ChangedByOthers from None
+            raise ChangedLogError from None
         if not os.path.samestat(own, found) or own.st_size != self._length:
-            raise ChangedByOthers
+            raise ChangedLogError
 
     def _write(self, data: bytes) -> None:
         """Writes bytes at the end, or nothing. Raises OSError."""

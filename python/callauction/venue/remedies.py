@@ -6,7 +6,7 @@ from callauction.statuses import BAD_DAY, BAD_FILE, FAILED, UNLAWFUL
 from callauction.venue.day_changes import BEGIN_ANEW, OtherDayError
 from callauction.venue.fields import ConfigError
 from callauction.venue.listening_address import AddressError
-from callauction.venue.log import LogError, LogInUse, OtherVersion
+from callauction.venue.log import LogError, LogInUseError, LogVersionError
 from callauction.venue.owned import OwnerError
 from callauction.venue.process import ProcessError
 from callauction.venue.recovery import RecoveryError
@@ -67,9 +67,9 @@ def start_fault_said(fault: Exception) -> tuple[str, int]:
     start.
     """
     match fault:
-        case LogInUse():
+        case LogInUseError():
             return f"{fault}: end that one, or {BEGIN_ANEW}", BAD_DAY
-        case OtherVersion():
+        case LogVersionError():
             return f"{fault}: go on by that, or {BEGIN_ANEW}", BAD_FILE
         case LogError() | RecoveryError():
             return f"{unstarted_board(fault)}{fault}: {PUT_FILE_BACK}", BAD_FILE
