@@ -327,7 +327,7 @@ def test_the_last_commands(member: str, used: dict[str, int], left: int, most: i
     """Of a day of 65,536 commands, of which a name has 1,040 of the last 16,384: what is left but
     for the parts of other codes, divided by 16, else 20 and at most a quarter.
     """
-    assert last_quarter.most(member, used, left, 16_384, 1040) == most
+    assert last_quarter.most_commands(member, used, left, 16_384, 1040) == most
 
 
 def test_the_codes_of_a_board(tmp_path: pathlib.Path) -> None:

@@ -173,7 +173,7 @@ class Commands:
         if bound.last_calls is None or bound.calls >= self._terms.calls or left > last:
             return
         left, used = left - is_entered, self._used_by_code()
-        most = last_quarter.most(member, used, left, last, bound.last_calls)
+        most = last_quarter.most_commands(member, used, left, last, bound.last_calls)
         allowance.check_last(self._used(member), most)
 
     @property

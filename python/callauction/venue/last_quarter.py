@@ -16,12 +16,14 @@ NAME_PART, LITTLE = 16, 20
 """A name has a sixteenth of what is left; or so many, where that is at most a quarter of it."""
 
 
-def most_of(left: int) -> int:
+def room_of_name(left: int) -> int:
     """How many commands one name may have had that has one more of these that are left."""
     return max(left // NAME_PART, min(LITTLE, -(-left // LAST_PART)))
 
 
-def most(member: str, used: Mapping[str, int], left: int, last: int, of_name: int) -> int:
+def most_commands(
+    member: str, used: Mapping[str, int], left: int, last: int, of_name: int
+) -> int:
     """How many commands a member may have had that has one more of those that are left of the last
     ones, and is never to have more than `of_name` then; under each code as many were `used`.
     """
@@ -29,5 +31,5 @@ def most(member: str, used: Mapping[str, int], left: int, last: int, of_name: in
     parts = {code: equal if code == CLASS_CODE else min(equal, of_name) for code in used}
     code = member if member in used else CLASS_CODE
     kept = sum(max(0, parts[it] - used[it]) for it in used if it != code)
-    rest = min(of_name, most_of(max(0, left - kept)))
+    rest = min(of_name, room_of_name(max(0, left - kept)))
     return rest if code == CLASS_CODE else max(rest, parts[code])

@@ -59,7 +59,7 @@ class Venue:
         self.values = Values(*whom, self.audience)
         parts = VenueParts(day, *whom, self.audience, self.values, self.halts)
         self.past = Past(parts)
-        self.starts = Starts(parts, self.past, self._begun)
+        self.starts = Starts(parts, self.past, self._start_task)
         self.groups = Groups(parts, self.starts)
         self.certificate_ends: float | None = None
         self.certificate_names: list[str] = []
@@ -82,7 +82,7 @@ class Venue:
         board.commands.codes = functools.partial(self._codes_of, board)
         looks.wanted, looks.wants_ladder = audience.wanted, audience.has_viewers
         looks.on_shown = functools.partial(audience.show_news, board)
-        auctions.on_late = functools.partial(self._is_late, board)
+        auctions.on_late = functools.partial(self._note_late, board)
         auctions.has_venue_halted = lambda: self.halts.halted is not None
 
     def _codes_of(self, board: InstrumentBoard) -> list[str]:
@@ -107,7 +107,7 @@ class Venue:
         for board in self.rounds.now.boards.values():
             self._changed(board)
 
-    def _is_late(self, board: InstrumentBoard) -> None:
+    def _note_late(self, board: InstrumentBoard) -> None:
         """A call has ended before those who were away could do anything."""
         self.audience.standing.late[board.identity.name] = self.time.say_late(board)
         self.audience.standing.show_to_operator()
@@ -142,8 +142,8 @@ class Venue:
                 await self.starts.begin(self.rounds.boards[key])
         self.time.has_opened = True
         self.groups.begin()
-        self._begun(self._robots.run())
-        self._begun(self._look())
+        self._start_task(self._robots.run())
+        self._start_task(self._look())
         return sum(board.engine.journal.count for board in self.rounds.boards.values())
 
     def _learn(self, lines: list[Line]) -> None:
@@ -182,7 +182,7 @@ class Venue:
                 NOTICES.warning(room.DISK_NEARLY_FULL.format(self.folder, left // room.MIB))
             self._is_low = left < (2 * room.LOW_BYTES if self._is_low else room.LOW_BYTES)
 
-    def _begun(self, work: Coroutine[Any, Any, None]) -> asyncio.Task[None]:
+    def _start_task(self, work: Coroutine[Any, Any, None]) -> asyncio.Task[None]:
         """A task of the venue, which ends with it, or where the log can't be written."""
 
         async def done() -> None:
@@ -311,7 +311,7 @@ class Venue:
             for board in self.rounds.boards_of(member).values():
                 board.leave(member.name)
         found, boards = Removal(members), self.rounds.now.boards.values()
-        tasks = {board: self._begun(found.take_out(board)) for board in boards}
+        tasks = {board: self._start_task(found.take_out(board)) for board in boards}
         for board in boards:
             self.audience.show_gains(board)
         self.audience.show_members()
