@@ -16,10 +16,10 @@ import served
 from callauction.venue import AsyncClient, Client
 from callauction.venue.recovery import (
     Entry,
+    JournalDigest,
     JournalMark,
     RecoveryError,
     RolledBackError,
-    Sum,
     known_entries,
     mark_of,
 )
@@ -41,7 +41,7 @@ OF_TWO = "584dfd9ab8db19624f2addd0ce8c86b3450353b3416cd59e3a298424c768f169"
 
 
 def test_a_mark_of_the_same_entries() -> None:
-    mark = Sum(ENTRIES[:2]).mark
+    mark = JournalDigest(ENTRIES[:2]).mark
     assert mark == JournalMark(2, OF_TWO)
     mark.check(ENTRIES)
     mark.check(ENTRIES[:2])
@@ -51,7 +51,7 @@ def test_a_mark_of_the_same_entries() -> None:
 
 def test_a_journal_with_fewer_entries() -> None:
     with pytest.raises(RolledBackError) as found:
-        Sum(ENTRIES).mark.check(ENTRIES[:1])
+        JournalDigest(ENTRIES).mark.check(ENTRIES[:1])
     assert str(found.value) == (
         "the journal is an older one: it has 1 entries, and the log knows of 3"
     )
@@ -60,12 +60,13 @@ def test_a_journal_with_fewer_entries() -> None:
 def test_a_journal_with_other_entries() -> None:
     other = [ENTRIES[0], Entry(2, "1,delete,2", "refused 5 UnknownOrder"), ENTRIES[2]]
     with pytest.raises(RolledBackError) as found:
-        Sum(ENTRIES).mark.check(other)
+        JournalDigest(ENTRIES).mark.check(other)
     assert str(found.value) == (
         "the journal is another one: its first 2 entries aren't those of which the log knows"
     )
     with pytest.raises(RolledBackError) as found:
-        JournalMark(3, Sum(ENTRIES).mark.sha256).check(other)  # of a log that has no earlier mark
+        # of a log that has no earlier mark
+        JournalMark(3, JournalDigest(ENTRIES).mark.sha256).check(other)
     assert str(found.value) == (
         "the journal is another one: its first 3 entries aren't those of which the log knows"
     )
@@ -76,8 +77,8 @@ def test_a_journal_whose_entries_differ_from_the_first_on(count: int) -> None:
     """It is no older one, also where it has fewer entries, by a mark of the first one."""
     other = [Entry(place, f"2,delete,{place}", "deleted") for place in range(1, count + 1)]
     lines = [{"kind": "mark", "entries": it.entries, "sha256": it.sha256}
-             for it in (Sum(ENTRIES[:1]).mark, Sum(ENTRIES).mark)]
-    for mark in (Sum(ENTRIES).mark, mark_of(lines)):
+             for it in (JournalDigest(ENTRIES[:1]).mark, JournalDigest(ENTRIES).mark)]
+    for mark in (JournalDigest(ENTRIES).mark, mark_of(lines)):
         with pytest.raises(RolledBackError) as found:
             mark.check(other)
         assert str(found.value) == ROLLED_BACK["another day's"]
@@ -98,7 +99,7 @@ def test_entries_behind_the_room_of_a_journal(
     lines = "".join(f"{it.record},{it.reply}\n" for it in ENTRIES)
     path.write_text("the day\n" + lines + "\0" * 4096 + behind + "\0" * 20)
     try:
-        assert (known_entries(path, Sum(ENTRIES).mark), said) == (ENTRIES, "")
+        assert (known_entries(path, JournalDigest(ENTRIES).mark), said) == (ENTRIES, "")
     except RecoveryError as fault:
         assert str(fault) == said
 

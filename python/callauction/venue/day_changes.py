@@ -39,9 +39,9 @@ def date_of(moment: float) -> str:
 
 
 def kept(day: config.DayTerms) -> Line:
-    """What is written down of a day: the terms of its instruments, and a sum of each part."""
+    """What is written down of a day: the terms of its instruments, and a digest of each part."""
     parts = {
-        DAY_FILE_KEYS.get(field.name, field.name): sum_of(getattr(day, field.name))
+        DAY_FILE_KEYS.get(field.name, field.name): digest_of(getattr(day, field.name))
         for field in dataclasses.fields(day)
     }
     found: Line = {"instruments": {it.name: terms_kept(it) for it in day.instruments}}
@@ -55,7 +55,7 @@ def sessions_kept(day: config.DayTerms) -> dict[str, str]:
     return {**day.fix.sessions} | ({day.fix.copy: ""} if day.fix.copy else {})
 
 
-def sum_of(part: object) -> str:
+def digest_of(part: object) -> str:
     """What tells a part of a day from another one."""
     return hashlib.sha256(repr(part).encode("utf-8")).hexdigest()
 

@@ -13,7 +13,7 @@ from typing import Any, ParamSpec, TypeVar
 from callauction.venue import ending, owned
 from callauction.venue.log import Log, line_text
 from callauction.venue.recovery import (
-    OTHER_FIRST, Entry, JournalMark, RolledBackError, Sum, journal_sums, known_entries,
+    OTHER_FIRST, Entry, JournalDigest, JournalMark, RolledBackError, journal_digests, known_entries,
 )
 
 JOURNAL = ".journal.csv"
@@ -33,27 +33,27 @@ class InstrumentJournal:
     def __init__(self, name: str, path: pathlib.Path, log: Log) -> None:
         self.name, self.path, self._log = name, path, log
         self.first = ""
-        self._sum, self._is_marked = Sum(), True
+        self._digest, self._is_marked = JournalDigest(), True
         self._looked: object = None
 
     @property
     def count(self) -> int:
         """How many entries it has, as far as they were answered."""
-        return self._sum.count
+        return self._digest.count
 
     @property
     def mark(self) -> JournalMark:
         """The mark of these entries, and of its first line, as far as that is known."""
-        return dataclasses.replace(self._sum.mark, first=self.first)
+        return dataclasses.replace(self._digest.mark, first=self.first)
 
     def begin(self, entries: Iterable[Entry]) -> None:
         """It has these entries, from earlier runs."""
-        self._sum = Sum(entries)
+        self._digest = JournalDigest(entries)
 
     def add(self, entry: Entry, is_marked: bool) -> None:
         """It has one entry more, of which the log has a mark at once, as of the first one, or soon.
         """
-        self._sum.add(entry)
+        self._digest.add(entry)
         if self._is_marked:
             self._is_marked = False
             asyncio.get_running_loop().call_later(MARK_SECONDS, self.note_mark)
@@ -88,14 +88,14 @@ class InstrumentJournal:
         """Raises RecoveryError, or OwnerError, where it isn't as its program has written it, as far
         as it was answered, and OSError. It is read where something has changed since the last look.
         """
-        mark, size = self.mark, self._sum.size
+        mark, size = self.mark, self._digest.size
         state = file_state(self.path), mark
         if state == self._looked:
             return
         if not owned.check_file(self.path):
             await self.known_entries(mark)  # which says that it is missing
             raise RolledBackError("the journal is missing")
-        first, rest = await self.in_thread(journal_sums, self.path, size)
+        first, rest = await self.in_thread(journal_digests, self.path, size)
         self.first = self.first or first
         if (first, rest) != (self.first, mark.sha256):
             await self.known_entries(dataclasses.replace(mark, first=self.first))

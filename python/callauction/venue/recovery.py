@@ -94,7 +94,7 @@ class JournalMark:
             text = f"the journal is missing, and the log knows of {self.entries} entries"
             raise RolledBackError(text)
         is_whole = len(entries) >= self.entries
-        if not is_whole or (self.sha256 and Sum(entries[: self.entries]).mark != self):
+        if not is_whole or (self.sha256 and JournalDigest(entries[: self.entries]).mark != self):
             raise RolledBackError(self._why(entries))
 
     def _why(self, entries: Sequence[Entry]) -> str:
@@ -113,7 +113,7 @@ class JournalMark:
         where it's known of none.
         """
         known = dict([*self.earlier, (self.entries, self.sha256)])
-        found = Sum()
+        found = JournalDigest()
         for entry in entries[: self.entries]:
             found.add(entry)
             if (digest := known.get(found.count)) and digest != found.mark.sha256:
@@ -121,13 +121,13 @@ class JournalMark:
         return 0
 
 
-class Sum:
+class JournalDigest:
     """A running SHA-256 of the entries of a journal, which have `size` bytes. Its mark has earlier
     ones, of the first 50 entries each, and then as far apart as a 50th of what was before.
     """
 
     def __init__(self, entries: Iterable[Entry] = ()) -> None:
-        self.count, self.size, self._sum = 0, 0, hashlib.sha256()
+        self.count, self.size, self._digest = 0, 0, hashlib.sha256()
         self._earlier: list[tuple[int, str]] = []
         self._next = 1
         for entry in entries:
@@ -138,18 +138,18 @@ class Sum:
         self.count += 1
         line = f"{entry.record},{entry.reply}\n".encode("latin-1")
         self.size += len(line)
-        self._sum.update(line)
+        self._digest.update(line)
         if self.count == self._next:
-            self._earlier.append((self.count, self._sum.hexdigest()))
+            self._earlier.append((self.count, self._digest.hexdigest()))
             self._next += 1 + self.count // 50
 
     @property
     def mark(self) -> JournalMark:
         """What is written down of these entries."""
-        return JournalMark(self.count, self._sum.hexdigest(), earlier=self._earlier)
+        return JournalMark(self.count, self._digest.hexdigest(), earlier=self._earlier)
 
 
-def journal_sums(path: pathlib.Path, size: int) -> tuple[str, str]:
+def journal_digests(path: pathlib.Path, size: int) -> tuple[str, str]:
     """The SHA-256 of a journal's first line, and of as many bytes behind it. Raises OSError."""
     with open(path, "rb") as file:
         first, rest = hashlib.sha256(file.readline(JOURNAL_BLOCK)), hashlib.sha256()
