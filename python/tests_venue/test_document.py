@@ -8,7 +8,7 @@ import time
 import served
 from callauction.venue import Client, downloads, operator_words
 from callauction.venue.config import DayTerms
-from callauction.venue.instrument_board import BoardIdentity, Common, InstrumentBoard
+from callauction.venue.instrument_board import BoardIdentity, InstrumentBoard, VenueResources
 from callauction.venue.log import Log
 from callauction.venue.members import Members
 from served import Served
@@ -94,8 +94,8 @@ def downloads_named() -> dict[str, str]:
 def test_the_files_of_downloads_are_named(tmp_path: pathlib.Path) -> None:
     """As they are saved, in English."""
     day, kept = DayTerms(), Log(tmp_path / "venue.log")
-    common = Common(day, tmp_path, "none", kept)
-    board = InstrumentBoard(BoardIdentity("XYZ"), day.instruments[0], day.rounds[0], common)
+    resources = VenueResources(day, tmp_path, "none", kept)
+    board = InstrumentBoard(BoardIdentity("XYZ"), day.instruments[0], day.rounds[0], resources)
     began = time.mktime((2026, 11, 30, 9, 0, 0, 0, 0, -1))
     lesson = downloads.Lesson(day, [], Members(day.members, kept), "none", began)
     for file, form in downloads_named().items():

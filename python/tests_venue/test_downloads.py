@@ -23,7 +23,7 @@ import pytest
 import served
 from callauction.pages import html_table
 from callauction.venue import Client, VenueError, config, copies, downloads, log, report
-from callauction.venue.instrument_board import BoardIdentity, Common, InstrumentBoard
+from callauction.venue.instrument_board import BoardIdentity, InstrumentBoard, VenueResources
 from callauction.venue.members import Members
 from conftest import FAST
 from patience import until
@@ -255,8 +255,8 @@ def test_the_name_of_a_file(
     day = config.DayTerms(title=' Märkte 1: "Stunde/2" ')
     terms, began = day.instruments[0], 1_764_288_000.0
     kept = log.Log(tmp_path / "venue.log")
-    common = Common(day, tmp_path, "none", kept)
-    board = InstrumentBoard(BoardIdentity("XYZ"), terms, day.rounds[0], common)
+    resources = VenueResources(day, tmp_path, "none", kept)
+    board = InstrumentBoard(BoardIdentity("XYZ"), terms, day.rounds[0], resources)
     lesson = downloads.Lesson(day, [], Members(day.members, kept), "none", began)
     name = downloads.file_of(kind, lesson, board, language)
     assert name == wanted.format(time.strftime("%Y-%m-%d", time.localtime(began)))

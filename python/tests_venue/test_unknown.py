@@ -12,7 +12,7 @@ import served
 from browsing import SCREEN, TELEPHONE, opened
 from callauction.venue import AsyncClient, Client, VenueError
 from callauction.venue.config import DayTerms, InstrumentTerms
-from callauction.venue.instrument_board import BoardIdentity, Common, InstrumentBoard
+from callauction.venue.instrument_board import BoardIdentity, InstrumentBoard, VenueResources
 from callauction.venue.log import Log
 from callauction.venue.messages import MessageError
 from callauction.venue.treatments import Treatment
@@ -162,8 +162,8 @@ def test_what_isnt_measured_in_a_halt_since_the_start(tmp_path: pathlib.Path) ->
 
 def test_what_is_said_before_a_first_look(tmp_path: pathlib.Path) -> None:
     """An instrument that begins hasn't halted."""
-    common = Common(DayTerms(), tmp_path, "none", Log(tmp_path / "log"))
-    board = InstrumentBoard(BoardIdentity("XYZ"), InstrumentTerms(), Treatment(), common)
+    resources = VenueResources(DayTerms(), tmp_path, "none", Log(tmp_path / "log"))
+    board = InstrumentBoard(BoardIdentity("XYZ"), InstrumentTerms(), Treatment(), resources)
     for halted, does in ((None, "begins"), ("journal failed", "has halted")):
         board.engine.halted = halted
         with pytest.raises(MessageError) as found:

@@ -10,7 +10,7 @@ from callauction.venue import robots
 from callauction.venue.accounts import MemberFill
 from callauction.venue.config import DayTerms, InstrumentTerms
 from callauction.venue.gains import ShareValue
-from callauction.venue.instrument_board import BoardIdentity, Common, InstrumentBoard
+from callauction.venue.instrument_board import BoardIdentity, InstrumentBoard, VenueResources
 from callauction.venue.log import Log
 from callauction.venue.treatments import Treatment
 from hypothesis import given
@@ -106,8 +106,8 @@ def log(tmp_path_factory: pytest.TempPathFactory) -> Log:
        st.integers(0, 10))
 def test_the_order_of_a_robot(log: Log, kind: str, side: str, tick: int, traded: int) -> None:
     """No robot offers more than is left of its value, nor at a loss."""
-    common = Common(DayTerms(), pathlib.Path("/nowhere"), "none", log)
-    board = InstrumentBoard(BoardIdentity("XYZ"), InstrumentTerms(), Treatment(), common)
+    resources = VenueResources(DayTerms(), pathlib.Path("/nowhere"), "none", log)
+    board = InstrumentBoard(BoardIdentity("XYZ"), InstrumentTerms(), Treatment(), resources)
     board.book.give("Robot 1", 1)
     board.accounts.give({"Robot 1": ShareValue(side, tick, 10)}, True, 0)
     board.accounts.fills["Robot 1"] = [MemberFill(1, 1, side, traded, tick)] if traded else []

@@ -7,8 +7,8 @@ from callauction.venue.instrument_board import InstrumentBoard
 from callauction.venue.json_types import Json
 from callauction.venue.log import Log
 from callauction.venue.members import Members, VenueMember
-from callauction.venue.payoff_view import Paid
-from callauction.venue.round_view import Standing
+from callauction.venue.payoff_view import PayoffView
+from callauction.venue.round_view import RoundView
 from callauction.venue.rounds import Rounds
 from callauction.venue.screen import Screen
 from callauction.venue.watchers import Watcher, Watchers
@@ -29,8 +29,8 @@ class Audience:
         self._members, self._rounds, self._halts = members, rounds, halts
         self.watchers: Watchers = {}
         self.screen = Screen(members, rounds)
-        self.standing = Standing(day, rounds, self.watchers)
-        self.paid = Paid(day, members, rounds, self.watchers)
+        self.round_view = RoundView(day, rounds, self.watchers)
+        self.payoff_view = PayoffView(day, members, rounds, self.watchers)
 
     def watching(self, board: InstrumentBoard) -> Iterator[Watcher]:
         """Who sees a board."""
@@ -60,9 +60,9 @@ class Audience:
 
     def show_state(self, board: InstrumentBoard) -> None:
         """Shows all what everybody may see."""
-        if board.identity.name in self.standing.late and not board.auctions.is_late:
-            del self.standing.late[board.identity.name]
-            self.standing.show_to_operator()
+        if board.identity.name in self.round_view.late and not board.auctions.is_late:
+            del self.round_view.late[board.identity.name]
+            self.round_view.show_to_operator()
         state = self.state_of(board)
         for watcher in self.watching(board):
             if "states" in watcher.topics:
@@ -75,7 +75,7 @@ class Audience:
             self.show_state(board)
             board.looks.touch()
         elif board.identity.round < self._rounds.now.number:
-            self.standing.show_to_operator()
+            self.round_view.show_to_operator()
 
     def show_news(self, board: InstrumentBoard, members: frozenset[str], traded: bool) -> None:
         """The program has shown something new; of an earlier round it is what that came to, and of
@@ -83,7 +83,7 @@ class Audience:
         """
         if board not in self._rounds.now.boards.values():
             if board.identity.round < self._rounds.now.number:
-                self.paid.show()
+                self.payoff_view.show()
             return
         self.show_state(board)
         name = board.terms.name
@@ -111,7 +111,7 @@ class Audience:
                 elif "fills" in watcher.topics:
                     watcher.offer(f"fills {name}", shown.fills_of(board, watcher.member.name))
         self.show_members()
-        self.paid.show()
+        self.payoff_view.show()
 
     def _show_book(self, board: InstrumentBoard, watcher: Watcher, is_all: bool) -> None:
         """Shows the operator, or others as far as the operator lets them, the course and the book;
@@ -164,7 +164,7 @@ class Audience:
         """Shows the operator who is there, and the screen how many."""
         there = {it.member for it in self.watchers}
         found = shown.members_of(self._members, there, self._rounds)
-        screen = self.screen.shown(there, self.paid.shows)
+        screen = self.screen.shown(there, self.payoff_view.shows)
         for watcher in self.watchers:
             if watcher.role == "operator":
                 watcher.offer("members", found)
@@ -188,14 +188,14 @@ class Audience:
 
     def greet(self, watcher: Watcher) -> None:
         """Shows somebody who has come what it may see."""
-        self.standing.offer(watcher)
+        self.round_view.offer(watcher)
         member = watcher.member
         for board in self._rounds.boards_of(member).values():
             if "states" in watcher.topics:
                 watcher.offer(f"state {board.terms.name}", self.state_of(board))
             self._greet_with_lists(watcher, board)
             board.looks.touch([member.name] if member else [])
-        self.paid.show_to([watcher])
+        self.payoff_view.show_to([watcher])
         self.show_members()
 
     def show_all(self) -> None:
@@ -234,7 +234,7 @@ class Audience:
 
     def show_paid(self, what: str) -> None:
         """What members see of payoffs. Raises MessageError."""
-        self.paid.choose(what)
+        self.payoff_view.choose(what)
         self._log.note(kind="payoffs", shows=what)
-        self.paid.show()
+        self.payoff_view.show()
         self.show_members()

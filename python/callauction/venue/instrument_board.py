@@ -53,7 +53,7 @@ class BoardIdentity:
 
 
 @dataclasses.dataclass(frozen=True)
-class Common:
+class VenueResources:
     """What the boards of a venue have in common: its day, its folder, their program, its log, and
     that log's lines of the restores of the day.
     """
@@ -75,15 +75,15 @@ class InstrumentBoard:
         identity: BoardIdentity,
         terms: config.InstrumentTerms,
         treatment: Treatment,
-        common: Common,
+        resources: VenueResources,
     ) -> None:
         terms = dataclasses.replace(terms.in_round(treatment), name=identity.name)
-        journal, day = common.folder / f"{identity.key}{JOURNAL}", common.day
-        words = [common.program, "--live", "--journal", str(journal)]
+        journal, day = resources.folder / f"{identity.key}{JOURNAL}", resources.day
+        words = [resources.program, "--live", "--journal", str(journal)]
         words += ["--reserve", str(day.reserve), *([] if day.is_synced else ["--sync", "none"])]
-        engine = Engine(identity.key, [*words, *terms.words()], journal, common.log)
+        engine = Engine(identity.key, [*words, *terms.words()], journal, resources.log)
         self.identity, self.terms, self.engine = identity, terms, engine
-        self._restores, self.has_run = common.restores, False
+        self._restores, self.has_run = resources.restores, False
         self.book, self.accounts = MemberBook(), Accounts(terms.uncovered, treatment.shares)
         self.commands = Commands(terms, treatment, day, engine, self.book, self.accounts)
         self.auctions = Auctions(plan_of(day.plan, treatment), engine, self.book)

@@ -66,7 +66,7 @@ class Past:
         elif kind == "beamer":
             self._audience.screen.shows = line["shows"]
         elif kind == "payoffs":
-            self._audience.paid.shows = line["shows"]
+            self._audience.payoff_view.shows = line["shows"]
         elif kind in ("treat", "message", "dealt", "listed", "deal"):
             self._replay_round(self._rounds.all[line["round"] - 1], line)
 

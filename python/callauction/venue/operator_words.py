@@ -130,7 +130,7 @@ async def step(venue: Venue, word: str, message: dict[str, Any]) -> Json:
             faults.append(fault)
     if len(faults) == len(boards):
         raise faults[0]
-    venue.audience.standing.show()
+    venue.audience.round_view.show()
     if not replies:
         return {}
     return {"reply": next(iter(replies.values())), "replies": replies}
@@ -187,7 +187,7 @@ async def announce(venue: Venue, message: dict[str, Any]) -> Json:
     if not SENTENCE.fullmatch(text):
         raise MessageError("bad_message", f"text {flaw_of(text, SENTENCE)}")
     venue.rounds.announce(text)
-    venue.audience.standing.show()
+    venue.audience.round_view.show()
     return {}
 
 

@@ -13,7 +13,7 @@ too.
 """
 
 
-class Paid:
+class PayoffView:
     """What the members of a venue are paid, and what of it they see, by what it `shows`."""
 
     def __init__(

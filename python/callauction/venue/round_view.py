@@ -5,7 +5,7 @@ from callauction.venue.rounds import Rounds
 from callauction.venue.watchers import Watcher, Watchers
 
 
-class Standing:
+class RoundView:
     """Where a venue stands; `late` has why calls are late and what comes of them, by the names of
     their boards.
     """

@@ -7,7 +7,7 @@ from collections.abc import Callable, Iterable, Mapping, Sequence
 
 from callauction.venue import config
 from callauction.venue.gains import ShareValue
-from callauction.venue.instrument_board import BoardIdentity, Common, InstrumentBoard
+from callauction.venue.instrument_board import BoardIdentity, InstrumentBoard, VenueResources
 from callauction.venue.log import Line, Log, taking
 from callauction.venue.members import VenueMember
 from callauction.venue.messages import MessageError
@@ -102,8 +102,8 @@ class Rounds:
 
     def __init__(self, day: config.DayTerms, folder: pathlib.Path, program: str, log: Log) -> None:
         self._day, self._log, self.all = day, log, list[Round]()
-        self._common = Common(day, folder, program, log)
-        self.restores = self._common.restores
+        self._resources = VenueResources(day, folder, program, log)
+        self.restores = self._resources.restores
         self.on_board: Callable[[InstrumentBoard], None] = lambda board: None
 
     @property
@@ -130,7 +130,7 @@ class Rounds:
         added = []
         for terms in self._day.instruments:
             identity = BoardIdentity(terms.name, group, round_.number)
-            board = InstrumentBoard(identity, terms, round_.treatment, self._common)
+            board = InstrumentBoard(identity, terms, round_.treatment, self._resources)
             self.on_board(board)
             round_.boards[identity.name] = board
             added.append(board)

@@ -109,8 +109,8 @@ class Venue:
 
     def _note_late(self, board: InstrumentBoard) -> None:
         """A call has ended before those who were away could do anything."""
-        self.audience.standing.late[board.identity.name] = self.time.say_late(board)
-        self.audience.standing.show_to_operator()
+        self.audience.round_view.late[board.identity.name] = self.time.say_late(board)
+        self.audience.round_view.show_to_operator()
 
     # ---- begin and end
 
