@@ -103,7 +103,7 @@ def read_file(path: pathlib.Path) -> bytes:
     """A file of a day, which is no link. Raises OSError, and CopyError where it is another's."""
     if not NAME.fullmatch(path.name):
         raise CopyError(f"{str(path)!r} is no name that a file of a day has")
-    return owned.whole(path, MOST_COPIED_BYTES, os.O_NOFOLLOW)
+    return owned.read_whole(path, MOST_COPIED_BYTES, os.O_NOFOLLOW)
 
 
 def consistent(files: Files, begun: int | None = None) -> Files:

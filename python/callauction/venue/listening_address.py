@@ -79,8 +79,9 @@ class Address:
             return None
         found = ssl.create_default_context(ssl.Purpose.CLIENT_AUTH)
         try:
-            cert = owned.whole(pathlib.Path(self.cert), MOST_PEM_BYTES)
-            key = owned.whole(pathlib.Path(self.key or ""), MOST_PEM_BYTES, judge=owned.check_key)
+            cert = owned.read_whole(pathlib.Path(self.cert), MOST_PEM_BYTES)
+            key_path = pathlib.Path(self.key or "")
+            key = owned.read_whole(key_path, MOST_PEM_BYTES, judge=owned.check_key)
             found.load_cert_chain(self.cert, self.key, refuse_to_ask)
             check_time(self.cert)
         except owned.OwnerError as fault:

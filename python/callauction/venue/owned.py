@@ -98,12 +98,12 @@ def secret_bytes(path: pathlib.Path, most: int) -> bytes:
 
 
 def trusted(path: pathlib.Path, most: int) -> bytes:
-    """The bytes of a file that this user and root alone may write. Raises what `whole` raises, and
-    OwnerError where others own it, or a link in its place, or may write to it.
+    """The bytes of a file that this user and root alone may write. Raises what `read_whole` raises,
+    and OwnerError where others own it, or a link in its place, or may write to it.
     """
     if stat.S_ISLNK((about := os.lstat(path)).st_mode):
         check_writers(path, about)
-    return whole(path, most, judge=check_writers)
+    return read_whole(path, most, judge=check_writers)
 
 
 def check_key(path: pathlib.Path, found: os.stat_result) -> None:
@@ -115,7 +115,7 @@ def check_key(path: pathlib.Path, found: os.stat_result) -> None:
         raise OwnerError(f"{path} may be read by all users: chmod o-rwx")
 
 
-def whole(
+def read_whole(
     path: pathlib.Path,
     most: int,
     flags: int = 0,
