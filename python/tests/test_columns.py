@@ -1,4 +1,5 @@
 """Arrays of commands of columns: nothing of them is cut, and the auction takes what they say."""
+import collections
 import io
 import re
 from typing import Any
@@ -17,7 +18,6 @@ from callauction import (
     Delete,
     Enter,
     Indicate,
-    NoCommandError,
     OrderStatus,
     ReadTrade,
     RecordedAuction,
@@ -75,7 +75,7 @@ def test_a_frame_makes_commands() -> None:
         commands(frame, side=BID)
 
 
-def test_words_of_files_and_frames() -> None:
+def test_words_of_files_are_numbers() -> None:
     made = commands(
         tag=["enter", "enter", "change", "delete", "status", "ask", "trade", "uncross"],
         side=["bid", "ask", *[None] * 6], quantity=[5, 6, 7, *[None] * 5],
@@ -134,7 +134,7 @@ def test_the_frame_of_open_orders_enters_them_again() -> None:
     ]  # fmt: skip
 
 
-def test_a_limit_that_pandas_made_nan() -> None:
+def test_a_limit_of_nan_names_the_cure() -> None:
     """The text says what to do, and that does it."""
     frame = pandas.DataFrame({"side": ["bid", "bid"], "quantity": 5, "limit": [50.0, None]})
     text = "limit: element 1, nan, is no exact whole number: where it is missing, give None, or "
@@ -208,6 +208,11 @@ def test_the_greatest_numbers_are_kept() -> None:
     assert made["limit"].tolist() == [(1 << 32) - 1, 0] and made["has_limit"].tolist() == [1, 1]
 
 
+MOST = dict(tag=7, member=(1 << 8) - 1, side=2, quantity=(1 << 64) - 1, limit=(1 << 32) - 1,
+            peak=(1 << 64) - 1, id=(1 << 32) - 1, restriction=2, client=(1 << 64) - 1)  # fmt: skip
+"""The greatest number that a column may have."""
+NEEDED = {"side": {1}, "quantity": {1, 2}, "id": {2, 3, 4, 6}}
+"""The tags of the commands that need a number of a column."""
 NUMBERS = strategies.one_of(
     strategies.none(),
     strategies.integers(-2, 300),
@@ -216,29 +221,93 @@ NUMBERS = strategies.one_of(
     strategies.booleans(),
     strategies.text(max_size=2),
 )
-COLUMNS = strategies.one_of(NUMBERS, strategies.lists(NUMBERS, min_size=2, max_size=2))
 
 
-@hypothesis.settings(max_examples=300, deadline=None, database=None)
-@hypothesis.given(
-    strategies.dictionaries(strategies.sampled_from(NAMES), COLUMNS)
+def one_or_two(numbers: strategies.SearchStrategy[Any]) -> strategies.SearchStrategy[Any]:
+    """Columns of one number for all commands, or of two."""
+    return strategies.one_of(numbers, strategies.lists(numbers, min_size=2, max_size=2))
+
+
+def good(name: str) -> strategies.SearchStrategy[Any]:
+    """Columns of this name whose numbers their field can hold; of a side two are one's."""
+    least, most = int(name in ("tag", "side")), MOST[name]
+    few = strategies.integers(least, min(most, 3))
+    missing = [strategies.none(), strategies.just("")] if name in ("limit", "peak") else []
+    kinds = few, few.map(float), few.map(numpy.int64), strategies.integers(least, most), *missing
+    return one_or_two(strategies.one_of(*kinds))
+
+
+GOOD = strategies.fixed_dictionaries(
+    {name: good(name) for name in ("side", "quantity", "id")},
+    optional={name: good(name) for name in NAMES if name not in ("side", "quantity", "id")},
 )
-def test_what_is_made_is_commands(given: dict[str, Any]) -> None:
-    """Each array is one of commands, whose numbers are the given ones."""
-    try:
-        made = commands(**given)
-    except (TypeError, ValueError):
-        return
-    for name, column in given.items():
-        listed = column if isinstance(column, list) else [column] * len(made)
-        if name == "restriction":
-            listed = [Restriction.NONE if value == "" else value for value in listed]
-        for row, value in zip(made, listed):
-            assert value is None or row[name] == value
-            if name in ("limit", "peak"):
-                assert row[f"has_{name}"] == (value is not None)
-    with Auction() as auction:
+GIVEN = strategies.builds(
+    dict.__or__, GOOD,
+    strategies.just({}) | strategies.dictionaries(
+        strategies.sampled_from(NAMES), one_or_two(NUMBERS), max_size=2
+    ),
+)  # fmt: skip
+
+
+def number_of(name: str, value: Any) -> int | None:
+    """The number that a value of a column stands for, None where it is missing. Raises ValueError
+    where it stands for none.
+    """
+    if value == "" and name == "restriction":
+        return 0
+    if value in (None, "") and name not in ("tag", "member", "restriction"):
+        return None
+    is_number = isinstance(value, int | numpy.int64) and not isinstance(value, bool)
+    if not is_number and not (isinstance(value, float) and abs(value) <= 1 << 53):
+        raise ValueError
+    if value != int(value) or not int(name == "tag") <= value <= MOST[name]:
+        raise ValueError
+    return int(value)
+
+
+def numbers_of(given: dict[str, Any]) -> dict[str, list[int | None]]:
+    """The numbers of each column that is given or has a default. Raises ValueError where one value
+    stands for none, or a command has not what it needs.
+    """
+    there = {name: column for name, column in given.items() if column is not None}
+    columns = {"tag": 1, "member": 1, "restriction": 0} | there
+    count = max(len(it) if isinstance(it, list) else 1 for it in columns.values())
+    listed = {name: it if isinstance(it, list) else [it] * count for name, it in columns.items()}
+    found = {name: [number_of(name, it) for it in listed[name]] for name in listed}
+    for name, tags in NEEDED.items():
+        lacking = [None, 0] if name == "side" else [None]
+        numbers = found.get(name, [None] * count)
+        if any(tag in tags and it in lacking for tag, it in zip(found["tag"], numbers)):
+            raise ValueError
+    return found
+
+
+def test_what_is_made_is_commands() -> None:
+    """Each array is one of commands, whose numbers are the given ones, and what can't be one is
+    refused: of the random columns many are this and many that.
+    """
+    met: collections.Counter[str] = collections.Counter()
+
+    @hypothesis.settings(max_examples=300, deadline=None, database=None)
+    @hypothesis.given(GIVEN)
+    def is_made_or_refused(given: dict[str, Any]) -> None:
         try:
-            auction.apply_many(made)
-        except NoCommandError as error:
-            pytest.fail(f"{made}: {error}")
+            wanted = numbers_of(given)
+        except ValueError:
+            met["refused"] += 1
+            with pytest.raises((TypeError, ValueError)):
+                commands(**given)
+            return
+        met["made"] += 1
+        made = commands(**given)
+        for name in NAMES:
+            numbers = wanted.get(name, [None] * len(made))
+            assert made[name].tolist() == [number or 0 for number in numbers], name
+            if name in ("limit", "peak"):
+                flags = [int(number is not None) for number in numbers]
+                assert made[f"has_{name}"].tolist() == flags, name
+        with Auction() as auction:
+            assert len(auction.apply_many(made)) == len(made)
+
+    is_made_or_refused()
+    assert met["made"] > 100 and met["refused"] > 80, met
