@@ -1,11 +1,13 @@
 """What became of orders, and queues: worked days, and random days beside the rules."""
 import callauction as words
+import pandas
 import pytest
 from arrayed import array_of
 from callauction import Restriction, Side
 from callauction.outcomes import (
     HasDay,
     Played,
+    Queue,
     members_of,
     outcomes_of,
     queue_of,
@@ -152,32 +154,31 @@ def by_the_rules(auction: HasDay) -> model.Day:
     return state
 
 
-@settings(deadline=None, max_examples=60)
-@given(auctions(), strategies.lists(commands(), max_size=40))
-def test_random_days_agree_with_the_rules(
-    auction: RecordedAuction, given_commands: list[tuple[int, words.Command]]
-) -> None:
-    with auction:
-        for member, command in given_commands:
-            auction.apply(member, command)
-        state = by_the_rules(auction)
-        found = outcomes_of(auction)
-        if not state.kind():
-            return
-        queue = queue_of(auction)
-    assert {name: str(kind) for name, kind in found.dtypes.items()} == KINDS
-    assert {name: str(kind) for name, kind in queue.orders.dtypes.items()} == QUEUED
-    assert found["order"].tolist() == [*range(1, state.next_id)]
+def shares_and_paid(state: model.Day) -> tuple[list[int], list[int]]:
+    """The shares that each order of a day traded, and what they were paid, by the rules."""
     shares = dict.fromkeys(range(1, state.next_id), 0)
     paid = dict(shares)
     for trade in state.tape:
         for order in (trade.bid, trade.ask):
             shares[order] += trade.quantity
             paid[order] += trade.quantity * trade.tick
-    assert found["traded"].tolist() == [*shares.values()]
-    assert found["paid"].tolist() == [*paid.values()]
+    return [*shares.values()], [*paid.values()]
+
+
+def check_outcomes(found: pandas.DataFrame, state: model.Day) -> None:
+    """That each order of a day became what the rules give, whether the day is over or not."""
+    assert {name: str(kind) for name, kind in found.dtypes.items()} == KINDS
+    assert found["order"].tolist() == [*range(1, state.next_id)]
+    shares, paid = shares_and_paid(state)
+    assert found["traded"].tolist() == shares and found["paid"].tolist() == paid
     still = found[found["became"] == "open"].set_index("order")["open"].to_dict()
-    assert still == {order.id: order.quantity for order in state.book.values()}
+    book = {order.id: order.quantity for order in state.book.values()}
+    assert still == (book if state.kind() else {})
+
+
+def check_queue(queue: Queue, state: model.Day) -> None:
+    """That a queue has the orders by the rules, and the trades of an uncross, which it calls."""
+    assert {name: str(kind) for name, kind in queue.orders.dtypes.items()} == QUEUED
     for side in ("bid", "ask"):
         ranked = sorted((it for it in state.counted() if it.side == side), key=model.Order.rank)
         mine = queue.orders[queue.orders["side"] == side]
@@ -185,6 +186,34 @@ def test_random_days_agree_with_the_rules(
         assert mine["quantity"].tolist() == [order.quantity for order in ranked]
     seen = len(state.tape)
     state.uncross(0)
-    assert [(trade.bid, trade.ask, trade.quantity) for trade in state.tape[seen:]] == [
+    made = state.tape[seen:]
+    assert [(trade.bid, trade.ask, trade.quantity) for trade in made] == [
         (int(trade["bid"]), int(trade["ask"]), int(trade["quantity"])) for trade in queue.trades
     ]
+    assert queue.orders["executed"].tolist() == [
+        sum(trade.quantity for trade in made if order in (trade.bid, trade.ask))
+        for order in queue.orders["order"]
+    ]
+
+
+GIVEN_COMMANDS = strategies.lists(commands(), max_size=40) | strategies.lists(
+    commands(), min_size=20, max_size=40
+)
+"""The commands of a day, few or many."""
+
+
+@settings(deadline=None, max_examples=60)
+@given(auctions(), GIVEN_COMMANDS)
+def test_random_days_agree_with_the_rules(
+    auction: RecordedAuction, given_commands: list[tuple[int, words.Command]]
+) -> None:
+    with auction:
+        for member, command in given_commands:
+            auction.apply(member, command)
+        state = by_the_rules(auction)
+        check_outcomes(outcomes_of(auction), state)
+        if state.kind():
+            check_queue(queue_of(auction), state)
+            return
+        with pytest.raises(ValueError, match="the day is over"):
+            queue_of(auction)

@@ -52,13 +52,24 @@ def test_a_log_of_fix_has_the_verdict_of_its_day(seed: int, tmp_path: Path) -> N
         assert not open_ and not verdict.doubtful, f"{seed}\n{verdict}"
 
 
-@pytest.mark.parametrize("seed", SEEDS)
+PRICED = [
+    seed for seed in SEEDS
+    if not any(it.is_interrupted for it in timed_day(seed, 20).lawful)
+    and any(it.tick for it in timed_day(seed, 20).lawful)
+]  # fmt: skip
+TRADED = [seed for seed in SEEDS if places(timed_day(seed).rows, "trade")]
+"""The days without an interruption that have a price; those that have a trade."""
+
+
+def test_many_days_have_a_place_for_a_fault() -> None:
+    assert len(PRICED) > 9 and len(TRADED) > 19
+
+
+@pytest.mark.parametrize("seed", PRICED)
 def test_a_fault_in_a_log_of_fix_is_found(seed: int, tmp_path: Path) -> None:
     extract = timed_day(seed, 20)
     log = FixLog(extract, seed)
     results = [it for it in log.messages if (35, "W") in it and (268, "3") in it]
-    if any(outcome.is_interrupted for outcome in extract.lawful) or not results:
-        return
     place = log.messages.index(results[0])
     changed = [(tag, "9.31" if tag == 270 else text) for tag, text in results[0]]
     log.messages[place] = changed
@@ -468,15 +479,13 @@ def test_options_add_to_a_shape() -> None:
 # ---- busts
 
 
-@pytest.mark.parametrize("seed", SEEDS)
+@pytest.mark.parametrize("seed", TRADED)
 def test_a_bust_takes_a_trade_out(seed: int) -> None:
     """Of a trade and its rebooking one is left; the bust of a lawful one is in doubt; one of no
     trade is a bad row.
     """
     extract = timed_day(seed)
     trades = places(extract.rows, "trade")
-    if not trades:
-        return
     place = random.Random(seed).choice(trades)
     row = extract.rows[place]
     bust = {name: row[name] for name in ("time", "bid", "ask", "quantity", "price")}

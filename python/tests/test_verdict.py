@@ -2,6 +2,7 @@
 planted fault is one finding, and the coverage is what was published.
 """
 import collections
+import itertools
 import random
 from pathlib import Path
 from typing import Any
@@ -10,7 +11,7 @@ import pandas
 import pytest
 from callauction.verdict import audit_events
 from extracts import Extract, Recorder, Rows, price_of, random_day
-from faults import FAULTS
+from faults import FAULTS, Planted
 from hypothesis import HealthCheck, given, settings, strategies
 from judging import frame_of, judged
 from shapes import SHAPES, Shape, written
@@ -45,15 +46,21 @@ def test_a_lawful_day_in_any_shape_is_lawful(
 # ---- nothing unlawful is cleared, and one fault is one finding
 
 
+def planted_day(name: str, seed: int) -> tuple[Extract, Planted]:
+    """The first day, from this seed on, that has a place for a fault, with the fault in it."""
+    for number in itertools.count(seed):
+        extract = random_day(number)
+        planted = FAULTS[name](random.Random(seed), extract)
+        if planted is not None:
+            return extract, planted
+    raise LookupError
+
+
 @pytest.mark.parametrize("name", FAULTS)
 @SOME
 @given(seed=SEEDS)
 def test_a_planted_fault_is_one_finding(name: str, seed: int) -> None:
-    extract = random_day(seed)
-    planted = FAULTS[name](random.Random(seed), extract)
-    if planted is None:
-        return
-    item, row = planted
+    extract, (item, row) = planted_day(name, seed)
     verdict = judged(extract)
     assert verdict.word == "unlawful" and verdict.status == 4
     [finding] = verdict.findings
@@ -186,12 +193,10 @@ def as_fills(extract: Extract) -> Extract:
 @settings(deadline=None, max_examples=100)
 @given(SEEDS, strategies.booleans())
 def test_fills_without_counterparties_are_compared_by_order(seed: int, is_faulty: bool) -> None:
-    extract = as_fills(random_day(seed))
-    fills = extract.places("fill")
+    days = (as_fills(random_day(number)) for number in itertools.count(seed))
+    extract = next(day for day in days if day.places("fill"))
     filled = sum(outcome.filled for outcome in extract.lawful)
-    if not fills:
-        return
-    place = random.Random(seed).choice(fills)
+    place = random.Random(seed).choice(extract.places("fill"))
     if is_faulty:
         extract.rows[place]["quantity"] = str(int(extract.rows[place]["quantity"]) + 1)
     verdict = judged(extract)
