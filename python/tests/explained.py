@@ -1,5 +1,5 @@
 """What the rules of docs/MODEL.md say of the books of examples/, worked out by hand: for each file
-and book its sentences, but for those of what a price executes.
+and book its sentences, those of what a price executes apart.
 """
 
 BOTH = "Both leave a surplus of"
@@ -150,3 +150,63 @@ DECIDED: dict[str, dict[int, list[str]]] = {
     },
     "time_priority": {4: alone(200, 150), 9: unpriced(BID.format(200))},
 }
+
+
+def executed(limit: int, demand: int, supply: int, volume: int, left: str) -> list[str]:
+    """The sentences of what a price executes, and of what is left then."""
+    return [
+        f"The demand at {limit}, of bids at market and from {limit} up, is {demand}; the supply, of"
+        f" asks at market and from {limit} down, is {supply}.",
+        f"The lesser of the two, {volume}, can be executed, and {left}.",
+    ]
+
+
+NONE_LEFT = "no surplus is left"
+BIDS_LEFT = "a surplus of {} is left on the bid side"
+ASKS_LEFT = "a surplus of {} is left on the ask side"
+OF_206 = executed(206, 100, 100, 100, NONE_LEFT)
+
+EXECUTED: dict[str, dict[int, list[str]]] = {
+    "closing_only": {7: executed(200, 100, 100, 100, NONE_LEFT)},
+    "day": {3: OF_206, 6: executed(206, 30, 20, 20, BIDS_LEFT.format(10))},
+    "far_limit": {5: executed(1, 901, 800, 800, BIDS_LEFT.format(101))},
+    "iceberg": {3: executed(200, 500, 300, 300, BIDS_LEFT.format(200))},
+    "interruption": {3: OF_206, 7: OF_206, 8: OF_206},
+    "least_surplus": {6: executed(201, 100, 120, 100, ASKS_LEFT.format(20))},
+    "less_quantity": {5: executed(200, 160, 100, 100, BIDS_LEFT.format(60))},
+    "market_and_limit": {5: executed(150, 140, 60, 60, BIDS_LEFT.format(80))},
+    "market_orders": {4: executed(200, 900, 800, 800, BIDS_LEFT.format(100))},
+    "more_quantity": {5: executed(200, 220, 100, 100, BIDS_LEFT.format(120))},
+    "most_volume": {7: executed(201, 300, 350, 300, ASKS_LEFT.format(50))},
+    "no_surplus": {
+        4: [
+            "The demand at 200, of bids at market and from 200 up, is 100; the supply, of asks at "
+            "market and from 200 down, is 100.",
+            "The lesser of the two, 100, can be executed, and no surplus is left.",
+        ]
+    },
+    "opening": {
+        8: [
+            "The demand at 200, of bids at market and from 200 up, is 700; the supply, of asks at "
+            "market and from 200 down, is 500.",
+            "The lesser of the two, 500, can be executed, and a surplus of 200 is left on the bid "
+            "side.",
+        ]
+    },
+    "other_limit": {6: executed(200, 200, 100, 100, BIDS_LEFT.format(100))},
+    "price_priority": {4: executed(200, 200, 150, 150, BIDS_LEFT.format(50))},
+    "reference": {6: executed(200, 100, 100, 100, NONE_LEFT)},
+    "reference_above": {6: executed(210, 100, 150, 100, ASKS_LEFT.format(50))},
+    "reference_below": {6: executed(190, 150, 100, 100, BIDS_LEFT.format(50))},
+    "surplus_ask": {
+        6: [
+            "The demand at 199, of bids at market and from 199 up, is 500; the supply, of asks at "
+            "market and from 199 down, is 600.",
+            "The lesser of the two, 500, can be executed, and a surplus of 100 is left on the ask "
+            "side.",
+        ]
+    },
+    "surplus_bid": {6: executed(201, 600, 500, 500, BIDS_LEFT.format(100))},
+    "time_priority": {4: executed(200, 200, 150, 150, BIDS_LEFT.format(50))},
+}
+"""For each file and book with a price the last sentences."""

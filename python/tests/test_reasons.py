@@ -2,30 +2,13 @@
 from pathlib import Path
 
 import callauction
-import pandas
 import pytest
 from callauction.course import references_of
 from callauction.program import Day
 from callauction.reasons import explain
-from callauction.tables import book_at, books_of, journal_of
+from callauction.tables import books_of, journal_of
 from days import EXAMPLES, day_of, stored
-from explained import DECIDED
-
-LAST = 2
-"""How many sentences at the end say what the price executes."""
-
-
-def executed(price: "pandas.Series") -> list[str]:
-    """The last sentences for a price, from its row of the stored table."""
-    tick, side = price["limit"], price["side"]
-    rest = "no surplus is left"
-    if side != "none":
-        rest = f"a surplus of {price['surplus']} is left on the {side} side"
-    return [
-        f"The demand at {tick}, of bids at market and from {tick} up, is {price['demand']}; the "
-        f"supply, of asks at market and from {tick} down, is {price['supply']}.",
-        f"The lesser of the two, {price['volume']}, can be executed, and {rest}.",
-    ]
+from explained import DECIDED, EXECUTED
 
 
 def test_each_example_is_worked_out() -> None:
@@ -38,12 +21,11 @@ def test_each_book_of_an_example_is_explained(file: Path) -> None:
     wanted = DECIDED[file.stem]
     references = references_of(journal_of(day_of(file)), wanted)
     assert list(books["command"].unique()) == list(wanted)
+    last = EXECUTED.get(file.stem, {})
+    assert {*last} <= {*wanted}
     for command, sentences in wanted.items():
-        book = book_at(books, command)
-        priced = book[book["rule"] != ""]
-        last = executed(priced.iloc[0]) if len(priced) else []
-        assert len(last) in (0, LAST)
-        assert [*explain(books, command, references[command])] == [*sentences, *last]
+        whole = [*sentences, *last.get(command, [])]
+        assert [*explain(books, command, references[command])] == whole
 
 
 def test_without_a_reference_its_number_is_left_out() -> None:
