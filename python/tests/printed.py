@@ -1,4 +1,4 @@
-"""Order files as commands, and replies as the lines of docs/FORMATS.md."""
+"""Order files as commands, and what the package writes of them as the program prints it."""
 import sys
 from pathlib import Path
 from typing import Any
@@ -6,17 +6,11 @@ from typing import Any
 import callauction as words
 import pandas
 from callauction import Auction
+from callauction.words import RESTRICTION_WORDS, SIDE_WORDS
+from callauction.written import text_of
 
 TOP = Path(__file__).resolve().parent.parent.parent
 sys.path.insert(0, str(TOP))
-
-NAMES = {refusal: refusal.name.title().replace("_", "") for refusal in words.Refusal}
-SIDES = {"bid": words.Side.BID, "ask": words.Side.ASK}
-FOR = {
-    "": words.Restriction.NONE,
-    "opening": words.Restriction.OPENING_ONLY,
-    "closing": words.Restriction.CLOSING_ONLY,
-}
 
 
 def command_of(fields: list[str]) -> words.Command:
@@ -27,8 +21,8 @@ def command_of(fields: list[str]) -> words.Command:
         case "enter":
             tick = None if rest[2] == "market" else int(rest[2])
             peak = int(rest[3]) if len(rest) > 3 and rest[3] else None
-            restriction = FOR[rest[4] if len(rest) > 4 else ""]
-            return words.Enter(SIDES[rest[0]], int(rest[1]), tick, peak, restriction)
+            restriction = RESTRICTION_WORDS[rest[4] if len(rest) > 4 else ""]
+            return words.Enter(SIDE_WORDS[rest[0]], int(rest[1]), tick, peak, restriction)
         case "change":
             return words.Change(int(rest[0]), int(rest[1]), limit)
         case "delete":
@@ -48,49 +42,6 @@ def commands_of(text: str) -> list[tuple[int, words.Command]]:
     """The members and the commands of an order file."""
     rows = [line.split(",") for line in text.splitlines() if line]
     return [(int(fields[0]), command_of(fields[1:])) for fields in rows]
-
-
-def price_text(price: words.Price) -> str:
-    side = price.side.name.lower()
-    return f"price {price.tick} volume {price.volume} surplus {price.surplus} {side}"
-
-
-def uncrossed_text(reply: words.Uncrossed) -> str:
-    kind = reply.auction.name.lower()
-    if reply.price is None:
-        return f"{kind} no price"
-    return f"{kind} {price_text(reply.price)} trades {reply.trades}"
-
-
-def best_text(tick: int | None) -> str:
-    return "-" if tick is None else str(tick)
-
-
-def text_of(reply: words.Reply) -> str:
-    """The text of a reply."""
-    match reply:
-        case words.Entered(id):
-            return f"entered {id}"
-        case words.Changed(kept):
-            return "changed kept" if kept else "changed moved"
-        case words.Deleted():
-            return "deleted"
-        case words.OpenOrder(side, quantity, limit, visible):
-            at = "market" if limit is None else f"at {limit}"
-            return f"order {side.name.lower()} {quantity} {at} visible {visible}"
-        case words.Price():
-            return price_text(reply)
-        case words.NoPrice(bid, ask):
-            return f"no price bid {best_text(bid)} ask {best_text(ask)}"
-        case words.Traded(bid, ask, quantity, tick):
-            return f"trade {bid} {ask} {quantity} at {tick}"
-        case words.Uncrossed():
-            return uncrossed_text(reply)
-        case words.Interrupted(price):
-            return f"interrupted {price_text(price)}"
-        case words.Refused(refusal):
-            return f"refused {refusal.value} {NAMES[refusal]}"
-    raise TypeError(type(reply))
 
 
 Options = dict[str, int | None]

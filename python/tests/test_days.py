@@ -6,7 +6,8 @@ from pathlib import Path
 import pytest
 from arrayed import array_of
 from callauction import Auction, Traded, reply_of
-from printed import TOP, Options, commands_of, lines_of, opened, text_of
+from callauction.written import text_of
+from printed import TOP, Options, commands_of, lines_of, opened
 
 from checks.generators import orders
 from checks.model import answers
@@ -87,6 +88,6 @@ def test_the_tape_is_that_of_the_trades_asked_for() -> None:
         assert trade == Traded(*(int(row[name]) for name in ("bid", "ask", "quantity", "tick")))
 
 
-def test_an_auction_of_one_tick() -> None:
+def test_an_auction_may_have_one_tick() -> None:
     with Auction(5, 5, 5, 1, 1) as auction:
         assert auction.ladder()[0].tolist() == [0]
