@@ -20,6 +20,10 @@ NEVER_IN_DOUBT = ("sent again", "sent again with sequences", "busted", "peaks of
 OF_THE_DAY = ("missing head", "missing entry", "stray cancel", "order spelled otherwise", "ties",
               "missing rows", "unread time")  # fmt: skip
 """Damages that may leave a doubt from the day's begin on."""
+OF_THE_FIRST_ROW = ("no names", "noisy prices")
+"""Damages that touch the first row already, so that no fault is before them."""
+OF_NO_RESULT = ("peaks of all",)
+"""Damages that touch the first row and leave no doubt: a fault anywhere is found."""
 
 
 @pytest.mark.parametrize("name", DAMAGES)
@@ -37,16 +41,18 @@ def test_a_lawful_day_that_is_damaged_is_never_unlawful(name: str) -> None:
     assert touched > 5
 
 
-@pytest.mark.parametrize("name", DAMAGES)
+@pytest.mark.parametrize("name", [
+    name for name in DAMAGES if name not in OF_THE_DAY + OF_THE_FIRST_ROW
+])  # fmt: skip
 def test_a_fault_before_the_damage_is_found(name: str) -> None:
     found = 0
     for seed in range(150):
         extract = timed_day(seed)
         touched = extract.copy()
         first = DAMAGES[name](random.Random(seed), touched.rows)
-        if first is None or name in OF_THE_DAY:
+        if first is None:
             continue
-        fault = planted(touched, first)
+        fault = planted(touched, len(touched.rows) if name in OF_NO_RESULT else first)
         if fault is None:
             continue
         found += 1
@@ -55,6 +61,7 @@ def test_a_fault_before_the_damage_is_found(name: str) -> None:
         assert fault in [finding.row for finding in verdict.findings], str(verdict)
         if found == 12:
             break
+    assert found >= 10
 
 
 def test_damage_of_several_kinds_is_read_together() -> None:
