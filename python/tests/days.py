@@ -1,4 +1,5 @@
 """Days for tests: the examples with their options, and random commands."""
+from collections.abc import Iterator
 from pathlib import Path
 
 import callauction as words
@@ -7,8 +8,9 @@ from callauction.program import Day
 from callauction.recording import RecordedAuction
 from callauction.tables import BOOK, table_of
 from hypothesis import strategies
-from printed import TOP
+from printed import TOP, Options
 
+from checks.generators import orders as generated
 from checks.model import answers
 
 EXAMPLES = sorted((TOP / "examples").glob("*.csv"))
@@ -27,6 +29,14 @@ def options_of(file: Path) -> dict[str, int]:
 
 def day_of(file: Path) -> Day:
     return Day.read(file, **options_of(file))
+
+
+def order_files(count: int) -> Iterator[tuple[Options, str]]:
+    """The examples, and so many random files, each with its options."""
+    for file in EXAMPLES:
+        yield answers.DEFAULTS | options_of(file), file.read_text(encoding="utf-8")
+    for seed in range(count):
+        yield generated.order_file("short", seed)
 
 
 def form_of(file: Path, form: str) -> str:

@@ -100,7 +100,7 @@ def test_what_is_no_side_is_refused(side: object) -> None:
     fails(TypeError, "side", lambda auction, value: auction.enter(1, value, 1), side)
 
 
-def test_a_side_that_no_order_has() -> None:
+def test_no_order_has_the_side_none() -> None:
     fails(ValueError, "side", lambda auction, value: auction.enter(1, value, 1), Side.NONE)
 
 
@@ -141,7 +141,7 @@ def test_a_bad_config_is_named(config: dict[str, int], names: str) -> None:
         Auction(**config)
 
 
-def test_the_most_that_may_be() -> None:
+def test_the_greatest_config_is_opened() -> None:
     with Auction(934_465, 1_000_000, 1_000_000, 65_536, 1_048_576, 2**32 - 1) as auction:
         assert len(auction.ladder()[0]) == 65_536
 
@@ -202,7 +202,7 @@ def test_integers_of_strange_classes_leave_the_auction_as_it_was() -> None:
             auction.enter(1, BID, Closing(auction))  # type: ignore[arg-type]
 
 
-def test_an_object_that_was_never_opened() -> None:
+def test_an_object_that_was_never_opened_is_closed() -> None:
     auction = Auction.__new__(Auction)
     with pytest.raises(ClosedError):
         auction.indicate(1)

@@ -244,7 +244,7 @@ def test_a_copy_is_the_board_itself() -> None:
     assert board.is_closed and repr(board) == "<closed board of 2 members>"
 
 
-def test_what_belongs_to_one_process() -> None:
+def test_a_board_stays_in_its_process() -> None:
     board = Board(2, **DAY)
     why = "its board is one auction, which the threads of one process call"
     for made, kind in ((board, "Board"), (board[1], "Member")):
@@ -319,7 +319,7 @@ def test_forks_beside_calls_never_hang() -> None:
     assert board[2].indicate().number == board.members[1].calls + 1
 
 
-def test_the_tables_of_its_day() -> None:
+def test_a_closed_board_has_tables() -> None:
     board = Board(2, **DAY)
     board[1].enter(Side.BID, 5, 500)
     board[0].enter(Side.ASK, 5, 500)

@@ -280,7 +280,7 @@ def test_a_copy_stands_by_itself(copied: Callable[[Auction], Auction]) -> None:
             assert other.calls == 3
 
 
-def test_a_copy_of_a_subclass() -> None:
+def test_a_copy_of_a_subclass_is_of_it() -> None:
     class Named(Auction):
         """One with a word of its own."""
 

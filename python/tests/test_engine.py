@@ -50,14 +50,21 @@ def test_both_answer_alike(seed: int, monkeypatch: pytest.MonkeyPatch) -> None:
         assert numpy.array_equal(own[shown], printed[name][shown]), name
 
 
-def _with(name: str) -> list[int]:
+def _with(name: str) -> list[ReplyTag]:
     """The tags of the replies that have a field of the program's lines."""
-    prices = [5, 8]
+    prices = [ReplyTag.PRICED, ReplyTag.UNCROSSED]
     if name in ("volume", "surplus", "side", "has_tick", "tick"):
         return prices
-    fields = {"id": [1, 7], "ask": [7], "quantity": [7], "auction": [8], "kept": [2]}
-    fields |= {"refusal": [10], "trades": [8]}
-    return fields.get(name, [*range(1, 11)])
+    fields = {
+        "id": [ReplyTag.ENTERED, ReplyTag.TRADED],
+        "ask": [ReplyTag.TRADED],
+        "quantity": [ReplyTag.TRADED],
+        "auction": [ReplyTag.UNCROSSED],
+        "kept": [ReplyTag.CHANGED],
+        "refusal": [ReplyTag.REFUSED],
+        "trades": [ReplyTag.UNCROSSED],
+    }
+    return fields.get(name, [*ReplyTag])
 
 
 def answered_by(monkeypatch: pytest.MonkeyPatch, count: int, *lines: str) -> Any:

@@ -89,7 +89,7 @@ SIDES = strategies.lists(
 
 @settings(deadline=None)
 @given(SIDES, SIDES)
-def test_the_most_that_was_possible(
+def test_the_most_possible_gain_is_that_share_by_share(
     bids: list[tuple[int, int]], asks: list[tuple[int, int]]
 ) -> None:
     rows = [("bid", *row) for row in bids] + [("ask", *row) for row in asks]

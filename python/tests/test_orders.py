@@ -1,6 +1,5 @@
 """The open orders, what an uncross takes out, and copies over another auction, beside the rules."""
 import copy
-from collections.abc import Iterator
 
 import numpy
 import pandas
@@ -19,11 +18,10 @@ from callauction import (
 )
 from callauction.arrays import Structs
 from callauction.tables import ORDERS
-from days import EXAMPLES, options_of
-from printed import Options, command_of, opened
+from days import order_files
+from printed import command_of, opened
 
 from checks.generators import orders
-from checks.model.answers import DEFAULTS
 from checks.model.day import Day, Order
 from checks.model.day import opened as opened_by_the_rules
 from checks.model.files import FileFault, order_file
@@ -86,17 +84,9 @@ def rows(frame: pandas.DataFrame) -> list[Row]:
     return [*plain.itertuples(index=False, name=None)]
 
 
-def days() -> Iterator[tuple[Options, str]]:
-    """The examples, and random files."""
-    for file in EXAMPLES:
-        yield DEFAULTS | options_of(file), file.read_text(encoding="utf-8")
-    for seed in range(150):
-        yield orders.order_file("short", seed)
-
-
 def test_the_orders_are_those_of_the_rules_after_each_command() -> None:
     looked = 0
-    for options, text in days():
+    for options, text in order_files(150):
         try:
             calls = order_file(text, options).calls
         except FileFault:

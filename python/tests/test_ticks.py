@@ -49,7 +49,7 @@ def test_a_price_is_a_tick(tick_size: object, price: object, tick: int) -> None:
         (None, "price None is no decimal number"),
     ],
 )
-def test_a_price_that_is_no_tick(price: Any, fault: str) -> None:
+def test_a_price_that_is_no_tick_is_refused(price: Any, fault: str) -> None:
     with pytest.raises(ValueError, match=f"^{fault}"):
         Ticks("0.01").of(price)
 
@@ -81,7 +81,7 @@ def test_ticks_of_one_grid_are_equal() -> None:
         ("999999999", 2, "tick 2 has a price that isn't below 1,000,000,000"),
     ],
 )
-def test_a_tick_without_a_price(tick_size: str, tick: int, fault: str) -> None:
+def test_a_tick_without_a_price_is_refused(tick_size: str, tick: int, fault: str) -> None:
     with pytest.raises(ValueError, match=f"^{fault}$"):
         Ticks(tick_size).price(tick)
 

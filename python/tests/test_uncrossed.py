@@ -1,7 +1,6 @@
 """What an uncross did to each order, and what a day leaves to the next one, beside the rules."""
 import copy
 import dataclasses
-from collections.abc import Iterator
 
 import numpy
 import pytest
@@ -21,11 +20,10 @@ from callauction import (
     refusals,
 )
 from callauction.arrays import Structs
-from days import EXAMPLES, options_of
-from printed import Options, command_of, commands_of, opened
+from days import order_files
+from printed import command_of, commands_of, opened
 
 from checks.generators import orders
-from checks.model.answers import DEFAULTS
 from checks.model.day import Day, Order
 from checks.model.day import opened as opened_by_the_rules
 from checks.model.files import FileFault, order_file
@@ -60,17 +58,9 @@ def rows_by_the_rules(before: Day, after: Day, interrupted: bool) -> list[Row]:
     return found
 
 
-def days() -> Iterator[tuple[Options, str]]:
-    """The examples, and random files."""
-    for file in EXAMPLES:
-        yield DEFAULTS | options_of(file), file.read_text(encoding="utf-8")
-    for seed in range(400):
-        yield orders.order_file("short", seed)
-
-
 def test_each_uncross_says_what_the_rules_say_of_the_orders() -> None:
     met = {"filled": 0, "in part": 0, "expired": 0, "interrupted": 0}
-    for options, text in days():
+    for options, text in order_files(400):
         try:
             calls = order_file(text, options).calls
         except FileFault:

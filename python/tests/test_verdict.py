@@ -10,7 +10,8 @@ from typing import Any
 import pandas
 import pytest
 from callauction.verdict import audit_events
-from extracts import Extract, Recorder, Rows, price_of, random_day
+from desk import as_fills
+from extracts import Extract, Recorder, price_of, random_day
 from faults import FAULTS, Planted
 from hypothesis import HealthCheck, given, settings, strategies
 from judging import frame_of, judged
@@ -175,26 +176,12 @@ def test_a_record_that_ends_before_the_closing_is_incomplete(seed: int) -> None:
     assert compared == of - 1
 
 
-def as_fills(extract: Extract) -> Extract:
-    """The extract with a row for each fill of an order in place of its trades."""
-    found = extract.copy()
-    rows: Rows = []
-    for row in found.rows:
-        if row["event"] != "trade":
-            rows.append(row)
-            continue
-        for side in ("bid", "ask"):
-            cells = {name: row[name] for name in ("time", "quantity", "price", "auction")}
-            rows.append(dict(event="fill", order=row[side], **cells))
-    found.rows = rows
-    return found
-
-
 @settings(deadline=None, max_examples=100)
 @given(SEEDS, strategies.booleans())
 def test_fills_without_counterparties_are_compared_by_order(seed: int, is_faulty: bool) -> None:
-    days = (as_fills(random_day(number)) for number in itertools.count(seed))
-    extract = next(day for day in days if day.places("fill"))
+    days = (random_day(number) for number in itertools.count(seed))
+    extract = next(day for day in days if day.places("trade"))
+    extract.rows = as_fills(extract.rows)
     filled = sum(outcome.filled for outcome in extract.lawful)
     place = random.Random(seed).choice(extract.places("fill"))
     if is_faulty:
