@@ -425,8 +425,8 @@ def test_the_lines_of_a_verdict(
     assert main([*LINE, *GERMAN_WORDS, "--auctions", "opening"]) == 4
     assert capsys.readouterr().out.splitlines() == [
         "row 4, 09:00:00, opening: price: recorded 20.01, lawful 20.02: It is the one best limit, "
-        "so 20.02 is the price, whatever its surplus. 20.01 executes 1,200 with 100 ask left, and "
-        "20.02 executes 1,200 with 100 ask left.",
+        "so 20.02 is the price, whatever its surplus. 20.01, which is no order's limit, executes "
+        "1,200 with 100 ask left, and 20.02 executes 1,200 with 100 ask left.",
         "findings 1",
         "prices 1 of 1",
         "volumes 1 of 1",

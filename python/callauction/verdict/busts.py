@@ -20,7 +20,8 @@ class Busts:
 
     def __init__(self, rows: Rows) -> None:
         self.rows = rows
-        both = ((row, self._named(row)) for row in rows.bad if row.is_bust)
+        both = ((row, self._named(row)) for row in rows.bad
+                if row.is_bust and not self._is_early(row))  # fmt: skip
         twice = 1 + bool(len(rows.of(Kind.FILL)))
         self.unread = [it for it in both for _ in range(1 if it[1] else twice)]
         """With the orders that each names; one without may take out both fills of a trade."""
@@ -39,6 +40,16 @@ class Busts:
         rows, at = self.rows, row.place
         keys = {int(rows.key[at]), int(rows.bid[at]), int(rows.ask[at])}
         return keys - {CellCode.MISSING, CellCode.BAD}
+
+    def _is_early(self, row: BadRow) -> bool:
+        """Whether a row of another event is above all trades and fills, and not timed later, so
+        that it takes none out.
+        """
+        rows, made = self.rows, self.rows.of(Kind.TRADE, Kind.FILL, Kind.TAKEN)
+        if row.doubt is not Doubt.ANY or row.place < 0 or not len(made):
+            return False
+        is_below = row.place > made[0] or (rows.time[row.place] > rows.time[made]).any()
+        return not is_below and not bool(rows.is_odd[row.place])
 
     def _is_one(self, row: BadRow) -> bool:
         """Whether a row is of one trade, as what names its bid or its ask is."""

@@ -234,7 +234,18 @@ class _Trades:
         places_of = self._places_by_order(*shares)
         of_shares = compared_shares(rows, *shares, result.price_code, places_of, self.many)
         by_order = paired(stamped(of_shares, self.stamps))
-        return Compared(by_order if len(by_order) < len(found) else found, same, by_order)
+        by_order_all = [*by_order, *self._odd_beside(by_order, places)]
+        is_shorter = len(by_order_all) < len(found)
+        return Compared(by_order_all if is_shorter else found, same, by_order)
+
+    def _odd_beside(
+        self, by_order: list[Difference], places: dict[int, list[int]]
+    ) -> list[Difference]:
+        """The differences of pairs with odd prices or members, of orders whose shares are right."""
+        named = {key for each in by_order for key in each.keys}
+        beside = [it for it in self.recorded if it in self.odd]
+        beside = [it for it in beside if named.isdisjoint(divmod(it, self.many))]
+        return self._both(beside, places, self.recorded)
 
     def _shares(self, bid: Codes, ask: Codes, quantity: Ints) -> Sums:
         """The shares of each order, by its key, to which `many` is added on the side of asks."""

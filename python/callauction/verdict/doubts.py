@@ -206,7 +206,12 @@ class Doubts:
         if self.odd is not None and self._may_be_another:
             return self.odd[1].text
         odd = (row for row in self.bad if row.doubt is Doubt.ANY and row.since < place)
-        return next((row.unknown for row in odd), "")
+        return next((row.unknown for row in odd if not self._is_of_order(row)), "")
+
+    def _is_of_order(self, row: BadRow) -> bool:
+        """Whether a bad row names an order that is entered, so that it is no result."""
+        key = int(self.rows.key[row.place]) if row.place >= 0 else CellCode.MISSING
+        return key >= 0 and self.entered[key] >= 0
 
     def _unknown(self) -> BookDoubt | None:
         """Why all books of the day are in doubt: a trade or a fill, busted ones too, is of an order

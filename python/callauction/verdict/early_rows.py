@@ -17,9 +17,12 @@ from callauction.verdict.rows import OF_ORDERS, Kind, Rows
 
 EARLY = "trades and fills timed before an order of theirs was entered, by {:f} s at most"
 TOLD = (
-    "rows and times disagree: row {} is below row {}{}, and timed {:f} s before it: do clocks "
-    "differ?"
+    "rows and times disagree: row {} is below row {}{}, and timed {:f} s before it: {}"
 )
+CLOCKS = "do clocks differ?"
+OVER_MIDNIGHT = "a session over midnight needs dates or a sequence"
+LONG = 6 * 3600 * time_columns.SECOND
+"""From how many nanoseconds on a gap is none of clocks."""
 ENTERED_BEFORE = "An auction executes orders that were entered before it."
 
 
@@ -82,7 +85,7 @@ class Early:
         gaps = self.gaps(made, self.entries(made))
         many = int((gaps > 0).sum())
         most = EARLY.format(_seconds(int(gaps.max(initial=0))))
-        return {f"{most} (do clocks differ?)": many} if many else {}
+        return {f"{most} ({CLOCKS})": many} if many else {}
 
     def told(self, those: Ints, others: Ints) -> tuple[str, int, int]:
         """That rows are timed before others which they are below, and of which of both by most;
@@ -97,7 +100,9 @@ class Early:
         at = int(gaps.argmax())
         one, other = int(those[at]), int(others[at])
         labels, more = self.rows.labels, f" (as {many - 1:,} more are)" if many > 1 else ""
-        return TOLD.format(labels[one], labels[other], more, _seconds(int(gaps[at]))), one, other
+        why = OVER_MIDNIGHT if gaps[at] >= LONG else CLOCKS
+        seconds = _seconds(int(gaps[at]))
+        return TOLD.format(labels[one], labels[other], more, seconds, why), one, other
 
     def of_uncross(self, place: int, orders: Ints) -> tuple[str, int, int]:
         """That an uncross is timed before the last of these rows, which it is below."""

@@ -82,7 +82,10 @@ def _executed(context: Context, number: int) -> str:
     sums = [int(context.meeting(side, number)[1].sum()) for side in ("bid", "ask")]
     executed, left = min(sums), abs(sums[0] - sums[1])
     side = f" {SIDES[1 if sums[0] > sums[1] else 2]}" if left else ""
-    return f"{context.price(price)} executes {executed:,} with {left:,}{side} left"
+    limits = context.judged.book.price[context.judged.book.counted(context.judged.auction)]
+    is_odd = (limits >= 0).any() and number not in limits
+    named = context.price(price) + ", which is no order's limit," * bool(is_odd)
+    return f"{named} executes {executed:,} with {left:,}{side} left"
 
 
 def _of_volume(context: Context) -> list[str]:

@@ -119,7 +119,7 @@ class _Lives:
         del self.open[order.key]
 
     def _side(self, order: _Order) -> str:
-        return SIDES[self.rows.side[order.place]]
+        return SIDES[int(self.rows.side[order.place])]
 
     def row(self, order: _Order, recorded: int | None) -> tuple[object, ...]:
         """The row of an order, with the shares that are recorded of it."""

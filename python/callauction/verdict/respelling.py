@@ -55,19 +55,24 @@ def have_other_ids(rows: Rows, judgement: Judgement, again: Ints) -> bool:
 
 def _fits(rows: Rows, judged: Judged, again: Ints) -> bool:
     """Whether an auction's trades and fills have its price, and together its shares, with some of
-    those that busts take out, and without some that may be there twice.
+    those that busts take out, and without some that may be there twice; or may have these, where
+    trades or busts aren't read, or the file may be cut among the trades.
     """
     result, taken = judged.result, rows.of(Kind.TAKEN)
     assert result is not None
+    has_busts = any(row.is_bust for row in rows.bad)
+    is_last = rows.end is not None and judged.place == rows.of(Kind.UNCROSS)[-1]
+    is_short = is_last or any(row.is_trade for row in rows.bad)
     own = numpy.concatenate([judged.traded, judged.filled])
     for those, is_trade in ((judged.traded, True), (judged.filled, False)):
         maybe = numpy.union1d(those[numpy.isin(those, again)],
                               taken[(rows.bid[taken] >= 0) == is_trade])  # fmt: skip
         due = (2 - is_trade) * result.volume * bool(len(those))
-        sure = numpy.setdiff1d(those, again)
-        if not _may_be(due, int(rows.quantity[sure].sum()), rows.quantity[maybe].tolist()):
+        sure = int(rows.quantity[numpy.setdiff1d(those, again)].sum())
+        may_differ = has_busts or is_short and sure < due
+        if not may_differ and not _may_be(due, sure, rows.quantity[maybe].tolist()):
             return False
-    if result.volume and not len(own) and not len(taken):
+    if result.volume and not len(own) and not len(taken) and not is_short:
         return False
     return bool(numpy.isin(rows.price[own], (result.price_code, PriceCode.UNSAID)).all())
 
