@@ -303,7 +303,7 @@ def test_falling_times_are_an_error() -> None:
 
 
 def test_more_calls_than_a_journal_has_are_an_error(monkeypatch: pytest.MonkeyPatch) -> None:
-    monkeypatch.setattr("callauction.journal.MOST_CALLS", 6)
+    monkeypatch.setattr("callauction.conversion.MOST_CALLS", 6)
     with pytest.raises(FrameError, match="^row 5: event 'uncross' is one entry more than the 6 "):
         converted(ADLER_AND_BIRK)
 
