@@ -18,6 +18,19 @@ from callauction.venue.venue import Venue
 
 PREFIX = "callboard"
 OF_INSTRUMENTS = ("instrument",)
+GAUGES = {
+    "halted": "1 while the instrument, or the whole venue, has halted",
+    "waiting": "messages that wait for their answer",
+    "calls_left": "commands that the day has left",
+    "calls_left_to_members": "commands that members have left, without those that are kept",
+    "orders_open": "orders that are open in the book",
+    "orders_left": "orders that the book has room for",
+}
+COUNTERS = {
+    "orders": "commands that were answered, entries of the journal",
+    "trades": "trades of the day",
+    "restarts": "ends of the program after which it was started again",
+}
 OF_PROGRAMS = ("halted", "waiting", "restarts")
 """The measures of an instrument that are known before it was seen what its day has."""
 KEPT_SECONDS = 1.0
@@ -71,20 +84,12 @@ class Measures:
 
     def _of_instruments(self) -> Iterator[Metric]:
         """Those of each instrument."""
-        gauges = {
-            "halted": "1 while the instrument, or the whole venue, has halted",
-            "waiting": "messages that wait for their answer",
-            "calls_left": "commands that the day has left",
-            "calls_left_to_members": "commands that members have left, without those that are kept",
-            "orders_open": "orders that are open in the book",
-            "orders_left": "orders that the book has room for",
-        }
-        counters = {
-            "orders": "commands that were answered, entries of the journal",
-            "trades": "trades of the day",
-            "restarts": "ends of the program after which it was started again",
-        }
-        for name, what in gauges.items():
+        yield from self._gauges()
+        yield from self._counters()
+
+    def _gauges(self) -> Iterator[Metric]:
+        """Those of each instrument that rise and fall."""
+        for name, what in GAUGES.items():
             gauge = GaugeMetricFamily(f"{PREFIX}_{name}", what, labels=OF_INSTRUMENTS)
             for of, board in self._known(name):
                 is_halted = name == "halted" and self._venue.halts.halted is not None
@@ -92,7 +97,10 @@ class Measures:
             for early, _ in self._venue.rounds.early_halts if name == "halted" else ():
                 gauge.add_metric([early_name(early)], 1)
             yield gauge
-        for name, what in counters.items():
+
+    def _counters(self) -> Iterator[Metric]:
+        """Those of each instrument that only rise."""
+        for name, what in COUNTERS.items():
             counter = CounterMetricFamily(f"{PREFIX}_{name}", what, labels=OF_INSTRUMENTS)
             for of, board in self._known(name):
                 counter.add_metric([of], measure_of(board, name))

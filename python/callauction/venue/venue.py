@@ -306,22 +306,32 @@ class Venue:
         before the next command of anybody is taken; waits for that but where it has halted.
         """
         for member in members:
-            self.members.remove(member)
-            self.audience.send_away(member)
-            for board in self.rounds.boards_of(member).values():
-                board.leave(member.name)
+            self._take_leave(member)
         found, boards = Removal(members), self.rounds.now.boards.values()
         tasks = {board: self._start_task(found.take_out(board)) for board in boards}
         for board in boards:
             self.audience.show_gains(board)
         self.audience.show_members()
         for board, task in tasks.items():
-            while not (await asyncio.wait([task], timeout=TICK))[0]:
-                if board.engine.halted or self.halts.halted:
-                    break
-            if not (task.done() and board.engine.is_open):
+            if not await self._await_removal(board, task):
                 found.halted.append(board.identity.name)
         return found
+
+    def _take_leave(self, member: VenueMember) -> None:
+        """Ends what a member has here and on its boards, but for its open orders."""
+        self.members.remove(member)
+        self.audience.send_away(member)
+        for board in self.rounds.boards_of(member).values():
+            board.leave(member.name)
+
+    async def _await_removal(self, board: InstrumentBoard, task: asyncio.Task[None]) -> bool:
+        """Waits until a board has deleted the orders of those who were removed, or has halted:
+        whether they are deleted.
+        """
+        while not (await asyncio.wait([task], timeout=TICK))[0]:
+            if board.engine.halted or self.halts.halted:
+                break
+        return task.done() and board.engine.is_open
 
     async def add_robots(self, kind: str, count: int) -> list[str]:
         """More robots of a kind: their names. Raises MessageError."""
