@@ -22,9 +22,11 @@ import pytest_asyncio
 import served
 import whole
 from aiohttp import web
-from callauction.venue import AsyncClient, Client, VenueError, gates, listening, rates
+from callauction.venue import (
+    AsyncClient, Client, VenueError, gates, guessing, listening, networks,
+)
 from callauction.venue.gates import Gate, Gates, Stage
-from callauction.venue.rates import Guesses
+from callauction.venue.guessing import Guesses
 from certificates import certificate
 from conftest import FAST
 from patience import TIMED, tmp_path, until
@@ -366,9 +368,9 @@ def test_whole_requests_take_turns_behind_members(tmp_path: pathlib.Path, kind: 
 @pytest.mark.asyncio
 async def test_a_right_code_waits_for_few_wrong_ones(monkeypatch: pytest.MonkeyPatch) -> None:
     now = [0.0]
-    monkeypatch.setattr(rates, "TURN_RATE", 200.0)
+    monkeypatch.setattr(guessing, "TURN_RATE", 200.0)
     guesses = Guesses(lambda: now[0])
-    for place in range(rates.WRONG_BURST):
+    for place in range(guessing.WRONG_BURST):
         assert await guesses.turn(f"10.0.0.{place}", str(place))
         guesses.wrong(f"10.0.0.{place}", str(place))
     guesses.wrong("10.0.0.1", "1")
@@ -397,28 +399,28 @@ async def test_a_right_code_waits_for_few_of_many_addresses(
     """Guessers have a new address for each guess, of some networks, and fill all places; that one
     of their codes a second is within the rate makes nothing forgotten.
     """
-    monkeypatch.setattr(rates, "TURN_RATE", 500.0)
+    monkeypatch.setattr(guessing, "TURN_RATE", 500.0)
     now = [0.0]
     guesses = Guesses(lambda: now[0])
-    for place in range(2 * rates.MOST_COUNTED_NAMES):
+    for place in range(2 * guessing.MOST_COUNTED_NAMES):
         now[0] += 0.05
         guesses.wrong(f"10.{place % 50}.{place // 250 % 250}.{place % 250}", str(place))
     later = [
         asyncio.create_task(guesses.turn(f"10.{place % 50}.251.{place % 250}", f"new {place}"))
-        for place in range(rates.MOST_WAITING)
+        for place in range(guessing.MOST_WAITING)
     ]
     await asyncio.sleep(0)
     assert await guesses.turn("10.200.0.1", "student")
     assert [it.result() for it in later if it.done()] == [False]  # nobody's turn came before
-    assert sorted(await asyncio.gather(*later)) == [False] + [True] * (rates.MOST_WAITING - 1)
+    assert sorted(await asyncio.gather(*later)) == [False] + [True] * (guessing.MOST_WAITING - 1)
 
 
 @pytest.mark.asyncio
 async def test_who_guesses_most_gives_way(monkeypatch: pytest.MonkeyPatch) -> None:
-    monkeypatch.setattr(rates, "TURN_RATE", 1000.0)
-    monkeypatch.setattr(rates, "MOST_WAITING", 3)
+    monkeypatch.setattr(guessing, "TURN_RATE", 1000.0)
+    monkeypatch.setattr(guessing, "MOST_WAITING", 3)
     guesses = Guesses(lambda: 0.0)
-    for _ in range(rates.WRONG_BURST + 1):
+    for _ in range(guessing.WRONG_BURST + 1):
         guesses.wrong("10.0.0.1", "guesser")
     waiting = [asyncio.create_task(guesses.turn("10.0.0.1", "guesser")) for _ in range(3)]
     await asyncio.sleep(0)
@@ -427,12 +429,12 @@ async def test_who_guesses_most_gives_way(monkeypatch: pytest.MonkeyPatch) -> No
 
 
 def test_an_address_is_counted_with_its_networks() -> None:
-    assert rates.network_of("10.0.0.1") == "10.0.0.1"
-    assert rates.network_of("2001:db8::1:2%eth0") == rates.network_of("2001:db8::9")
-    assert rates.network_of("2001:db8::9") == "2001:db8::/64"
-    assert rates.network_of("nothing") == "nothing"
-    assert rates.counted_names("10.1.2.3", "c") == ("c", "10.1.2.3", "10.1.0.0/16")
-    assert rates.counted_names("2001:db8::9", "c") == ("c", "2001:db8::/64", "2001:db8::/32")
+    assert networks.network_of("10.0.0.1") == "10.0.0.1"
+    assert networks.network_of("2001:db8::1:2%eth0") == networks.network_of("2001:db8::9")
+    assert networks.network_of("2001:db8::9") == "2001:db8::/64"
+    assert networks.network_of("nothing") == "nothing"
+    assert guessing.counted_names("10.1.2.3", "c") == ("c", "10.1.2.3", "10.1.0.0/16")
+    assert guessing.counted_names("2001:db8::9", "c") == ("c", "2001:db8::/64", "2001:db8::/32")
 
 
 GUESSES, GUESSERS, STUDENTS = 400, 20, 60
@@ -457,7 +459,7 @@ async def lesson(venue: Served) -> tuple[list[int], list[int], float]:
                 wrong.append(await guess(bad, venue.url, "WRONGS", "x"))
 
         guessers = [asyncio.create_task(guesser()) for _ in range(GUESSERS)]
-        while len(wrong) < rates.WRONG_BURST + 10:
+        while len(wrong) < guessing.WRONG_BURST + 10:
             await asyncio.sleep(0.05)
         begin = time.monotonic()
         right = await asyncio.gather(
@@ -474,15 +476,15 @@ def test_a_class_joins_beside_guessers_of_its_address(tmp_path: pathlib.Path) ->
     with served.served(tmp_path, FAST) as venue:
         right, wrong, took = asyncio.run(lesson(venue))
         assert right == [200] * STUDENTS
-        assert took < STUDENTS / rates.TURN_RATE + 5, took
+        assert took < STUDENTS / guessing.TURN_RATE + 5, took
         seconds = time.monotonic() - begin
-        most = rates.WRONG_BURST + (rates.TURN_RATE + rates.WRONG_RATE) * seconds
+        most = guessing.WRONG_BURST + (guessing.TURN_RATE + guessing.WRONG_RATE) * seconds
         assert wrong.count(403) <= most, (wrong.count(403), seconds)
     text = (tmp_path / "venue/venue.log").read_text()
     lines = [json.loads(line) for line in text.splitlines()]
     logged = [line for line in lines if line["kind"] == "wrong_code"]
     assert sum(1 + line.get("others", 0) for line in logged) == wrong.count(403)
-    assert len(logged) <= rates.WRONG_BURST + (1 + rates.WRONG_RATE) * (seconds + 2)
+    assert len(logged) <= guessing.WRONG_BURST + (1 + guessing.WRONG_RATE) * (seconds + 2)
     assert {line["from"] for line in logged} == {"127.0.0.1"} and "WRONGS" not in text
 
 

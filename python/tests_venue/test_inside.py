@@ -17,7 +17,7 @@ import pytest
 import pytest_asyncio
 import served
 from callauction.venue import (
-    clock, connection, gates, http, listening, log, operator_words, rates, serving, tokens, views,
+    buckets, clock, connection, gates, http, listening, log, operator_words, serving, tokens, views,
 )
 from callauction.venue.audience import MOST_OF_MEMBER
 from callauction.venue.config import DayTerms, InstrumentTerms
@@ -346,7 +346,7 @@ async def test_a_log_that_fails_and_goes_on(
 
 async def test_a_bucket() -> None:
     now = [0.0]
-    bucket = rates.Bucket(2.0, 3, lambda: now[0])
+    bucket = buckets.Bucket(2.0, 3, lambda: now[0])
     assert [bucket.takes() for _ in range(4)] == [True, True, True, False]
     now[0] = 0.5
     assert [bucket.takes() for _ in range(2)] == [True, False]

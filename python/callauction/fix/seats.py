@@ -18,12 +18,12 @@ from callauction.fix.order_fields import is_sent_again
 from callauction.fix.refusals import FILLED, MADE_BEFORE, OTHER_DAY, SeatError, given_of, refuse
 from callauction.fix.tags import OTHER_REASON, FixFields, Given, Tag, Type, seconds_of
 from callauction.venue import clock, tokens
+from callauction.venue.buckets import Bucket
 from callauction.venue.fix_terms import VENUE_COMP_ID
 from callauction.venue.instrument_board import InstrumentBoard
 from callauction.venue.log import SOURCE
 from callauction.venue.members import HELLO_BURST, HELLO_RATE, VenueMember
 from callauction.venue.messages import MessageError
-from callauction.venue.rates import Bucket
 from callauction.venue.recovery import Entry, MemberMessage
 
 if TYPE_CHECKING:

@@ -6,9 +6,10 @@ import dataclasses
 import time
 from collections.abc import Callable
 
+from callauction.venue.buckets import Bucket
 from callauction.venue.logger import NOTICES
 from callauction.venue.messages import MessageError
-from callauction.venue.rates import Bucket, network_of
+from callauction.venue.networks import network_of
 
 JOIN_SECONDS = 3.0
 """Seconds from one new member to the next of an address that has had as many as may be at once."""

@@ -11,12 +11,12 @@ from typing import Any
 from aiohttp import WSCloseCode, WSMessage, WSMsgType, web
 
 from callauction.venue import messages
+from callauction.venue.buckets import Bucket
 from callauction.venue.frames import Socket
 from callauction.venue.gates import Gate, Gates
 from callauction.venue.json_types import Json
 from callauction.venue.members import VenueMember
 from callauction.venue.messages import MessageError
-from callauction.venue.rates import Bucket
 from callauction.venue.recovery import Entry
 from callauction.venue.venue import Venue
 

@@ -19,6 +19,7 @@ from callauction.venue import operator_words
 from callauction.venue.arrivals import JOIN_SECONDS
 from callauction.venue.connection import connect, packed
 from callauction.venue.gates import BODY_SECONDS, Gates
+from callauction.venue.guessing import Guesses
 from callauction.venue.instrument_board import InstrumentBoard
 from callauction.venue.json_types import Json
 from callauction.venue.log import SOURCE
@@ -26,7 +27,6 @@ from callauction.venue.logger import NOTICES
 from callauction.venue.members import VenueMember
 from callauction.venue.messages import MessageError
 from callauction.venue.phases import PhaseError
-from callauction.venue.rates import Guesses
 from callauction.venue.venue import Venue
 from callauction.venue.wrong_codes import WrongCodes
 

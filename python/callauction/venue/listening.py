@@ -9,8 +9,8 @@ from collections.abc import Callable
 from callauction.venue.background import going_on
 from callauction.venue.gates import HEAD_SECONDS, Gate, Gates
 from callauction.venue.logger import NOTICES
+from callauction.venue.networks import network_of
 from callauction.venue.passing import PassingProtocol, Secured
-from callauction.venue.rates import network_of
 
 SWEEP_SECONDS = 0.5
 BACKLOG = 1024

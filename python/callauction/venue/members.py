@@ -9,12 +9,12 @@ from collections.abc import Mapping
 
 from callauction.venue import arrivals, config, fields, tokens
 from callauction.venue.arrivals import Arrivals
+from callauction.venue.buckets import Bucket
 from callauction.venue.codes import JoinCodes
 from callauction.venue.log import Line, Log
 from callauction.venue.logger import NOTICES
 from callauction.venue.member_names import folded, is_role, is_seen, tidy
 from callauction.venue.messages import MessageError
-from callauction.venue.rates import Bucket
 from callauction.venue.recovery import Entry
 
 HELLO_RATE, HELLO_BURST = 2.0, 20

@@ -1,41 +1,11 @@
-"""How fast somebody may speak, and how fast codes may be guessed."""
+"""How fast codes may be guessed."""
 import asyncio
-import ipaddress
 import itertools
 import time
 from collections.abc import Callable
 
-
-class Bucket:
-    """Lets through `rate` messages a second, and `burst` at once after a while of silence."""
-
-    def __init__(
-        self, rate: float, burst: int, clock: Callable[[], float] = time.monotonic
-    ) -> None:
-        self._rate, self._burst, self._clock = rate, burst, clock
-        self._left, self._last = float(burst), clock()
-
-    def has_room(self) -> bool:
-        """Whether one more message may come now."""
-        now = self._clock()
-        self._left = min(self._burst, self._left + (now - self._last) * self._rate)
-        self._last = now
-        return self._left >= 1
-
-    def is_full(self) -> bool:
-        """Whether as many may come at once as ever."""
-        return self.has_room() and self._left >= self._burst
-
-    def takes(self) -> bool:
-        """Whether one more message may come now, which then counts."""
-        found = self.has_room()
-        self._left -= found
-        return found
-
-    def charge(self, count: int) -> None:
-        """Counts this many more, for which later ones wait where there isn't room."""
-        self._left -= count
-
+from callauction.venue.buckets import Bucket
+from callauction.venue.networks import network_of
 
 WRONG_RATE, WRONG_BURST = 1.0, 60
 """Wrong codes of all together, a second and at once, before each code waits for its turn."""
@@ -126,15 +96,3 @@ class Guesses:
 def counted_names(address: str, connection: str) -> tuple[str, str, str]:
     """By what wrong codes are counted: the connection, its address, and the wide network of it."""
     return connection, network_of(address), network_of(address, *WIDE_NETWORK_BITS)
-
-
-def network_of(address: str, bits_of_4: int = 32, bits_of_6: int = 64) -> str:
-    """An address, or the network of 64 bits that one has of IPv6; or networks of as many bits."""
-    try:
-        found = ipaddress.ip_address(address.partition("%")[0])
-    except ValueError:
-        return address
-    bits = bits_of_4 if found.version == 4 else bits_of_6
-    if bits == found.max_prefixlen:
-        return address
-    return str(ipaddress.ip_network((found, bits), strict=False))
