@@ -14,7 +14,7 @@ import importlib
 from typing import TYPE_CHECKING
 
 if TYPE_CHECKING:
-    from callauction.market.files import ResultInUseError
+    from callauction.market.files import InUse
     from callauction.market.instrument_names import file_of, instrument_of, name_of
     from callauction.market.rows import COLUMNS, Found, Row, frame, read_rows
     from callauction.market.runs import audit, run
@@ -26,7 +26,7 @@ __all__ = [
     "COLUMNS",
     "Found",
     "MarketError",
-    "ResultInUseError",
+    "InUse",
     "Row",
     "TableError",
     "audit",
@@ -41,7 +41,7 @@ __all__ = [
 ]
 
 _PLACES = {
-    "market.files": ("ResultInUseError",),
+    "market.files": ("InUse",),
     "market.instrument_names": ("file_of", "instrument_of", "name_of"),
     "market.rows": ("COLUMNS", "Found", "Row", "frame", "read_rows"),
     "market.runs": ("audit", "run"),

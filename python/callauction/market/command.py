@@ -12,7 +12,7 @@ from typing import TYPE_CHECKING
 
 from callauction import finder
 from callauction.market.expected import compared_with, read_list
-from callauction.market.files import ResultInUseError, locked, with_end
+from callauction.market.files import InUse, locked, with_end
 from callauction.market.instrument_names import SUFFIX, line_of
 from callauction.market.log import RunLog
 from callauction.market.processes import Processes
@@ -182,7 +182,7 @@ def log_of(
 
 def run_market(asked: argparse.Namespace, files: dict[str, str], rows: list[Row]) -> Summary:
     """Runs the program on all files, or on those that an earlier run left, and writes the result:
-    what is said of these rows and theirs. Raises MarketError and ResultInUseError, and OSError
+    what is said of these rows and theirs. Raises MarketError and InUse, and OSError
     where there is no program or no scheduler, or a result can't be written.
     """
     request = request_of(asked)
@@ -236,7 +236,7 @@ def examine_files(asked: argparse.Namespace) -> int:
         return BAD_DAY
     try:
         summary = run_market(asked, files, rows)
-    except ResultInUseError as fault:
+    except InUse as fault:
         warn(fault)
         return BAD_DAY
     except (MarketError, OSError) as fault:
@@ -261,7 +261,7 @@ def split_table(asked: argparse.Namespace) -> int:
     except TableError as fault:
         warn(fault)
         return BAD_FILE
-    except (ResultInUseError, OverwriteError) as fault:
+    except (InUse, OverwriteError) as fault:
         warn(fault)
         return BAD_DAY
     except OSError as fault:

@@ -18,7 +18,7 @@ OF_OTHERS = 0o022
 """The bits of a mode with which others may write."""
 
 
-class ResultInUseError(Exception):
+class InUse(Exception):
     """Another run writes this result: which one."""
 
 
@@ -61,7 +61,7 @@ def with_end(path: pathlib.Path, end: str) -> pathlib.Path:
 
 @contextlib.contextmanager
 def locked(result: pathlib.Path) -> Iterator[None]:
-    """Owns a result, until the end or the process's own end. Raises ResultInUseError, which says
+    """Owns a result, until the end or the process's own end. Raises InUse, which says
     who has it, and OSError.
     """
     path = lock_of(result)
@@ -78,7 +78,7 @@ def locked(result: pathlib.Path) -> Iterator[None]:
 
 
 def take_lock(path: pathlib.Path, result: pathlib.Path) -> int:
-    """The open and locked file with this path. Raises ResultInUseError and OSError."""
+    """The open and locked file with this path. Raises InUse and OSError."""
     flags = os.O_RDWR | os.O_CREAT | os.O_NOFOLLOW | os.O_CLOEXEC
     while True:
         file = os.open(path, flags, OWN)
@@ -89,7 +89,7 @@ def take_lock(path: pathlib.Path, result: pathlib.Path) -> int:
         except BlockingIOError:
             owner = line_of(os.pread(file, 1_000, 0).decode("utf-8", "replace"))
             os.close(file)
-            raise ResultInUseError(f"{result} is in use by {owner or 'another run'}") from None
+            raise InUse(f"{result} is in use by {owner or 'another run'}") from None
         os.close(file)  # a run that ended meanwhile removed it
 
 

@@ -338,7 +338,7 @@ def split(
 
     The journals take their places in `folder`, and those of files with the same names, when all
     are whole; at an error nothing is left of them. What a field says is no matter here: the program
-    refuses what is bad. Raises TableError, ResultInUseError where another split or run writes to
+    refuses what is bad. Raises TableError, InUse where another split or run writes to
     the folder, OverwriteError where a journal would take the place of a table, and OSError where
     something can't be read or written.
     """
